@@ -1,0 +1,3 @@
+-- The laws that callers' proofs cite, and those of this crate's own functions.
+pub mod Runs
+pub mod Numbers

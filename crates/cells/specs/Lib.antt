@@ -1,0 +1,3 @@
+-- What the contracts of this crate, and of those above it, say of byte runs.
+pub mod Runs
+pub mod Numbers

@@ -1,0 +1,21 @@
+-- Byte runs with a part written over.
+-- Assumes nothing.
+use Prim.Native.Nat.{ℕ, _<_}
+use mathlib.Core.List.{List, _++_}
+use lib.ListN.{length, getD, take, drop}
+
+-- xs with ys in the place of as many elements from index at on
+unfoldable pub spliced : List ℕ → ℕ → List ℕ → List ℕ
+spliced xs at ys = take at xs ++ (ys ++ drop (length ys) (drop at xs))
+
+-- ys, and then what xs has after as many elements
+unfoldable pub fronted : List ℕ → List ℕ → List ℕ
+fronted ys xs = ys ++ drop (length ys) xs
+
+-- the n elements of xs from index at on
+abbrev pub part : List ℕ → ℕ → ℕ → List ℕ
+part xs at n = take n (drop at xs)
+
+-- each element is below 256
+abbrev pub Bytes : List ℕ → Type 0
+Bytes xs = (i : ℕ) → getD xs i 0 < 256
