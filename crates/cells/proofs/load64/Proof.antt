@@ -1,0 +1,37 @@
+-- `load64` meets its contract: the bytes that it reads are that part of the run, one by one.
+-- Assumes nothing.
+use borrow.Author.Needs.{needs}
+use mathlib.Core.Path.{sym, ap, _∙_}
+use native.Mathlib.Nat.{add-zero}
+use native.Mathlib.Omega.{arith}
+use Rattle.cells.specs.Numbers.{number}
+use Rattle.cells.proofs.Runs.{part-listed}
+use Rattle.cells.proofs.load64.Statement.{statement}
+use Rattle.cells.proofs.load64.Tie as tie
+
+returns : tie.Need-returns
+returns c =
+    let args = c .before .before .before .before .before .before .before .before .before .before .args in
+    c .word64 .ensures ∙ ap number (sym (rw add-zero at (part-listed (args .s .now) (args .at) 0 8 (omega (arith, c .before .before .before .before .before .before .before .before .before .before .pre)))))
+
+pub load64-spec : {M : Type 1} → statement M
+load64-spec =
+    tie.close
+    (tie.spec
+    (λ c. search needs)
+    (λ c. search needs)
+    (λ c. search needs)
+    (λ c. search needs)
+    (λ c. search needs)
+    (λ c. search needs)
+    (λ c. search needs)
+    (λ c. search needs)
+    (λ c. search needs)
+    (λ c. search needs)
+    (λ c. search needs)
+    (λ c. search needs)
+    (λ c. search needs)
+    (λ c. search needs)
+    (λ c. search needs)
+    (λ c κs. search needs)
+    returns)
