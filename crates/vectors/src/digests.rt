@@ -4,7 +4,6 @@ ghost use Prim.Native.Nat.{_≤_, _<_};
 ghost use lib.ListN.{length};
 use sha2::Sha512;
 use words::Number;
-use words::Unhexed;
 
 // What became of a line.
 pub enum Ran {
@@ -19,9 +18,11 @@ pub fn whole(line: &[u8]) -> Ran {
         return Ran::Malformed;
     }
     let mut message = [0u8; 16384];
-    let Unhexed::Bytes(n) = words::unhex(words::word(line, 1), &mut message) else {
+    let run = words::unhex(words::word(line, 1), &mut message);
+    if !run.good {
         return Ran::Malformed;
-    };
+    }
+    let n = run.size;
     let mut out = [0u8; 64];
     primitives::prim_sha512(&message[..n], &mut out);
     words::print_line(&out);
@@ -40,15 +41,17 @@ pub fn parts(line: &[u8]) -> Ran {
         return Ran::Malformed;
     }
     let mut message = [0u8; 16384];
-    let Unhexed::Bytes(n) = words::unhex(words::word(line, 2), &mut message) else {
+    let run = words::unhex(words::word(line, 2), &mut message);
+    if !run.good {
         return Ran::Malformed;
-    };
-    let digest = by_parts(&message[..n], size);
+    }
+    let n = run.size;
+    let digest = by_parts(&message[..n], size as usize);
     words::print_line(&digest);
     Ran::Vector
 }
 
-fn by_parts(message: &[u8], size: u64) -> [u8; 64]
+fn by_parts(message: &[u8], size: usize) -> [u8; 64]
     requires { ⌜ (length (now message) ≤ 16384) × (1 ≤ size) ⌝ }
 {
     let mut state = Sha512::new();
@@ -62,7 +65,8 @@ fn by_parts(message: &[u8], size: u64) -> [u8; 64]
 }
 
 fn least(a: usize, b: usize) -> usize
-    ensures { λ r. ⌜ (r ≤ a) × (r ≤ b) × ((1 ≤ a) → (1 ≤ b) → 1 ≤ r) ⌝ }
+    requires { ⌜ (1 ≤ a) × (1 ≤ b) ⌝ }
+    ensures { λ r. ⌜ (1 ≤ r) × (r ≤ a) × (r ≤ b) ⌝ }
 {
     if a < b { a } else { b }
 }
@@ -84,21 +88,25 @@ pub fn repeated(line: &[u8]) -> Ran {
     let Number::Value(count) = words::value(words::word(line, 2)) else {
         return Ran::Malformed;
     };
-    let mut byte = [0u8; 1];
-    let Unhexed::Bytes(_) = words::unhex(words::word(line, 3), &mut byte) else {
+    if 10000000 < count {
         return Ran::Malformed;
-    };
-    let digest = of_equal(byte[0], count, size);
+    }
+    let mut byte = [0u8; 1];
+    let run = words::unhex(words::word(line, 3), &mut byte);
+    if run.size != 1 {
+        return Ran::Malformed;
+    }
+    let digest = of_equal(byte[0], count, size as usize);
     words::print_line(&digest);
     Ran::Vector
 }
 
-fn of_equal(byte: u8, count: u64, size: u64) -> [u8; 64]
-    requires { ⌜ (count < 10000000) × (1 ≤ size) × (size ≤ 4096) ⌝ }
+fn of_equal(byte: u8, count: u64, size: usize) -> [u8; 64]
+    requires { ⌜ (count ≤ 10000000) × (1 ≤ size) × (size ≤ 4096) ⌝ }
 {
     let part = [byte; 4096];
     let mut state = Sha512::new();
-    let mut left = count;
+    let mut left = count as usize;
     while 0 < left {
         let n = least(size, left);
         state = state.absorb(&part[..n]);
@@ -116,9 +124,11 @@ pub fn monte(line: &[u8]) -> Ran {
         return Ran::Malformed;
     };
     let mut seed = [0u8; 64];
-    let Unhexed::Bytes(n) = words::unhex(words::word(line, 2), &mut seed) else {
+    let run = words::unhex(words::word(line, 2), &mut seed);
+    if !run.good {
         return Ran::Malformed;
-    };
+    }
+    let n = run.size;
     if n != 64 {
         return Ran::Malformed;
     }
@@ -139,7 +149,7 @@ fn monte_round(seed: &mut [u8])
     cells::put_at(&mut three, 0, seed);
     cells::put_at(&mut three, 64, seed);
     cells::put_at(&mut three, 128, seed);
-    let mut i = 0;
+    let mut i: usize = 0;
     while i < 1000 {
         monte_turn(&mut three);
         i += 1;
@@ -147,7 +157,9 @@ fn monte_round(seed: &mut [u8])
     cells::put_at(seed, 0, &three[128..192]);
 }
 
-fn monte_turn(three: &mut [u8; 192]) {
+fn monte_turn(three: &mut [u8])
+    requires { ⌜ length (now three) ≡ 192 ⌝ }
+{
     let mut digest = [0u8; 64];
     primitives::prim_sha512(three, &mut digest);
     let mut i = 0;
@@ -156,29 +168,4 @@ fn monte_turn(three: &mut [u8; 192]) {
         i += 1;
     }
     cells::put_at(three, 128, &digest);
-}
-
-// hmac SHOWN KEY TEXT: the first bytes of the code, as many as the line says
-pub fn hmac(line: &[u8]) -> Ran {
-    if words::words(line) != 4 {
-        return Ran::Malformed;
-    }
-    let Number::Value(shown) = words::value(words::word(line, 1)) else {
-        return Ran::Malformed;
-    };
-    if 64 < shown {
-        return Ran::Malformed;
-    }
-    let mut key = [0u8; 256];
-    let Unhexed::Bytes(key_size) = words::unhex(words::word(line, 2), &mut key) else {
-        return Ran::Malformed;
-    };
-    let mut message = [0u8; 256];
-    let Unhexed::Bytes(size) = words::unhex(words::word(line, 3), &mut message) else {
-        return Ran::Malformed;
-    };
-    let mut out = [0u8; 64];
-    primitives::prim_hmac_sha512(&key[..key_size], &message[..size], &mut out);
-    words::print_line(&out[..shown]);
-    Ran::Vector
 }

@@ -1,49 +1,109 @@
 // Published vectors: prints what our code computes for each line of the data files, and how many lines it ran.
 mod digests;
-ghost use Prim.Native.Nat.{_≤_};
+ghost use mathlib.Core.Path.{_≡_};
+ghost use Prim.Native.Nat.{_+_, _-_, _^_, _≤_, _<_};
+ghost use lib.ListN.{length};
 use libc::STDOUT_FILENO;
 use digests::Ran;
 
 fn main() {
-    let mut room = [0u8; 2097152];
+    let mut room = io::large_buffer();
     file(b"sha512.txt", &mut room);
     file(b"monte.txt", &mut room);
     file(b"hmac.txt", &mut room);
 }
 
-// Runs the vectors of one data file, which is read into room.
-fn file(path: &[u8], room: &mut [u8]) {
+// Runs the vectors of one data file, which is read through room.
+fn file(path: &[u8], room: &mut [u8])
+    requires { ⌜ length (now room) ≡ 65536 ⌝ }
+{
     let fd = os::open_read(path);
     if fd < 0 {
         os::fail(path);
         return;
     }
-    let n = io::read_full(fd, room);
+    let count = chunks(fd, room);
     libc::close(fd);
-    if n == room.len() {
-        io::write_all(STDOUT_FILENO, b"too long: ");
-    }
-    let count = lines(&room[..n]);
     io::write_all(STDOUT_FILENO, path);
     io::write_all(STDOUT_FILENO, b": ");
     io::print_decimal(STDOUT_FILENO, count);
     io::write_all(STDOUT_FILENO, b" vectors\n");
 }
 
-// Runs a data file's lines, and counts the vectors among them.
-fn lines(file: &[u8]) -> u64 {
-    let mut at = 0;
+// Reads a file of at most 1,024 buffers, runs its lines and counts the vectors. A last line that no line feed ends is malformed.
+fn chunks(fd: i32, room: &mut [u8]) -> u64
+    requires { ⌜ length (now room) ≡ 65536 ⌝ }
+{
     let mut count: u64 = 0;
-    while at < file.len() {
-        let end = words::line_end(file, at);
-        count = counted(count, line(&file[at..end]));
-        at = end + 1;
+    let mut held = 0;
+    let mut left: u64 = 1024;
+    while 0 < left {
+        let end = fill(fd, room, held);
+        if end == held {
+            return ended(count, held);
+        }
+        let ran = lines(room, end);
+        count += ran.count;
+        held = keep(room, ran.done, end);
+        left -= 1;
+    }
+    ended(count, held)
+}
+
+fn ended(count: u64, held: usize) -> u64 {
+    if 0 < held {
+        io::write_all(STDOUT_FILENO, b"malformed end\n");
     }
     count
 }
 
+// Reads on behind the bytes that room holds; where what it holds then ends.
+fn fill(fd: i32, room: &mut [u8], held: usize) -> usize
+    requires { ⌜ held ≤ length (now room) ⌝ }
+    ensures { λ r. ⌜ (held ≤ r) × (r ≤ length (now (room .entry))) ⌝ }
+{
+    held + io::read_full(fd, &mut room[held..])
+}
+
+// The bytes of room from done to end, moved to its front; how many.
+fn keep(room: &mut [u8], done: usize, end: usize) -> usize
+    requires { ⌜ (done ≤ end) × (end ≤ length (now room)) ⌝ }
+    ensures { λ r. ⌜ r ≡ end - done ⌝ }
+{
+    let mut i = done;
+    while i < end {
+        room[i - done] = room[i];
+        i += 1;
+    }
+    end - done
+}
+
+// How many vectors were run, and where the last whole line ends.
+struct Chunk {
+    count: u64,
+    done: usize,
+}
+
+// Runs the whole lines of text before end.
+fn lines(text: &[u8], end: usize) -> Chunk
+    requires { ⌜ end ≤ length (now text) ⌝ }
+    ensures { λ r. ⌜ (r .done ≤ end) × (r .count ≤ r .done) ⌝ }
+{
+    let mut at = 0;
+    let mut count: u64 = 0;
+    while at < end {
+        let feed = words::line_end(text, at);
+        if end <= feed {
+            break;
+        }
+        count = counted(count, line(&text[at..feed]));
+        at = feed + 1;
+    }
+    Chunk { count, done: at }
+}
+
 fn counted(count: u64, ran: Ran) -> u64
-    requires { ⌜ count ≤ 4294967296 ⌝ }
+    requires { ⌜ count < 2 ^ 63 ⌝ }
     ensures { λ r. ⌜ r ≤ count + 1 ⌝ }
 {
     match ran {
@@ -72,9 +132,6 @@ fn line(line: &[u8]) -> Ran {
     }
     if check::same(kind, b"monte") {
         return digests::monte(line);
-    }
-    if check::same(kind, b"hmac") {
-        return digests::hmac(line);
     }
     Ran::Malformed
 }

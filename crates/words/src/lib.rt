@@ -3,7 +3,7 @@
 ghost use mathlib.Core.Path.{_≡_};
 ghost use Prim.Native.Nat.{_≤_};
 ghost use lib.ListN.{length};
-ghost use Rattle.words.specs.Words.{sizeOf};
+ghost use Rattle.io.specs.Counts.{Counts};
 use libc::STDOUT_FILENO;
 
 // Where the line that starts at byte at ends: its line feed, or the file's end.
@@ -110,42 +110,58 @@ fn digit(b: u8) -> u8
     16
 }
 
-pub enum Unhexed {
-    Bytes(usize),
-    Bad,
+// A byte run at the front of a buffer, or that a word was none.
+pub struct Run {
+    pub good: bool,
+    pub size: usize,
 }
 
-// The bytes of a word, at the front of out.
-pub fn unhex(word: &[u8], out: &mut [u8]) -> Unhexed
-    ensures { λ r. ⌜ sizeOf r ≤ length (now (out .entry)) ⌝ }
+fn bad() -> Run
+    ensures { λ r. ⌜ r .size ≡ 0 ⌝ }
+{
+    Run {
+        good: false,
+        size: 0,
+    }
+}
+
+// The bytes that a word writes in hexadecimal, at the front of out.
+pub fn unhex(word: &[u8], out: &mut [u8]) -> Run
+    ensures { λ r. ⌜ Counts (r .size) (now (out .exit)) ⌝ }
 {
     if check::same(word, b"-") {
-        return Unhexed::Bytes(0);
+        return Run {
+            good: true,
+            size: 0,
+        };
     }
     let n = word.len() / 2;
-    if word.len() != 2 * n {
-        return Unhexed::Bad;
-    }
     if n == 0 {
-        return Unhexed::Bad;
+        return bad();
+    }
+    if word.len() != 2 * n {
+        return bad();
     }
     if out.len() < n {
-        return Unhexed::Bad;
+        return bad();
     }
     let mut i = 0;
     while i < n {
         let high = digit(word[2 * i]);
         let low = digit(word[2 * i + 1]);
         if 16 <= high {
-            return Unhexed::Bad;
+            return bad();
         }
         if 16 <= low {
-            return Unhexed::Bad;
+            return bad();
         }
         out[i] = high * 16 + low;
         i += 1;
     }
-    Unhexed::Bytes(n)
+    Run {
+        good: true,
+        size: n,
+    }
 }
 
 // Prints a byte run in hexadecimal.

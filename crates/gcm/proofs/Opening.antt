@@ -1,0 +1,41 @@
+-- Sealing and opening belong together, for all keys, IVs, associated data, texts and tags, of whatever length.
+-- 1. What was sealed opens to its text. 2. Only what sealing a text gives opens, and to that text.
+-- Assumes nothing.
+use mathlib.Core.Bool.{Bool, true, false}
+use mathlib.Core.List.{List}
+use mathlib.Core.Option.{Option, none, some}
+use mathlib.Core.Path.{_≡_, refl, sym, ap, ap₂, _∙_}
+use Prim.Native.Nat.{ℕ}
+use lib.ListN.{length}
+use Rattle.gcm.specs.Gctr.{inc32}
+use Rattle.gcm.specs.Gcm.{preCounter, crypted, tagOf, Sealed, sealed, equal, given, opened}
+use Rattle.gcm.proofs.Equality.{equal-true, equal-refl}
+use Rattle.gcm.proofs.Masking.{gctr-back, length-gctr}
+
+-- a text's cipher text, and a cipher text's text, are as long as it
+pub length-crypted : (key iv text : List ℕ) → length (crypted key iv text) ≡ length text
+unfolding crypted
+length-crypted key iv text = length-gctr key (inc32 (preCounter iv)) text
+
+crypted-back : (key iv text : List ℕ) → crypted key iv (crypted key iv text) ≡ text
+unfolding crypted
+crypted-back key iv text = gctr-back key (inc32 (preCounter iv)) text
+
+pub opened-sealed : (key iv aad text : List ℕ) → opened key iv aad (sealed key iv aad text .cipher) (sealed key iv aad text .tag) ≡ some text
+unfolding opened sealed
+opened-sealed key iv aad text =
+    ap₂ given (equal-refl (tagOf key iv aad (crypted key iv text))) (crypted-back key iv text)
+
+-- a text that was given was given for the right tag
+given-some : (t : Bool) (text p : List ℕ) → given t text ≡ some p → (t ≡ true) × (text ≡ p)
+given-some true text p e = (refl, cc)
+given-some false text p e = (cc, cc)
+
+pub sealed-opened : (key iv aad cipher tag text : List ℕ) → opened key iv aad cipher tag ≡ some text
+    → sealed key iv aad text ≡ record { cipher = cipher; tag = tag }
+unfolding opened sealed
+sealed-opened key iv aad cipher tag text e =
+    let found = given-some (equal tag (tagOf key iv aad cipher)) (crypted key iv cipher) text e in
+    let same : tag ≡ tagOf key iv aad cipher = equal-true tag (tagOf key iv aad cipher) (found .0) in
+    let back : crypted key iv text ≡ cipher = ap (crypted key iv) (sym (found .1)) ∙ crypted-back key iv cipher in
+    ap (λ (c : List ℕ). record { cipher = c; tag = tagOf key iv aad c }) back ∙ ap (λ (t : List ℕ). record { cipher = cipher; tag = t }) (sym same)

@@ -1,0 +1,23 @@
+-- `hmac::Hmac::absorb` meets its contract: the inner hash takes in the part.
+-- Assumes nothing.
+use borrow.Author.Needs.{needs}
+use mathlib.Core.Path.{refl}
+use Rattle.sha2.specs.Hash.{sha512}
+use Rattle.sha2.specs.Taken.{Taken}
+use Rattle.hmac.proofs.Streaming.{more-text}
+use Rattle.hmac.proofs.Hmac.absorb.Statement.{statement}
+use Rattle.hmac.proofs.Hmac.absorb.Tie as tie
+
+returns : tie.Need-returns
+returns c =
+    let start = c .before .before .before .before in
+    let self = start .args .self in
+    record {
+      inner-counted = c .absorb .ensures .counted;
+      outer-counted = refl;
+      appended = λ key text p.
+          more-text Taken sha512 128 (self .inner) (c .absorb .result) (self .outer) (start .args .part .now) key text (c .absorb .ensures .appended) p;
+    }
+
+pub absorb-spec : {M : Type 1} → statement M
+absorb-spec = tie.close (tie.spec (λ c κs. search needs) returns)

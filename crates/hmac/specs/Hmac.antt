@@ -1,0 +1,40 @@
+-- HMAC over a hash function that works on blocks of size bytes: RFC 2104, section 2.
+-- Assumes nothing.
+use mathlib.Core.Bool.{Bool, true, false}
+use mathlib.Core.List.{List, _++_, map}
+use Prim.Native.Nat.{ℕ, _-_}
+use lib.Bits.{bitXor}
+use lib.Dec.{ltb}
+use lib.ListN.{length, replicate}
+use Rattle.sha2.specs.Hash.{sha512}
+
+abbrev pick : Bool → List ℕ → List ℕ → List ℕ
+pick true x y = x
+pick false x y = y
+
+-- zeros after xs, up to size bytes
+abbrev pub filled : ℕ → List ℕ → List ℕ
+filled size xs = xs ++ replicate (size - length xs) 0
+
+-- the key as a block of size bytes: one that is longer than a block is hashed first
+unfoldable pub keyBlock : (List ℕ → List ℕ) → ℕ → List ℕ → List ℕ
+keyBlock hash size key = filled size (pick (ltb size (length key)) (hash key) key)
+
+-- each byte of xs exclusive or x
+unfoldable pub xored : ℕ → List ℕ → List ℕ
+xored x xs = map (λ b. bitXor b x) xs
+
+-- the key block exclusive or ipad, the byte 36 of base 16 in every place
+abbrev pub innerKey : (List ℕ → List ℕ) → ℕ → List ℕ → List ℕ
+innerKey hash size key = xored 0x36 (keyBlock hash size key)
+
+-- the key block exclusive or opad, the byte 5C of base 16 in every place
+abbrev pub outerKey : (List ℕ → List ℕ) → ℕ → List ℕ → List ℕ
+outerKey hash size key = xored 0x5c (keyBlock hash size key)
+
+unfoldable pub hmac : (List ℕ → List ℕ) → ℕ → List ℕ → List ℕ → List ℕ
+hmac hash size key text = hash (outerKey hash size key ++ hash (innerKey hash size key ++ text))
+
+-- HMAC-SHA-512: blocks of 128 bytes
+abbrev pub hmacSha512 : List ℕ → List ℕ → List ℕ
+hmacSha512 = hmac sha512 128

@@ -1,0 +1,35 @@
+-- `sha2::block::eight` meets its contract: eight turns, one after the other.
+-- Assumes nothing.
+use mathlib.Core.Path.{ap, sym, _∙_}
+use native.Mathlib.Nat.{add-zero}
+use native.Mathlib.Omega.{arith}
+use Rattle.sha2.specs.Block.{rounds}
+use Rattle.sha2.proofs.block.eight.Statement.{statement}
+use Rattle.sha2.proofs.block.eight.Tie as tie
+
+returns : tie.Need-returns
+returns c v0 p =
+    let start = c .before .before .before .before .before .before .before .before in
+    c .turn8 .ensures v0
+    (c .before .turn7 .ensures v0
+    (c .before .before .turn6 .ensures v0
+    (c .before .before .before .turn5 .ensures v0
+    (c .before .before .before .before .turn4 .ensures v0
+    (c .before .before .before .before .before .turn3 .ensures v0
+    (c .before .before .before .before .before .before .turn2 .ensures v0
+    (c .before .before .before .before .before .before .before .turn .ensures v0
+    (p ∙ ap (rounds (start .args .k .now) (start .args .w .now) v0) (sym (add-zero (start .args .t)))))))))))
+
+pub eight-spec : {M : Type 1} → statement M
+eight-spec =
+    tie.close
+    (tie.spec
+    (λ c κs. omega arith)
+    (λ c κs. omega arith)
+    (λ c κs. omega arith)
+    (λ c κs. omega arith)
+    (λ c κs. omega arith)
+    (λ c κs. omega arith)
+    (λ c κs. omega arith)
+    (λ c κs. omega arith)
+    returns)

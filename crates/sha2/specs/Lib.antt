@@ -1,0 +1,6 @@
+-- SHA-512 as FIPS 180-4 has it, and what a state that takes in a message stands for.
+pub mod Word
+pub mod Constants
+pub mod Block
+pub mod Hash
+pub mod Taken

@@ -1,0 +1,92 @@
+-- What each bit of a window's word is after a mark and after a move.
+-- Assumes nothing.
+use mathlib.Core.Path.{_≡_, refl, sym, ap, _∙_}
+use mathlib.Core.Bool.{Bool, true, false, _&&_, _||_}
+use Prim.Native.Nat.{ℕ, zero, suc, _+_, _-_, _*_, _/_, _%_, _^_, _<_, _≤_, max}
+use native.Mathlib.Nat.{one-mul, mod-lt, div-eq-of-lt, mul-add-mod-self-right, mul-assoc}
+use native.Mathlib.Omega.{arith}
+use borrow.Author.Tests.{leb-true, leb-false, eqb-true, eqb-false, eq-eqb, ne-eqb}
+use lib.Bits.{bitOr, or-shr, or-step, shifted-even}
+use lib.Dec.{lit<, eqb, leb}
+use lib.Pow.{shl-exact, pow-pos, pow-lt, pow-add, field, mod-mod-pow, shr-shr, shl-shr}
+use Rattle.window.specs.Window.{bit, moved, marked}
+
+-- a one in a word of 64 bits, moved within it
+pub one-moved : (d : ℕ) → d < 64 → 1 * 2 ^ d % 2 ^ 64 ≡ 2 ^ d
+one-moved d h = shl-exact {a = 1} 1 d 64 (lit< tt) (omega arith) ∙ one-mul (2 ^ d)
+
+-- a number moved up s places has no bit below s, and at d the bit that stood s below
+raised : (n s d : ℕ) → bit (n * 2 ^ s) d ≡ (leb s d && bit n (d - s))
+unfolding bit
+raised n s d = either (leb s d) refl
+  where
+    either : (t : Bool) → leb s d ≡ t → eqb (n * 2 ^ s / 2 ^ d % 2) 1 ≡ (t && eqb (n / 2 ^ (d - s) % 2) 1)
+    either true e =
+        let whole : d ≡ s + (d - s) = omega (arith, leb-true s d e) in
+        ap (λ (q : ℕ). eqb (q % 2) 1)
+        (ap (λ (k : ℕ). n * 2 ^ s / 2 ^ k) whole ∙ sym (shr-shr (n * 2 ^ s) s (d - s)) ∙ ap (λ (q : ℕ). q / 2 ^ (d - s)) (shl-shr n s))
+    either false e =
+        let k = s - suc d in
+        let whole : s ≡ suc k + d = omega (arith, leb-false s d e) in
+        ap (λ (q : ℕ). eqb (q % 2) 1)
+        (ap (λ (j : ℕ). n * 2 ^ j / 2 ^ d) whole
+        ∙ ap (λ (q : ℕ). q / 2 ^ d) (ap (λ (q : ℕ). n * q) (pow-add 2 (suc k) d) ∙ sym (mul-assoc n (2 ^ suc k) (2 ^ d)))
+        ∙ shl-shr (n * 2 ^ suc k) d)
+        ∙ ap (λ (r : ℕ). eqb r 1) (shifted-even n k)
+
+-- the bits of one
+one-bit : (d : ℕ) → bit 1 d ≡ eqb 0 d
+unfolding bit
+one-bit zero = refl
+one-bit (suc d) = ap (λ (q : ℕ). eqb (q % 2) 1) (div-eq-of-lt (pow-lt {i = 0} {j = suc d} (omega arith))) ∙ sym (ne-eqb 0 (suc d) (λ e. omega arith))
+
+-- a power has one bit
+pub bit-power : (s d : ℕ) → bit (2 ^ s) d ≡ eqb s d
+bit-power s d = ap (λ (n : ℕ). bit n d) (sym (one-mul (2 ^ s))) ∙ raised 1 s d ∙ either (leb s d) refl
+  where
+    same : (t : Bool) → eqb s d ≡ t → s ≤ d → eqb 0 (d - s) ≡ t
+    same true e h = eq-eqb 0 (d - s) (omega (arith, eqb-true s d e))
+    same false e h = ne-eqb 0 (d - s) (λ k. eqb-false s d e (omega arith))
+
+    either : (t : Bool) → leb s d ≡ t → (t && bit 1 (d - s)) ≡ eqb s d
+    either true e = one-bit (d - s) ∙ same (eqb s d) refl (leb-true s d e)
+    either false e = sym (ne-eqb s d (λ k. omega (arith, leb-false s d e)))
+
+-- a word of 64 bits keeps those of a number that it has
+kept : (n d : ℕ) → d < 64 → bit (n % 2 ^ 64) d ≡ bit n d
+unfolding bit
+kept n d h =
+    let k = 63 - d in
+    let whole : 64 ≡ (k + 1) + d = omega arith in
+    ap (λ (w : ℕ). eqb (n % 2 ^ w / 2 ^ d % 2) 1) whole
+    ∙ ap (λ (q : ℕ). eqb (q % 2) 1) (field n (k + 1) d)
+    ∙ ap (λ (r : ℕ). eqb r 1) (mod-mod-pow (n / 2 ^ d) k 1)
+
+larger : (p q : ℕ) → p < 2 → q < 2 → eqb (max p q % 2) 1 ≡ (eqb p 1 || eqb q 1)
+larger zero zero h k = refl
+larger zero (suc zero) h k = refl
+larger (suc zero) zero h k = refl
+larger (suc zero) (suc zero) h k = refl
+larger zero (suc (suc q)) h k = absurd (omega arith)
+larger (suc zero) (suc (suc q)) h k = absurd (omega arith)
+larger (suc (suc p)) q h k = absurd (omega arith)
+
+joined : (a b d : ℕ) → bit (bitOr a b) d ≡ (bit a d || bit b d)
+unfolding bit
+joined a b d =
+    let x = a / 2 ^ d in
+    let y = b / 2 ^ d in
+    ap (λ (n : ℕ). eqb (n % 2) 1) (or-shr a b d ∙ or-step x y)
+    ∙ ap (λ (n : ℕ). eqb n 1) (mul-add-mod-self-right (bitOr (x / 2) (y / 2)) 2 (max (x % 2) (y % 2)))
+    ∙ larger (x % 2) (y % 2) (mod-lt x (lit< tt)) (mod-lt y (lit< tt))
+
+pub bit-marked : (bits s d : ℕ) → bit (marked bits s) d ≡ (bit bits d || eqb s d)
+unfolding marked
+bit-marked bits s d = joined bits (2 ^ s) d ∙ ap (λ (t : Bool). bit bits d || t) (bit-power s d)
+
+pub bit-moved : (bits s d : ℕ) → d < 64 → bit (moved bits s) d ≡ ((leb s d && bit bits (d - s)) || eqb 0 d)
+unfolding moved
+bit-moved bits s d h =
+    joined (bits * 2 ^ s % 2 ^ 64) 1 d
+    ∙ ap (λ (t : Bool). t || bit 1 d) (kept (bits * 2 ^ s) d h ∙ raised bits s d)
+    ∙ ap (λ (t : Bool). (leb s d && bit bits (d - s)) || t) (one-bit d)

@@ -1,0 +1,42 @@
+// Times, and how far apart two of them are.
+ghost use mathlib.Core.Path.{_≡_};
+ghost use Rattle.window.specs.Time.{difference, exceeds, limitOf};
+
+// Seconds, as a request or the host tells them.
+pub struct Time(pub u32);
+
+// From `earlier` to `later`, below zero where the clock that told `earlier` runs ahead.
+pub fn age(later: Time, earlier: Time) -> i64
+    ensures { λ r. ⌜ r ≡ difference (later .0) (earlier .0) ⌝ }
+{
+    (later.0 as i64) - (earlier.0 as i64)
+}
+
+// Whether more than `limit` seconds lie between the two.
+fn apart(later: Time, earlier: Time, limit: u32) -> bool
+    ensures { λ r. ⌜ r ≡ exceeds (later .0) (earlier .0) limit ⌝ }
+{
+    let most = limit as i64;
+    most < age(later, earlier)
+}
+
+// Whether a request that was made at `t` is older than its life.
+pub fn too_old(clock: Time, t: Time, life: u32) -> bool
+    ensures { λ r. ⌜ r ≡ exceeds (clock .0) (t .0) life ⌝ }
+{
+    apart(clock, t, life)
+}
+
+// Whether the session idled between `lt` and `t`.
+pub fn idle(t: Time, lt: Time, limit: u32) -> bool
+    ensures { λ r. ⌜ r ≡ exceeds (t .0) (lt .0) limit ⌝ }
+{
+    apart(t, lt, limit)
+}
+
+// The limit that holds: 0 means the default.
+pub fn limit(ordered: u32, default: u32) -> u32
+    ensures { λ r. ⌜ r ≡ limitOf ordered default ⌝ }
+{
+    if ordered == 0 { default } else { ordered }
+}
