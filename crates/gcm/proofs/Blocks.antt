@@ -1,9 +1,8 @@
 -- Blocks as two halves of 64 bits, as numbers and as bytes.
 -- Assumes nothing.
-use mathlib.Core.List.{List, [], _∷_, _++_, append-nil}
-use mathlib.Core.Path.{_≡_, refl, sym, ap, ap₂, _∙_}
-use Prim.Native.Nat.{ℕ, zero, suc, _+_, _-_, _*_, _/_, _%_, _^_, _<_, _≤_}
-use native.Mathlib.Nat.{le-of-suc-le-suc, not-suc-le-zero}
+use mathlib.Core.List.{List, [], _∷_, _++_}
+use mathlib.Core.Path.{_≡_, sym, ap, ap₂, _∙_}
+use Prim.Native.Nat.{ℕ, zero, suc, _+_, _-_, _*_, _%_, _^_, _<_}
 use native.Mathlib.Omega.{arith}
 use lib.ListN.{length, take, drop, replicate, take-append-drop, length-append, length-drop}
 use lib.Pow.{high}
@@ -11,7 +10,7 @@ use lib.Seq.{take-all}
 use Rattle.cells.specs.Runs.{part, spliced, fronted}
 use Rattle.cells.specs.Numbers.{bytesOf, number}
 use Rattle.cells.proofs.Runs.{joined, spliced-front, fronted-whole, length-part}
-use Rattle.cells.proofs.Numbers.{number-append, bytesOf-append, bytesOf-low, length-bytesOf}
+use Rattle.cells.proofs.Numbers.{number-append, bytesOf-append, bytesOf-low}
 use Rattle.gcm.specs.Gctr.{inc32}
 use Rattle.gcm.specs.Gcm.{preCounter}
 

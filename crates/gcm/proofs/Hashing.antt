@@ -1,12 +1,12 @@
 -- GHASH of a padded run goes block by block, and ends with the block of the lengths.
 -- Assumes nothing.
-use mathlib.Core.List.{List, [], _∷_, _++_, append-nil}
+use mathlib.Core.List.{List, [], _++_, append-nil}
 use mathlib.Core.Logic.{⊎-elim}
 use mathlib.Core.Path.{_≡_, refl, sym, ap, ap₂, _∙_}
 use Prim.Native.Nat.{ℕ, zero, suc, _+_, _-_, _*_, _/_, _%_, _^_, _≤_, _<_, min}
 use native.Mathlib.Omega.{arith}
 use lib.Bits.{bitXor}
-use lib.ListN.{length, take, drop, replicate, length-append, length-replicate, length-drop, length-take}
+use lib.ListN.{length, take, drop, replicate, length-append, length-replicate, length-drop}
 use lib.Seq.{take-all, drop-at, take-append-le, drop-append-le}
 use Rattle.cells.specs.Runs.{part}
 use Rattle.cells.specs.Numbers.{bytesOf, number}
@@ -24,10 +24,13 @@ padded-part xs n h = ⊎-elim short long (below-or-not (length xs - 16 * n) 16)
   where
     zeros : List ℕ
     zeros = replicate ((16 - length xs % 16) % 16) 0
+
     rest : List ℕ
     rest = drop (16 * n) xs
+
     dropped : rest ++ zeros ≡ drop (16 * n) (xs ++ zeros)
     dropped = sym (drop-append-le (16 * n) xs zeros (omega arith))
+
     short : length xs - 16 * n < 16 → part xs (16 * n) 16 ++ replicate (16 - length (part xs (16 * n) 16)) 0 ≡ take 16 (drop (16 * n) (xs ++ zeros))
     short lt =
         let all : part xs (16 * n) 16 ≡ rest = take-all 16 rest (omega (arith, length-drop (16 * n) xs)) in
@@ -36,6 +39,7 @@ padded-part xs n h = ⊎-elim short long (below-or-not (length xs - 16 * n) 16)
         ap (λ (l : List ℕ). l ++ replicate (16 - length l) 0) all ∙ ap (λ (k : ℕ). rest ++ replicate k 0) missing
         ∙ sym (take-all 16 (rest ++ zeros) filled)
         ∙ ap (take 16) dropped
+
     long : 16 ≤ length xs - 16 * n → part xs (16 * n) 16 ++ replicate (16 - length (part xs (16 * n) 16)) 0 ≡ take 16 (drop (16 * n) (xs ++ zeros))
     long le =
         let none : 16 - length (part xs (16 * n) 16) ≡ 0 = omega (arith, length-block xs (16 * n)) in

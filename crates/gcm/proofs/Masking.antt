@@ -1,7 +1,7 @@
 -- GCTR: how it grows block by block, and that it takes itself back.
 -- Assumes nothing.
 use mathlib.Core.Bool.{Bool, true, false}
-use mathlib.Core.List.{List, [], _∷_, _++_, append-nil, append-assoc}
+use mathlib.Core.List.{List, [], _++_, append-nil}
 use mathlib.Core.Logic.{_⊎_, inl, inr, ⊎-elim}
 use mathlib.Core.Path.{_≡_, refl, sym, ap, ap₂, _∙_}
 use Prim.Native.Nat.{ℕ, zero, suc, _+_, _-_, _*_, _/_, _≤_, _<_, min}
@@ -38,6 +38,7 @@ block-part xs at e h = ⊎-elim short long (below-or-not (length xs - at) 16)
     short : length xs - at < 16 → take (e - at) (drop at xs) ≡ part xs at 16
     short lt =
         take-all (e - at) (drop at xs) (omega (arith, length-drop at xs)) ∙ sym (take-all 16 (drop at xs) (omega (arith, length-drop at xs)))
+
     long : 16 ≤ length xs - at → take (e - at) (drop at xs) ≡ part xs at 16
     long le =
         let size : e - at ≡ 16 = omega arith in

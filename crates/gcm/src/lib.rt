@@ -10,7 +10,7 @@ ghost use Rattle.gcm.specs.Multiply as M;
 ghost use Rattle.gcm.specs.Ghash.{hashed, ghash};
 ghost use Rattle.gcm.specs.Gctr as G;
 ghost use Rattle.gcm.specs.Gcm as S;
-ghost use Rattle.gcm.specs.Code.{whole, answer, left};
+ghost use Rattle.gcm.specs.Code.{whole, Stepped, BitsFrom, answer, left};
 
 // A block of 128 bits, the left half in high.
 struct Block {
@@ -67,9 +67,9 @@ fn turned(s: Turn, bit: u64) -> Turn
     }
 }
 
-// The steps at the 64 bits of w, which are those of x from bit k on.
+// The steps at 64 bits of the first factor.
 fn half(s: Turn, w: u64) -> Turn
-    ensures { λ r. ⌜ ((x y k : ℕ) → ((i : ℕ) → i < 64 → w / 2 ^ (63 - i) % 2 ≡ M.bitAt x (k + i)) → whole (s .z) ≡ M.zAt x y k → whole (s .v) ≡ M.vAt y k → (whole (r .z) ≡ M.zAt x y (k + 64)) × (whole (r .v) ≡ M.vAt y (k + 64))) ⌝ }
+    ensures { λ r. ⌜ ((x y k : ℕ) → BitsFrom x k w → Stepped x y k s → Stepped x y (k + 64) r) ⌝ }
 {
     let mut s = s;
     let mut i = 0u32;

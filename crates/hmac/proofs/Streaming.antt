@@ -3,11 +3,13 @@
 use mathlib.Core.Path.{_≡_, ap, _∙_}
 use mathlib.Core.List.{List, [], _++_, append-nil, append-assoc}
 use Prim.Native.Nat.{ℕ}
-use lib.ListN.{length}
+use native.Mathlib.Omega.{arith}
+use lib.ListN.{length, length-append}
 use Rattle.sha2.specs.Hash.{sha512}
 use Rattle.sha2.proofs.Output.{length-sha512}
+use Rattle.hmac.specs.declared.Hmac.{Hmac}
 use Rattle.hmac.specs.Hmac.{innerKey, outerKey, hmac, hmacSha512}
-use Rattle.hmac.specs.Keyed.{KeyedOver}
+use Rattle.hmac.specs.Keyed.{KeyedOver, TookIn}
 
 module _ {S : Type 0} (Has : S → List ℕ → Type 0) (hash : List ℕ → List ℕ) (size : ℕ) where
   -- two states that have taken in their keys
@@ -27,6 +29,15 @@ module _ {S : Type 0} (Has : S → List ℕ → Type 0) (hash : List ℕ → Lis
   finished i o t d r key text inner took outer p =
       outer (outerKey hash size key ++ d) (took (outerKey hash size key) (p .outside))
       ∙ ap (λ (l : List ℕ). hash (outerKey hash size key ++ l)) (inner (innerKey hash size key ++ text) (p .inside))
+
+-- one part of the text after the other
+pub took-in-turn : (s t r : Hmac) (a b : List ℕ) → TookIn s a t → TookIn t b r → TookIn s (a ++ b) r
+took-in-turn s t r a b p q =
+    record {
+      inner-counted = omega (arith, p .inner-counted, q .inner-counted, length-append a b);
+      outer-counted = q .outer-counted ∙ p .outer-counted;
+      appended = λ key text h. rw append-assoc at (q .appended key (text ++ a) (p .appended key text h));
+    }
 
 -- an HMAC-SHA-512 has 64 bytes
 pub length-hmac : (key text : List ℕ) → length (hmacSha512 key text) ≡ 64

@@ -24,11 +24,11 @@ keyBlock hash size key = filled size (pick (ltb size (length key)) (hash key) ke
 unfoldable pub xored : ℕ → List ℕ → List ℕ
 xored x xs = map (λ b. bitXor b x) xs
 
--- the key block exclusive or ipad, the byte 36 of base 16 in every place
+-- the key block exclusive or ipad, which is the byte 0x36 in every place
 abbrev pub innerKey : (List ℕ → List ℕ) → ℕ → List ℕ → List ℕ
 innerKey hash size key = xored 0x36 (keyBlock hash size key)
 
--- the key block exclusive or opad, the byte 5C of base 16 in every place
+-- the key block exclusive or opad, which is the byte 0x5c in every place
 abbrev pub outerKey : (List ℕ → List ℕ) → ℕ → List ℕ → List ℕ
 outerKey hash size key = xored 0x5c (keyBlock hash size key)
 

@@ -5,7 +5,7 @@ ghost use Prim.Native.Nat.{ℕ, _+_, _^_, _<_};
 ghost use lib.ListN.{length};
 ghost use Rattle.sha2.specs.Hash.{sha512};
 ghost use Rattle.hmac.specs.Hmac.{keyBlock, xored, hmacSha512};
-ghost use Rattle.hmac.specs.Keyed as K;
+ghost use Rattle.hmac.specs.Keyed.{Keyed, Made, TookIn};
 use sha2::Sha512;
 
 // A hash that has taken in the inner key and the text, and one that has taken in the outer key.
@@ -48,7 +48,7 @@ impl Hmac {
     // The state for key that has taken in no text.
     pub fn new(key: &[u8]) -> Hmac
         requires { ⌜ length (now key) < 2 ^ 61 ⌝ }
-        ensures { λ r. ⌜ K.Made (now (key .entry)) r ⌝ }
+        ensures { λ r. ⌜ Made (now (key .entry)) r ⌝ }
     {
         let block = key_block(key);
         let inside = xor_all(block, 0x36);
@@ -62,7 +62,7 @@ impl Hmac {
     // The state that has taken in part too.
     pub fn absorb(self, part: &[u8]) -> Hmac
         requires { ⌜ self .inner .length + length (now part) < 2 ^ 61 ⌝ }
-        ensures { λ r. ⌜ K.TookIn self (now (part .entry)) r ⌝ }
+        ensures { λ r. ⌜ TookIn self (now (part .entry)) r ⌝ }
     {
         let s = self.inner;
         let outer = self.outer;
@@ -73,7 +73,7 @@ impl Hmac {
     // The HMAC of the text that was taken in.
     pub fn finish(self) -> [u8; 64]
         requires { ⌜ (self .inner .length < 2 ^ 61) × (self .outer .length ≡ 128) ⌝ }
-        ensures { λ r. ⌜ ((key text : List ℕ) → K.Keyed self key text → r ≡ hmacSha512 key text) ⌝ }
+        ensures { λ r. ⌜ ((key text : List ℕ) → Keyed self key text → r ≡ hmacSha512 key text) ⌝ }
     {
         let s = self.inner;
         let outer = self.outer;

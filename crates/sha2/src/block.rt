@@ -2,11 +2,12 @@
 ghost use mathlib.Core.Path.{_≡_};
 ghost use mathlib.Core.List.{List};
 ghost use Prim.Native.Nat.{ℕ, _+_, _*_, _≤_, _<_};
-ghost use lib.ListN.{length, take, getD};
-ghost use Rattle.sha2.specs.declared.block.Words as D;
-ghost use Rattle.sha2.specs.Constants as C;
-ghost use Rattle.sha2.specs.Block as B;
-ghost use Rattle.sha2.specs.Hash as F;
+ghost use lib.ListN.{length};
+ghost use Rattle.sha2.specs.declared.block.Words as Declared;
+ghost use Rattle.sha2.specs.Constants as Constants;
+ghost use Rattle.sha2.specs.Block as Block;
+ghost use Rattle.sha2.specs.Hash as Hash;
+ghost use Rattle.sha2.specs.Laid.{Laid};
 use crate::word::big_sigma0;
 use crate::word::big_sigma1;
 use crate::word::ch;
@@ -114,7 +115,7 @@ const K: [u64; 80] = [
 // Words 0 to 15 of the schedule: the block's own.
 fn load(w: &mut [u64; 80], block: &[u8])
     requires { ⌜ (length (now w) ≡ 80) × (length (now block) ≡ 128) ⌝ }
-    ensures { λ _. ⌜ (length (now (w .exit)) ≡ 80) × (take 16 (now (w .exit)) ≡ B.schedule (now (block .entry)) 16) ⌝ }
+    ensures { λ _. ⌜ Laid (now (w .exit)) (now (block .entry)) 16 ⌝ }
 {
     let mut t = 0;
     while t < 16 {
@@ -124,25 +125,48 @@ fn load(w: &mut [u64; 80], block: &[u8])
 }
 
 fn mix(w2: u64, w7: u64, w15: u64, w16: u64) -> u64
-    ensures { λ r. ⌜ r ≡ B.mix w2 w7 w15 w16 ⌝ }
+    ensures { λ r. ⌜ r ≡ Block.mix w2 w7 w15 w16 ⌝ }
 {
     add(add(add(small_sigma1(w2), w7), small_sigma0(w15)), w16)
 }
 
-// Words 16 to 79 of the schedule: each from four before it.
-fn extend(w: &mut [u64; 80])
-    requires { ⌜ length (now w) ≡ 80 ⌝ }
-    ensures { λ _. ⌜ ((block : List ℕ) → take 16 (now (w .entry)) ≡ B.schedule block 16 → now (w .exit) ≡ B.schedule block 80) ⌝ }
+// Word t + j of the schedule, from four before it.
+fn next_word(w: &mut [u64; 80], t: usize, j: usize)
+    requires { ⌜ (16 ≤ t + j) × (t + j < 80) ⌝ }
+    ensures { λ _. ⌜ ((block : List ℕ) → Laid (now (w .entry)) block (t + j) → Laid (now (w .exit)) block (t + (j + 1))) ⌝ }
 {
-    let mut t = 16;
-    while t < 80 {
-        w[t] = mix(w[t - 2], w[t - 7], w[t - 15], w[t - 16]);
-        t += 1;
+    let i = t + j;
+    w[i] = mix(w[i - 2], w[i - 7], w[i - 15], w[i - 16]);
+}
+
+// Words t to t + 7.
+fn eight_words(w: &mut [u64; 80], t: usize)
+    requires { ⌜ (16 ≤ t) × (t + 8 ≤ 80) ⌝ }
+    ensures { λ _. ⌜ ((block : List ℕ) → Laid (now (w .entry)) block t → Laid (now (w .exit)) block (t + 8)) ⌝ }
+{
+    next_word(w, t, 0);
+    next_word(w, t, 1);
+    next_word(w, t, 2);
+    next_word(w, t, 3);
+    next_word(w, t, 4);
+    next_word(w, t, 5);
+    next_word(w, t, 6);
+    next_word(w, t, 7);
+}
+
+// Words 16 to 79. Eight a turn, like the rounds: the compiler then keeps words that were just made in registers.
+fn extend(w: &mut [u64; 80])
+    ensures { λ _. ⌜ ((block : List ℕ) → Laid (now (w .entry)) block 16 → Laid (now (w .exit)) block 80) ⌝ }
+{
+    let mut q = 2;
+    while q < 10 {
+        eight_words(w, 8 * q);
+        q += 1;
     }
 }
 
 fn round(v: Words, k: u64, w: u64) -> Words
-    ensures { λ r. ⌜ r ≡ B.roundOf v k w ⌝ }
+    ensures { λ r. ⌜ r ≡ Block.roundOf v k w ⌝ }
 {
     let t1 = add(add(add(add(v.h, big_sigma1(v.e)), ch(v.e, v.f, v.g)), k), w);
     let t2 = add(big_sigma0(v.a), maj(v.a, v.b, v.c));
@@ -161,15 +185,15 @@ fn round(v: Words, k: u64, w: u64) -> Words
 // Round t + j.
 fn turn(v: Words, k: &[u64; 80], w: &[u64; 80], t: usize, j: usize) -> Words
     requires { ⌜ t + j < 80 ⌝ }
-    ensures { λ r. ⌜ ((v0 : D.Words) → v ≡ B.rounds (now (k .entry)) (now (w .entry)) v0 (t + j) → r ≡ B.rounds (now (k .entry)) (now (w .entry)) v0 (t + (j + 1))) ⌝ }
+    ensures { λ r. ⌜ ((v0 : Declared.Words) → v ≡ Block.rounds (now (k .entry)) (now (w .entry)) v0 (t + j) → r ≡ Block.rounds (now (k .entry)) (now (w .entry)) v0 (t + (j + 1))) ⌝ }
 {
     round(v, k[t + j], w[t + j])
 }
 
 // Rounds t to t + 7.
-fn eight(v: Words, k: &[u64; 80], w: &[u64; 80], t: usize) -> Words
+fn eight_rounds(v: Words, k: &[u64; 80], w: &[u64; 80], t: usize) -> Words
     requires { ⌜ t + 8 ≤ 80 ⌝ }
-    ensures { λ r. ⌜ ((v0 : D.Words) → v ≡ B.rounds (now (k .entry)) (now (w .entry)) v0 t → r ≡ B.rounds (now (k .entry)) (now (w .entry)) v0 (t + 8)) ⌝ }
+    ensures { λ r. ⌜ ((v0 : Declared.Words) → v ≡ Block.rounds (now (k .entry)) (now (w .entry)) v0 t → r ≡ Block.rounds (now (k .entry)) (now (w .entry)) v0 (t + 8)) ⌝ }
 {
     let mut v = v;
     v = turn(v, k, w, t, 0);
@@ -184,19 +208,19 @@ fn eight(v: Words, k: &[u64; 80], w: &[u64; 80], t: usize) -> Words
 
 // The eighty rounds.
 fn rounds(v: Words, k: &[u64; 80], w: &[u64; 80]) -> Words
-    ensures { λ r. ⌜ r ≡ B.rounds (now (k .entry)) (now (w .entry)) v 80 ⌝ }
+    ensures { λ r. ⌜ r ≡ Block.rounds (now (k .entry)) (now (w .entry)) v 80 ⌝ }
 {
     let mut x = v;
     let mut q = 0;
     while q < 10 {
-        x = eight(x, k, w, 8 * q);
+        x = eight_rounds(x, k, w, 8 * q);
         q += 1;
     }
     x
 }
 
 fn sum(v: Words, x: Words) -> Words
-    ensures { λ r. ⌜ r ≡ B.sumOf v x ⌝ }
+    ensures { λ r. ⌜ r ≡ Block.sumOf v x ⌝ }
 {
     Words {
         a: add(v.a, x.a),
@@ -212,8 +236,8 @@ fn sum(v: Words, x: Words) -> Words
 
 // The hash value v after the block.
 fn after_block(v: Words, k: &[u64; 80], block: &[u8]) -> Words
-    requires { ⌜ (now k ≡ C.K) × (length (now block) ≡ 128) ⌝ }
-    ensures { λ r. ⌜ r ≡ B.afterBlock v (now (block .entry)) ⌝ }
+    requires { ⌜ (now k ≡ Constants.K) × (length (now block) ≡ 128) ⌝ }
+    ensures { λ r. ⌜ r ≡ Block.afterBlock v (now (block .entry)) ⌝ }
 {
     let mut w = [0u64; 80];
     load(&mut w, block);
@@ -225,8 +249,11 @@ fn after_block(v: Words, k: &[u64; 80], block: &[u8]) -> Words
 // The hash value v after the first n blocks of m.
 pub fn after_blocks(v: Words, m: &[u8], n: usize) -> Words
     requires { ⌜ 128 * n ≤ length (now m) ⌝ }
-    ensures { λ r. ⌜ r ≡ F.afterBlocks v (now (m .entry)) n ⌝ }
+    ensures { λ r. ⌜ r ≡ Hash.afterBlocks v (now (m .entry)) n ⌝ }
 {
+    if n == 0 {
+        return v;
+    }
     let k = K;
     let mut v = v;
     let mut i = 0;

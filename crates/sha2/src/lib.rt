@@ -3,7 +3,7 @@ ghost use mathlib.Core.Path.{_≡_};
 ghost use mathlib.Core.List.{List, []};
 ghost use Prim.Native.Nat.{ℕ, _+_, _%_, _^_, _<_};
 ghost use lib.ListN.{length};
-ghost use Rattle.sha2.specs.Hash as F;
+ghost use Rattle.sha2.specs.Hash as Hash;
 ghost use Rattle.sha2.specs.Taken.{Taken, TookIn};
 use block::Words;
 use block::after_blocks;
@@ -19,7 +19,7 @@ pub struct Sha512 {
 }
 
 fn digest(v: Words) -> [u8; 64]
-    ensures { λ r. ⌜ r ≡ F.digest v ⌝ }
+    ensures { λ r. ⌜ r ≡ Hash.digest v ⌝ }
 {
     let mut out = [0u8; 64];
     cells::put64(&mut out, 0, v.a);
@@ -135,7 +135,7 @@ impl Sha512 {
     // The hash of the message that was taken in.
     pub fn finish(self) -> [u8; 64]
         requires { ⌜ self .length < 2 ^ 61 ⌝ }
-        ensures { λ r. ⌜ ((m : List ℕ) → Taken self m → r ≡ F.sha512 m) ⌝ }
+        ensures { λ r. ⌜ ((m : List ℕ) → Taken self m → r ≡ Hash.sha512 m) ⌝ }
     {
         let length = self.length;
         let zeros = (239 - (length % 128) as usize) % 128;

@@ -1,17 +1,17 @@
-use mathlib.Core.Path.{_≡_, refl, sym, ap, ap₂, _∙_}
+-- `add` meets its contract: before turn i the first i bytes are there.
+-- Assumes nothing.
 use mathlib.Core.List.{List, [], _∷_, _++_}
-use Prim.Native.Nat.{ℕ, _+_, _-_, _≤_, _<_}
-use native.Mathlib.Omega.{arith}
+use mathlib.Core.Path.{_≡_, refl, sym, ap, _∙_}
+use Prim.Native.Nat.{ℕ, _-_, _≤_}
 use native.Mathlib.Numerals.{add-one}
+use native.Mathlib.Omega.{arith}
 use lib.Bits.{bitXor}
 use lib.ListN.{length, getD, take, length-set}
 use lib.Seq.{take-all, take-suc-set}
 use Rattle.gcm.specs.Gctr.{added}
-use Rattle.gcm.proofs.Addition.{added-more, length-added}
+use Rattle.gcm.proofs.Addition.{added-more}
 use Rattle.gcm.proofs.add.Statement.{statement}
 use Rattle.gcm.proofs.add.Tie as tie
-use Rattle.gcm.proofs.add.Reads as reads
-use Rattle.gcm.proofs.add.Lts as lts
 
 abbrev Inv-loop : tie.InvT-loop
 Inv-loop text stream out₀ i₀ out i =
@@ -20,51 +20,23 @@ Inv-loop text stream out₀ i₀ out i =
 abbrev μ-loop : tie.MeasureT-loop
 μ-loop text stream out₀ i₀ out i = length text - i
 
--- src/lib.rt:213:5
 loop-holds : tie.Need-loop-holds Inv-loop μ-loop
 unfolding added
 loop-holds c = (omega arith, c .pre .1, refl)
 
--- src/lib.rt:214:18
-shared-slice-read-out : tie.Need-shared-slice-read-out Inv-loop μ-loop
-shared-slice-read-out c = omega arith
-
--- src/lib.rt:214:28
-shared-slice-read-out-2 : tie.Need-shared-slice-read-out-2 Inv-loop μ-loop
-shared-slice-read-out-2 c = omega arith
-
--- src/lib.rt:214:9
-slice-write-out : tie.Need-slice-write-out Inv-loop μ-loop
-slice-write-out c = omega arith
-
--- src/lib.rt:215:9
-add-i : tie.Need-add-i Inv-loop μ-loop
-add-i c = omega arith
-
--- src/lib.rt:213:5
-loop-less : tie.Need-loop-less Inv-loop μ-loop
-loop-less c = omega arith
-
--- src/lib.rt:213:5
 loop-again : tie.Need-loop-again Inv-loop μ-loop
 loop-again c =
     let start = c .before .before .before .before in
     let i = c .before .before .before .loop .i in
     let inv = c .before .before .before .loop .inv in
-    let out = c .before .before .before .loop .out in
-    (
+    let out = c .before .before .before .loop .out in (
       omega arith,
       length-set out i _ ∙ inv .1,
       rw add-one
-      (take-suc-set out i _ (omega arith) ∙ ap (λ (l : List ℕ). l ++ bitXor (getD (start .args .text .now) i 0) (getD (start .args .stream .now) i 0) ∷ []) (inv .2)
-      ∙ sym (added-more (start .args .text .now) (start .args .stream .now) i (omega arith) (omega arith))),
+          (take-suc-set out i _ (omega arith) ∙ ap (λ (l : List ℕ). l ++ bitXor (getD (start .args .text .now) i 0) (getD (start .args .stream .now) i 0) ∷ []) (inv .2)
+          ∙ sym (added-more (start .args .text .now) (start .args .stream .now) i (omega arith) (omega arith))),
     )
 
--- src/lib.rt:208:1
-same-length : tie.Need-same-length Inv-loop μ-loop
-same-length c = omega arith
-
--- src/lib.rt:208:1
 returns : tie.Need-returns Inv-loop μ-loop
 returns c =
     let text = c .before .before .args .text .now in
@@ -79,11 +51,11 @@ add-spec =
     Inv-loop
     μ-loop
     loop-holds
-    shared-slice-read-out
-    shared-slice-read-out-2
-    slice-write-out
-    add-i
-    loop-less
+    (λ c. omega arith)
+    (λ c. omega arith)
+    (λ c. omega arith)
+    (λ c. omega arith)
+    (λ c. omega arith)
     loop-again
-    same-length
+    (λ c. omega arith)
     returns)

@@ -1,20 +1,17 @@
-use mathlib.Core.Path.{_≡_, refl, sym, ap, ap₂, _∙_}
-use mathlib.Core.Bool.{Bool}
-use Prim.Native.Nat.{ℕ, _+_, _*_, _-_, _≤_, _<_}
-use native.Mathlib.Omega.{arith}
+-- `same` meets its contract: the differences of the first i bytes sum to zero exactly if these are the same.
+-- Assumes nothing.
+use mathlib.Core.Path.{_≡_, refl, ap₂, _∙_}
+use Prim.Native.Nat.{_*_, _-_, _≤_, _<_}
 use native.Mathlib.Numerals.{add-one}
-use lib.Bits.{bitXor, xor-lt}
+use native.Mathlib.Omega.{arith}
+use lib.Bits.{bitXor}
 use lib.Dec.{eqb}
-use lib.ListN.{length, getD, take}
+use lib.ListN.{getD, take}
 use lib.Seq.{take-all}
-use borrow.Author.Needs.{needs}
-use Rattle.gcm.proofs.Equality.{byte-difference}
 use Rattle.gcm.specs.Gcm.{equal}
-use Rattle.gcm.proofs.Equality.{compared-more}
+use Rattle.gcm.proofs.Equality.{byte-difference, compared-more}
 use Rattle.gcm.proofs.same.Statement.{statement}
 use Rattle.gcm.proofs.same.Tie as tie
-use Rattle.gcm.proofs.same.Reads as reads
-use Rattle.gcm.proofs.same.Lts as lts
 
 abbrev Inv-loop : tie.InvT-loop
 Inv-loop a b differences₀ i₀ differences i =
@@ -23,40 +20,20 @@ Inv-loop a b differences₀ i₀ differences i =
 abbrev μ-loop : tie.MeasureT-loop
 μ-loop a b differences₀ i₀ differences i = 16 - i
 
--- src/lib.rt:271:5
 loop-holds : tie.Need-loop-holds Inv-loop μ-loop
 unfolding equal
 loop-holds c = (omega arith, omega arith, refl)
 
--- src/lib.rt:272:25
-shared-slice-read-differences : tie.Need-shared-slice-read-differences Inv-loop μ-loop
-shared-slice-read-differences c = omega arith
-
--- src/lib.rt:272:32
-shared-slice-read-differences-2 : tie.Need-shared-slice-read-differences-2 Inv-loop μ-loop
-shared-slice-read-differences-2 c = omega arith
-
--- src/lib.rt:272:24
 cast-differences : tie.Need-cast-differences Inv-loop μ-loop
 cast-differences c =
     let i = c .before .before .before .loop .i in
     record { fits = omega (arith, byte-difference _ _ (c .before .shared-slice-known .given i .fits) (c .shared-slice-known2 .given i .fits)) }
 
--- src/lib.rt:272:9
 add-differences : tie.Need-add-differences Inv-loop μ-loop
 add-differences c =
     let i = c .before .before .before .loop .i in
     record { fits = omega (arith, byte-difference _ _ (c .before .shared-slice-known .given i .fits) (c .shared-slice-known2 .given i .fits)) }
 
--- src/lib.rt:273:9
-add-i : tie.Need-add-i Inv-loop μ-loop
-add-i c = omega arith
-
--- src/lib.rt:271:5
-loop-less : tie.Need-loop-less Inv-loop μ-loop
-loop-less c = omega arith
-
--- src/lib.rt:271:5
 loop-again : tie.Need-loop-again Inv-loop μ-loop
 loop-again c =
     let start = c .before .before .before .before in
@@ -67,7 +44,6 @@ loop-again c =
     in
     (omega arith, omega arith, rw add-one (compared-more (start .args .a .now) (start .args .b .now) i _ (omega arith) (omega arith) (inv .2)))
 
--- src/lib.rt:265:1
 returns : tie.Need-returns Inv-loop μ-loop
 returns c =
     let start = c .before .before in
@@ -82,11 +58,11 @@ same-spec =
     Inv-loop
     μ-loop
     loop-holds
-    shared-slice-read-differences
-    shared-slice-read-differences-2
+    (λ c. omega arith)
+    (λ c. omega arith)
     cast-differences
     add-differences
-    add-i
-    loop-less
+    (λ c. omega arith)
+    (λ c. omega arith)
     loop-again
     returns)

@@ -1,57 +1,56 @@
+-- `prim_gcm_open` meets its contract: a size is wrong, or the tag is, or the text fills the buffer.
+-- Assumes nothing.
 use borrow.Author.Needs.{needs}
+use borrow.Author.Tests.{not-true, not-false}
+use mathlib.Core.Path.{_≡_, sym, _∙_}
+use mathlib.Core.Bool.{true, false}
+use mathlib.Core.List.{[]}
+use Rattle.gcm.specs.Gcm.{opened}
+use native.Mathlib.Omega.{arith}
+use lib.ListN.{length}
+use Rattle.primitives.specs.Sealing.{sizesFit, openCall}
+use Rattle.primitives.proofs.Sealing.{fit, opened-text, opened-wrong}
 use Rattle.primitives.proofs.prim_gcm_open.Statement.{statement}
 use Rattle.primitives.proofs.prim_gcm_open.Tie as tie
-use Rattle.primitives.proofs.prim_gcm_open.Reads as reads
-use Rattle.primitives.proofs.prim_gcm_open.Lts as lts
-use Rattle.gcm.proofs.unseal.Reads as unseal-reads
-use Rattle.primitives.proofs.sizes_fit.Reads as sizes-fit-reads
 
--- src/lib.rt:89:9
-sizes-fit-requires : tie.Need-sizes-fit-requires
-sizes-fit-requires c κs = search needs
-
--- src/lib.rt:90:9
 returns : tie.Need-returns
-returns c = ?
+unfolding openCall
+returns c = rw (sym (c .before .sizes-fit .ensures) ∙ not-true (c .before .sizes-fit .result) (c .if1 .taken))
 
--- src/lib.rt:92:11
 unseal-requires : tie.Need-unseal-requires
-unseal-requires c κs = ?
+unseal-requires c κs =
+    let tested = c .before .before in
+    let fits = fit _ _ _ _ _ (sym (tested .sizes-fit .ensures) ∙ not-false (tested .sizes-fit .result) (c .before .if1 .left)) in
+    (fits .key-size, fits .iv-size, fits .text-size, fits .tag-size, fits .out-size)
 
--- src/lib.rt:93:25
-enum-told : tie.Need-enum-told
-enum-told c = search needs
-
--- src/lib.rt:94:26
-enum-told-2 : tie.Need-enum-told-2
-enum-told-2 c = search needs
-
--- src/lib.rt:85:1
-same-length : tie.Need-same-length
-same-length c = search needs
-
--- src/lib.rt:85:1
 returns-2 : tie.Need-returns-2
-returns-2 c = ?
+unfolding openCall
+returns-2 c =
+    let done = c .before .before .before .before in
+    let tested = done .before .before .before in
+    let lent = tested .before .before .before .before .before .before .args in
+    rw (sym (tested .sizes-fit .ensures) ∙ not-false (tested .sizes-fit .result) (done .before .before .if1 .left))
+    (opened-text (opened (lent .key .now) (lent .iv .now) [] (lent .text .now) (lent .tag .now)) (lent .out .now) _ (sym (c .enum-told .given .1) ∙ done .unseal .ensures .0) (done .unseal .ensures .1))
 
--- src/lib.rt:85:1
-same-length-2 : tie.Need-same-length-2
-same-length-2 c = search needs
-
--- src/lib.rt:85:1
 returns-3 : tie.Need-returns-3
-returns-3 c = ?
+unfolding openCall
+returns-3 c =
+    let done = c .before .before .before .before in
+    let tested = done .before .before .before in
+    let lent = tested .before .before .before .before .before .before .args in
+    rw (sym (tested .sizes-fit .ensures) ∙ not-false (tested .sizes-fit .result) (done .before .before .if1 .left))
+    (opened-wrong (opened (lent .key .now) (lent .iv .now) [] (lent .text .now) (lent .tag .now)) (lent .out .now) _ (sym (c .enum-told2 .given .1) ∙ done .unseal .ensures .0) (done .unseal .ensures .1))
 
 pub prim-gcm-open-spec : {M : Type 1} → statement M
 prim-gcm-open-spec =
     tie.close
     (tie.spec
-    sizes-fit-requires
+    (λ c κs. search needs)
     returns
     unseal-requires
-    enum-told
-    enum-told-2
-    same-length
+    (λ c. search needs)
+    (λ c. search needs)
+    (λ c. search needs)
     returns-2
-    same-length-2
+    (λ c. search needs)
     returns-3)

@@ -1,36 +1,34 @@
+-- `prim_gcm_seal` meets its contract: either a size is wrong, or both buffers are filled.
+-- Assumes nothing.
 use borrow.Author.Needs.{needs}
+use borrow.Author.Tests.{not-true, not-false}
+use mathlib.Core.Path.{_≡_, sym, ap₂, _∙_}
+use mathlib.Core.Bool.{true, false}
+use native.Mathlib.Omega.{arith}
+use lib.ListN.{length}
+use Rattle.primitives.specs.Sealing.{sizesFit, sealAnswer, sealCall}
+use Rattle.primitives.proofs.Sealing.{fit}
 use Rattle.primitives.proofs.prim_gcm_seal.Statement.{statement}
 use Rattle.primitives.proofs.prim_gcm_seal.Tie as tie
-use Rattle.primitives.proofs.prim_gcm_seal.Reads as reads
-use Rattle.primitives.proofs.prim_gcm_seal.Lts as lts
-use Rattle.gcm.proofs.seal.Reads as seal-reads
-use Rattle.primitives.proofs.sizes_fit.Reads as sizes-fit-reads
 
--- src/lib.rt:77:9
-sizes-fit-requires : tie.Need-sizes-fit-requires
-sizes-fit-requires c κs = search needs
-
--- src/lib.rt:78:9
 returns : tie.Need-returns
-returns c = ?
+unfolding sealCall
+returns c = rw (sym (c .before .sizes-fit .ensures) ∙ not-true (c .before .sizes-fit .result) (c .if1 .taken))
 
--- src/lib.rt:80:5
 seal-requires : tie.Need-seal-requires
-seal-requires c κs = ?
+seal-requires c κs =
+    let tested = c .before .before .before in
+    let fits = fit _ _ _ _ _ (sym (tested .sizes-fit .ensures) ∙ not-false (tested .sizes-fit .result) (c .before .before .if1 .left)) in
+    (fits .key-size, fits .iv-size, fits .text-size, fits .out-size, fits .tag-size)
 
--- src/lib.rt:73:1
-same-length : tie.Need-same-length
-same-length c = search needs
-
--- src/lib.rt:73:1
-same-length-2 : tie.Need-same-length-2
-same-length-2 c = search needs
-
--- src/lib.rt:73:1
 returns-2 : tie.Need-returns-2
-returns-2 c = ?
+unfolding sealCall
+returns-2 c =
+    let sealed = c .before .before .before .before in
+    let tested = sealed .before .before .before .before in
+    rw (sym (tested .sizes-fit .ensures) ∙ not-false (tested .sizes-fit .result) (sealed .before .before .before .if1 .left))
+    (ap₂ (sealAnswer 0) (sealed .seal .ensures .0) (sealed .seal .ensures .1))
 
 pub prim-gcm-seal-spec : {M : Type 1} → statement M
 prim-gcm-seal-spec =
-    tie.close
-    (tie.spec sizes-fit-requires returns seal-requires same-length same-length-2 returns-2)
+    tie.close (tie.spec (λ c κs. search needs) returns seal-requires (λ c. search needs) (λ c. search needs) returns-2)

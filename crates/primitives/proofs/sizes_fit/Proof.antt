@@ -1,27 +1,34 @@
+-- `sizes_fit` meets its contract: one test after the other.
+-- Assumes nothing.
+use borrow.Author.Tests.{eq-eqb, ne-eqb, le-leb, lt-leb}
+use Rattle.primitives.specs.Sealing.{sizesFit}
 use Rattle.primitives.proofs.sizes_fit.Statement.{statement}
 use Rattle.primitives.proofs.sizes_fit.Tie as tie
-use Rattle.primitives.proofs.sizes_fit.Reads as reads
-use Rattle.primitives.proofs.sizes_fit.Lts as lts
 
--- src/lib.rt:58:9
 returns : tie.Need-returns
-returns c = ?
+unfolding sizesFit
+returns c = simp (ne-eqb _ _ (c .if1 .taken))
 
--- src/lib.rt:61:9
 returns-2 : tie.Need-returns-2
-returns-2 c = ?
+unfolding sizesFit
+returns-2 c = simp (eq-eqb _ _ (c .before .if1 .left), ne-eqb _ _ (c .if2 .taken))
 
--- src/lib.rt:64:9
 returns-3 : tie.Need-returns-3
-returns-3 c = ?
+unfolding sizesFit
+returns-3 c = simp (eq-eqb _ _ (c .before .before .if1 .left), eq-eqb _ _ (c .before .if2 .left), lt-leb _ _ (c .if3 .taken))
 
--- src/lib.rt:67:9
 returns-4 : tie.Need-returns-4
-returns-4 c = ?
+unfolding sizesFit
+returns-4 c =
+    let passed = c .before in
+    simp (eq-eqb _ _ (passed .before .before .if1 .left), eq-eqb _ _ (passed .before .if2 .left), le-leb _ _ (passed .if3 .left), ne-eqb _ _ (c .if4 .taken))
 
--- src/lib.rt:54:1
 returns-5 : tie.Need-returns-5
-returns-5 c = ?
+unfolding sizesFit
+returns-5 c =
+    let passed = c .before in
+    simp (eq-eqb _ _ (passed .before .before .if1 .left), eq-eqb _ _ (passed .before .if2 .left), le-leb _ _ (passed .if3 .left), eq-eqb _ _ (c .if4 .left))
 
 pub sizes-fit-spec : {M : Type 1} → statement M
-sizes-fit-spec = tie.close (tie.spec returns returns-2 returns-3 returns-4 returns-5)
+sizes-fit-spec =
+    tie.close (tie.spec returns returns-2 returns-3 returns-4 returns-5)

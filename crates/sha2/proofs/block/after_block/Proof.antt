@@ -5,6 +5,7 @@ use mathlib.Core.Path.{ap, ap₂, _∙_}
 use mathlib.Core.List.{List}
 use Prim.Native.Nat.{ℕ}
 use Rattle.sha2.specs.Block.{rounds, sumOf, afterBlock}
+use Rattle.sha2.proofs.Schedule.{whole-schedule}
 use Rattle.sha2.proofs.block.after_block.Statement.{statement}
 use Rattle.sha2.proofs.block.after_block.Tie as tie
 
@@ -12,12 +13,14 @@ returns : tie.Need-returns
 unfolding afterBlock
 returns c =
     let start = c .before .before .before .before .before .before .before .before in
+    let block : List ℕ = start .args .block .now in
     let load = c .before .before .before .before .before .load in
     let extend = c .before .before .before .extend in
     c .sum .ensures
     ∙ ap (sumOf (start .args .v))
     (c .before .rounds .ensures
-    ∙ ap₂ (λ (ks ws : List ℕ). rounds ks ws (start .args .v) 80) (start .pre .0) (extend .ensures (start .args .block .now) (load .ensures .1)))
+    ∙ ap₂ (λ (ks ws : List ℕ). rounds ks ws (start .args .v) 80) (start .pre .0)
+    (whole-schedule block (extend .last .0) (extend .ensures block (load .ensures))))
 
 pub after-block-spec : {M : Type 1} → statement M
 after-block-spec =

@@ -1,6 +1,6 @@
 -- `sha2::block::after_blocks` meets its contract. The loop's invariant: the first i blocks are hashed.
 -- Assumes nothing.
-use mathlib.Core.Path.{_≡_, refl, ap, ap₂, _∙_}
+use mathlib.Core.Path.{_≡_, refl, sym, ap, ap₂, _∙_}
 use mathlib.Core.List.{List}
 use Prim.Native.Nat.{ℕ, _+_, _*_, _-_, _≤_}
 use native.Mathlib.Numerals.{add-one}
@@ -26,21 +26,27 @@ loop-holds c = (omega arith, refl)
 after-block-requires : tie.Need-after-block-requires Inv-loop μ-loop
 unfolding K
 after-block-requires c κs =
-    let m : List ℕ = c .before .before .before .before .before .args .m .now in
+    let m : List ℕ = c .before .before .before .before .before .before .args .m .now in
     let at = 128 * c .before .before .before .loop .i in
     (refl, length-part m at (at + 128 - at) (omega arith) ∙ omega arith)
 
 loop-again : tie.Need-loop-again Inv-loop μ-loop
 unfolding afterBlocks
 loop-again c =
-    let m : List ℕ = c .before .before .before .before .before .before .args .m .now in
+    let m : List ℕ = c .before .before .before .before .before .before .before .args .m .now in
     let at = 128 * c .before .before .before .before .loop .i in
     let size : at + 128 - at ≡ 128 = omega arith in
     (omega arith, rw add-one (c .after-block .ensures ∙ ap₂ afterBlock (c .before .before .before .before .loop .inv .1) (ap (part m at) size)))
 
 returns : tie.Need-returns Inv-loop μ-loop
+unfolding afterBlocks
 returns c =
-    let start = c .before .before .before in
+    let start = c .before .before in
+    ap (afterBlocks (start .args .v) (start .args .m .now)) (sym (c .if1 .taken))
+
+returns-2 : tie.Need-returns-2 Inv-loop μ-loop
+returns-2 c =
+    let start = c .before .before .before .before in
     let e : c .before .loop .i ≡ start .args .n = omega arith in
     c .before .loop .inv .1 ∙ ap (afterBlocks (start .args .v) (start .args .m .now)) e
 
@@ -50,6 +56,7 @@ after-blocks-spec =
     (tie.spec
     Inv-loop
     μ-loop
+    returns
     loop-holds
     (λ c. omega arith)
     (λ c. omega arith)
@@ -60,4 +67,4 @@ after-blocks-spec =
     (λ c. omega arith)
     (λ c. omega arith)
     loop-again
-    returns)
+    returns-2)

@@ -1,37 +1,32 @@
--- `sha2::block::extend` meets its contract. The loop's invariant: the first t words are the schedule's.
+-- `sha2::block::extend` meets its contract. The loop's invariant: the first 8 * q words are the schedule's.
 -- Assumes nothing.
 use mathlib.Core.Path.{_≡_}
 use mathlib.Core.List.{List}
-use Prim.Native.Nat.{ℕ, _-_, _≤_}
+use Prim.Native.Nat.{ℕ, _+_, _-_, _*_, _≤_}
 use native.Mathlib.Omega.{arith}
-use lib.ListN.{length, take, length-set}
-use Rattle.sha2.specs.Block.{schedule}
-use Rattle.sha2.proofs.Schedule.{mixed-word, whole-schedule}
+use Rattle.sha2.specs.Laid.{Laid}
 use Rattle.sha2.proofs.block.extend.Statement.{statement}
 use Rattle.sha2.proofs.block.extend.Tie as tie
 
 abbrev Inv-loop : tie.InvT-loop
-Inv-loop w₀ t₀ w t =
-    (16 ≤ t) × (t ≤ 80) × (length w ≡ 80) × ((block : List ℕ) → take 16 w₀ ≡ schedule block 16 → take t w ≡ schedule block t)
+Inv-loop w₀ q₀ w q = (2 ≤ q) × (q ≤ 10) × ((block : List ℕ) → Laid w₀ block 16 → Laid w block (8 * q))
 
 abbrev μ-loop : tie.MeasureT-loop
-μ-loop w₀ t₀ w t = 80 - t
+μ-loop w₀ q₀ w q = 10 - q
 
 loop-holds : tie.Need-loop-holds Inv-loop μ-loop
-loop-holds c = (omega arith, omega arith, omega arith, λ block p. p)
+loop-holds c = (omega arith, omega arith, λ block laid. laid)
 
 loop-again : tie.Need-loop-again Inv-loop μ-loop
 loop-again c =
-    let loop = c .before .before .before .before .before .before .loop in (
-      omega arith,
-      omega arith,
-      simp length-set (omega arith),
-      λ block p. mixed-word block (loop .w) (loop .t) (loop .inv .3 block p) (omega arith) (c .mix .result) (omega arith) (c .mix .ensures),
-    )
+    let loop = c .before .before .before .loop in
+    let e : 8 * loop .q + 8 ≡ 8 * (loop .q + 1) = omega arith in
+    (omega arith, omega arith, λ block laid. rw e at (c .eight-words .ensures block (loop .inv .2 block laid)))
 
 returns : tie.Need-returns Inv-loop μ-loop
-returns c block p =
-    whole-schedule block (c .before .loop .w) (c .before .loop .t) (c .before .loop .inv .3 block p) (omega arith) (omega arith)
+returns c block laid =
+    let e : 8 * c .before .loop .q ≡ 80 = omega arith in
+    rw e at (c .before .loop .inv .2 block laid)
 
 pub extend-spec : {M : Type 1} → statement M
 extend-spec =
@@ -41,20 +36,7 @@ extend-spec =
     μ-loop
     loop-holds
     (λ c. omega arith)
-    (λ c. omega arith)
-    (λ c. omega arith)
-    (λ c. omega arith)
-    (λ c. omega arith)
-    (λ c. omega arith)
-    (λ c. omega arith)
-    (λ c. omega arith)
-    (λ c. omega arith)
-    (λ c. omega arith)
-    (λ c. omega arith)
-    (λ c. omega arith)
-    (λ c κs. tt)
-    (λ c. omega arith)
-    (λ c. omega arith)
+    (λ c κs. omega arith)
     (λ c. omega arith)
     (λ c. omega arith)
     loop-again

@@ -21,7 +21,7 @@ loop-again : tie.Need-loop-again Inv-loop μ-loop
 loop-again c =
     let q = c .before .before .loop .q in
     let e : 8 * q + 8 ≡ 8 * (q + 1) = omega arith in
-    (omega arith, rw e at (c .eight .ensures (c .before .before .before .args .v) (c .before .before .loop .inv .1)))
+    (omega arith, rw e at (c .eight-rounds .ensures (c .before .before .before .args .v) (c .before .before .loop .inv .1)))
 
 returns : tie.Need-returns Inv-loop μ-loop
 returns c =

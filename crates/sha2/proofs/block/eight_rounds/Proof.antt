@@ -1,11 +1,11 @@
--- `sha2::block::eight` meets its contract: eight turns, one after the other.
+-- `sha2::block::eight_rounds` meets its contract: eight turns, one after the other.
 -- Assumes nothing.
 use mathlib.Core.Path.{ap, sym, _∙_}
 use native.Mathlib.Nat.{add-zero}
 use native.Mathlib.Omega.{arith}
 use Rattle.sha2.specs.Block.{rounds}
-use Rattle.sha2.proofs.block.eight.Statement.{statement}
-use Rattle.sha2.proofs.block.eight.Tie as tie
+use Rattle.sha2.proofs.block.eight_rounds.Statement.{statement}
+use Rattle.sha2.proofs.block.eight_rounds.Tie as tie
 
 returns : tie.Need-returns
 returns c v0 p =
@@ -20,8 +20,8 @@ returns c v0 p =
     (c .before .before .before .before .before .before .before .turn .ensures v0
     (p ∙ ap (rounds (start .args .k .now) (start .args .w .now) v0) (sym (add-zero (start .args .t)))))))))))
 
-pub eight-spec : {M : Type 1} → statement M
-eight-spec =
+pub eight-rounds-spec : {M : Type 1} → statement M
+eight-rounds-spec =
     tie.close
     (tie.spec
     (λ c κs. omega arith)

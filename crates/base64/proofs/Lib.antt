@@ -1,0 +1,9 @@
+-- The laws that callers' proofs cite, and those of this crate's own functions.
+pub mod Tables
+pub mod Alphabet
+pub mod Groups
+pub mod Reading
+pub mod Steps
+pub mod Exactly
+pub mod Encoded
+pub mod Filling

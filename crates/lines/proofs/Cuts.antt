@@ -1,0 +1,47 @@
+-- Laws of parts of a run, from one index up to another.
+-- Assumes nothing.
+use mathlib.Core.Path.{_≡_, refl, sym, ap, ap₂, _∙_}
+use mathlib.Core.List.{List, [], _∷_, _++_}
+use Prim.Native.Nat.{ℕ, zero, suc, _+_, _-_, _≤_, _<_}
+use native.Mathlib.Numerals.{add-one}
+use native.Mathlib.Omega.{arith}
+use lib.ListN.{length, getD, take, drop, take-append-drop, length-drop}
+use lib.Seq.{drop-cons, drop-drop, take-suc, getD-drop, length-take-le}
+use Rattle.orders.specs.Spans.{cut}
+
+pub length-cut : (xs : List ℕ) (a e : ℕ) → e ≤ length xs → length (cut xs a e) ≡ e - a
+length-cut xs a e h = length-take-le (e - a) (drop a xs) (omega (arith, length-drop a xs))
+
+pub cut-none : (xs : List ℕ) (a e : ℕ) → e ≤ a → cut xs a e ≡ []
+cut-none xs a e h = let z : e - a ≡ 0 = omega arith in rw z
+
+-- a part, and what stands after it
+pub cut-split : (xs : List ℕ) (a e : ℕ) → a ≤ e → drop a xs ≡ cut xs a e ++ drop e xs
+cut-split xs a e h =
+    let end : a + (e - a) ≡ e = omega arith in
+    sym (take-append-drop (e - a) (drop a xs))
+    ∙ ap (λ (l : List ℕ). cut xs a e ++ l) (drop-drop (e - a) a xs ∙ ap (λ (n : ℕ). drop n xs) end)
+
+pub cut-first : (xs : List ℕ) (a e : ℕ) → a < e → e ≤ length xs → cut xs a e ≡ getD xs a 0 ∷ cut xs (a + 1) e
+cut-first xs a e h k =
+    let size : e - a ≡ suc (e - (a + 1)) = omega arith in
+    ap₂ (λ (n : ℕ) (l : List ℕ). take n l) size (drop-cons xs a 0 (omega arith))
+    ∙ ap (λ (n : ℕ). getD xs a 0 ∷ take (e - (a + 1)) (drop n xs)) (sym (add-one a))
+
+pub cut-last : (xs : List ℕ) (a e : ℕ) → a < e → e ≤ length xs → cut xs a e ≡ cut xs a (e - 1) ++ (getD xs (e - 1) 0 ∷ [])
+cut-last xs a e h k =
+    let size : e - a ≡ suc (e - 1 - a) = omega arith in
+    ap (λ (n : ℕ). take n (drop a xs)) size
+    ∙ take-suc (drop a xs) (e - 1 - a) 0 (omega (arith, length-drop a xs))
+    ∙ ap (λ (b : ℕ). cut xs a (e - 1) ++ (b ∷ [])) (getD-drop a xs (e - 1 - a) 0 ∙ ap (λ (n : ℕ). getD xs n 0) (omega arith))
+
+-- past the end stands a 0
+pub inside : (xs : List ℕ) (i : ℕ) → (getD xs i 0 ≡ 0 → ⊥) → i < length xs
+inside [] i h = absurd (h refl)
+inside (x ∷ xs) zero h = omega arith
+inside (x ∷ xs) (suc i) h = omega (arith, inside xs i h)
+
+-- a byte that is not 0 stands within, and the bytes from it on begin with it
+pub drop-at : (xs : List ℕ) (i b : ℕ) → getD xs i 0 ≡ b → (b ≡ 0 → ⊥) → drop i xs ≡ b ∷ drop (i + 1) xs
+drop-at xs i b e h =
+    drop-cons xs i 0 (inside xs i (λ z. h (sym e ∙ z))) ∙ ap₂ (λ (c n : ℕ). c ∷ drop n xs) e (sym (add-one i))

@@ -1,0 +1,95 @@
+-- Where a line stands in a block: from the places to the line, and back.
+-- Assumes nothing.
+use mathlib.Core.Path.{_≡_, refl, sym, ap, ap₂, _∙_}
+use mathlib.Core.List.{List, [], _∷_, _++_}
+use mathlib.Core.Bool.{Bool, true, false}
+use Prim.Native.Nat.{ℕ, zero, suc, _+_, _-_, _≤_, _<_}
+use native.Mathlib.Numerals.{add-one}
+use native.Mathlib.Omega.{arith}
+use lib.ListN.{length, getD, take, drop}
+use lib.Seq.{drop-drop, getD-drop, getD-append-seam, getD-append-add}
+use Rattle.orders.specs.Spans.{all, leading, Spans, cut}
+use Rattle.orders.specs.Names.{tokenByte}
+use Rattle.orders.proofs.Spans.{leading-append, leading-all}
+use Rattle.lines.specs.Lines.{Line, colon, CR, LF, valueByte, goodLine, lineText}
+use Rattle.lines.specs.Places.{lineBetween, WholeLine}
+use Rattle.lines.proofs.Cuts.{length-cut, cut-split, inside, drop-at}
+use Rattle.lines.proofs.Lines.{good-name, good-value, good-line, colon-ends, return-ends, line-parts, drop-past}
+
+-- the part of a run that a span takes passes
+span-all : (p : ℕ → Bool) (xs : List ℕ) (a e : ℕ) → Spans p xs a e → all p (cut xs a e) ≡ true
+span-all p xs a e s =
+    let size : e - a ≡ leading p (drop a xs) = omega (arith, s .is) in
+    rw size (leading-all p (drop a xs))
+
+-- a token, a colon, bytes of a value, CR and LF are a line
+pub whole : (block : List ℕ) (at c e : ℕ) → Spans tokenByte block at c → (c ≡ at → ⊥) → getD block c 0 ≡ colon
+    → Spans valueByte block (c + 1) e → getD block e 0 ≡ CR → getD block (e + 1) 0 ≡ LF → WholeLine block at c e
+whole block at c e s n p t q r =
+    let l = lineBetween block at c e in
+    let last : e + 1 < length block = inside block (e + 1) (λ z. omega arith) in
+    let more : at < c = omega (arith, s .is) in
+    let value : c < e = omega (arith, t .is) in
+    let twice : e + 1 + 1 ≡ e + 2 = omega arith in
+    let text : drop at block ≡ l .name ++ (colon ∷ (l .value ++ (CR ∷ LF ∷ drop (e + 2) block))) =
+    cut-split block at c (omega arith)
+    ∙ ap (λ (xs : List ℕ). l .name ++ xs)
+    (drop-at block c colon p (λ z. omega arith)
+    ∙ ap (λ (xs : List ℕ). colon ∷ xs)
+    (cut-split block (c + 1) e (omega arith)
+    ∙ ap (λ (xs : List ℕ). l .value ++ xs)
+    (drop-at block e CR q (λ z. omega arith)
+    ∙ ap (λ (xs : List ℕ). CR ∷ xs) (drop-at block (e + 1) LF r (λ z. omega arith) ∙ ap (λ (k : ℕ). LF ∷ drop k block) twice))))
+    in
+    record {
+      named = more;
+      ordered = value;
+      within = omega arith;
+      good = good-line l (omega (arith, length-cut block at c (s .within))) (span-all tokenByte block at c s) (span-all valueByte block (c + 1) e t);
+      text = text ∙ sym (line-parts l (drop (e + 2) block));
+    }
+
+-- where a good line stands, the places are these
+module _ (block : List ℕ) (at : ℕ) (l : Line) (rest : List ℕ) (g : goodLine l ≡ true) (h : drop at block ≡ lineText l ++ rest) (c : ℕ) (s : Spans tokenByte block at c) where
+  parts : drop at block ≡ l .name ++ (colon ∷ (l .value ++ (CR ∷ LF ∷ rest)))
+  parts = h ∙ line-parts l rest
+
+  name-size : c ≡ at + length (l .name)
+  name-size =
+      s .is
+      ∙ ap (λ (k : ℕ). at + k) (ap (leading tokenByte) parts ∙ leading-append tokenByte (l .name) colon (l .value ++ (CR ∷ LF ∷ rest)) (good-name l g .1) colon-ends)
+
+  pub named-at : at < c
+  named-at = omega (arith, name-size, good-name l g .0)
+
+  pub colon-at : getD block c 0 ≡ colon
+  colon-at =
+      ap (λ (k : ℕ). getD block k 0) name-size ∙ sym (getD-drop at block (length (l .name)) 0)
+      ∙ ap (λ (xs : List ℕ). getD xs (length (l .name)) 0) parts
+      ∙ getD-append-seam (l .name) colon (l .value ++ (CR ∷ LF ∷ rest)) 0
+
+  value-drop : drop (c + 1) block ≡ l .value ++ (CR ∷ LF ∷ rest)
+  value-drop =
+      let end : c + 1 ≡ at + suc (length (l .name)) = omega (arith, name-size) in
+      ap (λ (k : ℕ). drop k block) end ∙ sym (drop-drop (suc (length (l .name))) at block)
+      ∙ ap (drop (suc (length (l .name)))) parts
+      ∙ drop-past (l .name) colon (l .value ++ (CR ∷ LF ∷ rest))
+
+  module _ (e : ℕ) (t : Spans valueByte block (c + 1) e) where
+    value-size : e ≡ c + 1 + length (l .value)
+    value-size =
+        t .is
+        ∙ ap (λ (k : ℕ). c + 1 + k) (ap (leading valueByte) value-drop ∙ leading-append valueByte (l .value) CR (LF ∷ rest) (good-value l g) return-ends)
+
+    pub return-at : getD block e 0 ≡ CR
+    return-at =
+        ap (λ (k : ℕ). getD block k 0) value-size ∙ sym (getD-drop (c + 1) block (length (l .value)) 0)
+        ∙ ap (λ (xs : List ℕ). getD xs (length (l .value)) 0) value-drop
+        ∙ getD-append-seam (l .value) CR (LF ∷ rest) 0
+
+    pub feed-at : getD block (e + 1) 0 ≡ LF
+    feed-at =
+        let end : e + 1 ≡ c + 1 + (length (l .value) + 1) = omega (arith, value-size) in
+        ap (λ (k : ℕ). getD block k 0) end ∙ sym (getD-drop (c + 1) block (length (l .value) + 1) 0)
+        ∙ ap (λ (xs : List ℕ). getD xs (length (l .value) + 1) 0) value-drop
+        ∙ getD-append-add (l .value) (CR ∷ LF ∷ rest) 1 0

@@ -1,0 +1,101 @@
+-- `find` meets its contract: no line from at up to place bears the name.
+-- Assumes nothing.
+use borrow.Author.Needs.{needs}
+use mathlib.Core.Path.{_≡_, refl, sym, ap, _∙_}
+use mathlib.Core.List.{List}
+use mathlib.Core.Option.{some}
+use Prim.Native.Nat.{ℕ, _≤_, _-_}
+use native.Mathlib.Omega.{arith}
+use lib.ListN.{length, drop}
+use Rattle.lines.specs.Lines.{Line, linesIn}
+use Rattle.lines.specs.Values.{timesNamed, valueIn}
+use Rattle.lines.specs.Places.{WholeLine}
+use Rattle.lines.proofs.Lines.{lines-stop}
+use Rattle.lines.proofs.Named.{lines-at, lines-end, value-here, value-later, value-none, times-here, times-later, times-none}
+use Rattle.lines.proofs.find.Statement.{statement}
+use Rattle.lines.proofs.find.Tie as tie
+
+abbrev Inv-loop : tie.InvT-loop
+Inv-loop block at name place₀ place =
+    (place ≤ length block) × (valueIn (linesIn (drop at block)) name ≡ valueIn (linesIn (drop place block)) name)
+    × (timesNamed (linesIn (drop at block)) name ≡ timesNamed (linesIn (drop place block)) name)
+
+abbrev μ-loop : tie.MeasureT-loop
+μ-loop block at name place₀ place = length block - place
+
+line : (c : tie.After-colon Inv-loop μ-loop)
+    → WholeLine (c .before .before .before .before .before .before .before .args .block .now) (c .before .before .before .before .loop .place)
+    (c .colon .given .0 .0) (c .colon .given .0 .1 .0)
+line c = rw (c .colon .given .1) at (c .before .before .line-at .ensures)
+
+returns : tie.Need-returns Inv-loop μ-loop
+returns c =
+    let at = c .before .before .before .before .loop in
+    let name = c .before .before .before .before .before .before .before .args .name .now in
+    let none = lines-stop _ (rw (c .enum-told .given .1) at (c .before .before .line-at .ensures)) in
+    record {
+      value = at .inv .1 ∙ ap (λ (ls : List Line). valueIn ls name) none ∙ value-none name;
+      times = at .inv .2 ∙ ap (λ (ls : List Line). timesNamed ls name) none ∙ times-none name;
+    }
+
+returns-2 : tie.Need-returns-2 Inv-loop μ-loop
+returns-2 c =
+    let at = c .before .before .before .before .before .before .before .before .before .loop in
+    let args = c .before .before .before .before .before .before .before .before .before .before .before .before .args in
+    let here = line (c .before .before .before .before .before) in
+    let lines = lines-at (args .block .now) (at .place) _ _ here in
+    let same = sym (c .before .before .same-name .ensures) ∙ c .before .if1 .taken in
+    let trims = c .trim .ensures in
+    record {
+      ordered = trims .ordered;
+      within = omega (arith, trims .within, here .within);
+      after = here .within;
+      value = at .inv .1 ∙ ap (λ (ls : List Line). valueIn ls (args .name .now)) lines ∙ value-here _ _ _ same ∙ ap (λ (v : List ℕ). some v) (trims .is);
+      times = at .inv .2 ∙ ap (λ (ls : List Line). timesNamed ls (args .name .now)) lines ∙ times-here _ _ _ same;
+    }
+
+loop-again : tie.Need-loop-again Inv-loop μ-loop
+loop-again c =
+    let at = c .before .before .before .before .before .before .before .before .loop in
+    let args = c .before .before .before .before .before .before .before .before .before .before .before .args in
+    let here = line (c .before .before .before .before) in
+    let lines = lines-at (args .block .now) (at .place) _ _ here in
+    let other = sym (c .before .same-name .ensures) ∙ c .if1 .left in (
+      here .within,
+      at .inv .1 ∙ ap (λ (ls : List Line). valueIn ls (args .name .now)) lines ∙ value-later _ _ _ other,
+      at .inv .2 ∙ ap (λ (ls : List Line). timesNamed ls (args .name .now)) lines ∙ times-later _ _ _ other,
+    )
+
+returns-3 : tie.Need-returns-3 Inv-loop μ-loop
+returns-3 c =
+    let at = c .before .loop in
+    let args = c .before .before .before .before .args in
+    let none = lines-end (args .block .now) (at .place) (c .loop-test .left) in
+    record {
+      value = at .inv .1 ∙ ap (λ (ls : List Line). valueIn ls (args .name .now)) none ∙ value-none (args .name .now);
+      times = at .inv .2 ∙ ap (λ (ls : List Line). timesNamed ls (args .name .now)) none ∙ times-none (args .name .now);
+    }
+
+pub find-spec : {M : Type 1} → statement M
+find-spec =
+    tie.close
+    (tie.spec
+    Inv-loop
+    μ-loop
+    (λ c. (search needs, refl, refl))
+    (λ c κs. search needs)
+    (λ c. search needs)
+    (λ c. search needs)
+    returns
+    (λ c. omega (arith, line (c .before)))
+    (λ c. omega (arith, line (c .before)))
+    (λ c. omega (arith, line (c .before)))
+    (λ c κs. search needs)
+    (λ c. omega (arith, line (c .before .before .before .before)))
+    (λ c κs. omega (arith, line (c .before .before .before .before)))
+    (λ c. omega (arith, line (c .before .before .before .before .before)))
+    returns-2
+    (λ c. omega (arith, line (c .before .before .before .before)))
+    (λ c. omega (arith, line (c .before .before .before .before)))
+    loop-again
+    returns-3)

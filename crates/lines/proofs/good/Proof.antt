@@ -1,0 +1,54 @@
+-- `good` meets its contract: the block is lines exactly if what stands from at on is.
+-- Assumes nothing.
+use borrow.Author.Needs.{needs}
+use mathlib.Core.Path.{_≡_, refl, sym, _∙_}
+use Prim.Native.Nat.{_≤_, _-_}
+use native.Mathlib.Omega.{arith}
+use lib.ListN.{length, drop, length-drop}
+use Rattle.lines.specs.Lines.{goodBlock}
+use Rattle.lines.specs.Places.{WholeLine}
+use Rattle.lines.proofs.Lines.{good-stop}
+use Rattle.lines.proofs.Named.{good-at, good-end}
+use Rattle.lines.proofs.good.Statement.{statement}
+use Rattle.lines.proofs.good.Tie as tie
+
+abbrev Inv-loop : tie.InvT-loop
+Inv-loop block at₀ at = (at ≤ length block) × (goodBlock block ≡ goodBlock (drop at block))
+
+abbrev μ-loop : tie.MeasureT-loop
+μ-loop block at₀ at = length block - at
+
+line : (c : tie.After-end Inv-loop μ-loop)
+    → WholeLine (c .before .before .before .before .before .before .args .block .now) (c .before .before .before .before .loop .at) (c .«end» .given .0 .0)
+    (c .«end» .given .0 .1 .0)
+line c = rw (c .«end» .given .1) at (c .before .before .line-at .ensures)
+
+returns : tie.Need-returns Inv-loop μ-loop
+returns c =
+    let at = c .before .before .before .before .loop in
+    let block = c .before .before .before .before .before .before .args .block .now in
+    let broken = rw (c .enum-told .given .1) at (c .before .before .line-at .ensures) in
+    sym (at .inv .1 ∙ good-stop (drop (at .at) block) (omega (arith, length-drop (at .at) block)) broken)
+
+loop-again : tie.Need-loop-again Inv-loop μ-loop
+loop-again c =
+    let here = line (c .before) in (here .within, c .before .before .before .before .before .loop .inv .1 ∙ good-at _ _ _ _ here)
+
+returns-2 : tie.Need-returns-2 Inv-loop μ-loop
+returns-2 c = sym (c .before .loop .inv .1 ∙ good-end _ _ (c .loop-test .left))
+
+pub good-spec : {M : Type 1} → statement M
+good-spec =
+    tie.close
+    (tie.spec
+    Inv-loop
+    μ-loop
+    (λ c. (omega arith, refl))
+    (λ c κs. search needs)
+    (λ c. search needs)
+    (λ c. search needs)
+    returns
+    (λ c. omega (arith, line (c .before)))
+    (λ c. omega (arith, line (c .before)))
+    loop-again
+    returns-2)

@@ -1,0 +1,46 @@
+-- `repeats` meets its contract: the 55 names first, and then the extra ones.
+-- Assumes nothing.
+use borrow.Author.Needs.{needs}
+use mathlib.Core.Path.{_≡_, sym, ap, _∙_}
+use mathlib.Core.List.{List}
+use mathlib.Core.Bool.{Bool, _||_}
+use Prim.Native.Nat.{ℕ}
+use Rattle.orders.specs.Extra.{extraNames}
+use Rattle.orders.proofs.Walk.{covered-names}
+use Rattle.lines.specs.Lines.{linesIn}
+use Rattle.lines.specs.Values.{repeated}
+use Rattle.lines.proofs.Named.{repeated-append}
+use Rattle.lines.proofs.repeats.Statement.{statement}
+use Rattle.lines.proofs.repeats.Tie as tie
+
+returns : tie.Need-returns
+returns c =
+    let args = c .before .before .before .before .before .before .args in
+    let ls = linesIn (args .block .now) in
+    sym
+    (ap (λ (ns : List (List ℕ)). repeated ns ls) (covered-names (args .mask) (args .extra .now) _ (c .before .before .before .names .ensures))
+    ∙ repeated-append _ (extraNames (args .extra .now)) ls
+    ∙ ap (λ (b : Bool). b || repeated (extraNames (args .extra .now)) ls) (sym (c .before .repeats-in .ensures) ∙ c .if1 .taken))
+
+returns-2 : tie.Need-returns-2
+returns-2 c =
+    let before = c .before .before .before in
+    let args = before .before .before .before .before .before .args in
+    let ls = linesIn (args .block .now) in
+    c .repeats-in2 .ensures ∙ ap (λ (ns : List (List ℕ)). repeated ns ls) (c .before .extra-bits .ensures)
+    ∙ sym
+    (ap (λ (ns : List (List ℕ)). repeated ns ls) (covered-names (args .mask) (args .extra .now) _ (before .before .before .names .ensures))
+    ∙ repeated-append _ (extraNames (args .extra .now)) ls
+    ∙ ap (λ (b : Bool). b || repeated (extraNames (args .extra .now)) ls) (sym (before .repeats-in .ensures) ∙ c .before .before .if1 .left))
+
+pub repeats-spec : {M : Type 1} → statement M
+repeats-spec =
+    tie.close
+    (tie.spec
+    (λ c κs. search needs)
+    (λ c. search needs)
+    (λ c κs. search needs)
+    returns
+    (λ c κs. search needs)
+    (λ c κs. search needs)
+    returns-2)

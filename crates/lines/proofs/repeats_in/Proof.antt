@@ -1,0 +1,68 @@
+-- `repeats_in` meets its contract: none of the chosen names up to at stands twice.
+-- Assumes nothing.
+use borrow.Author.Needs.{needs}
+use mathlib.Core.Path.{_≡_, refl, sym, ap, _∙_}
+use mathlib.Core.List.{List}
+use Prim.Native.Nat.{ℕ, _+_, _-_}
+use native.Mathlib.Omega.{arith}
+use lib.ListN.{length}
+use Rattle.orders.specs.Orders.{chosen}
+use Rattle.orders.specs.Walk.{namesFrom, FirstName}
+use Rattle.lines.specs.Lines.{linesIn}
+use Rattle.lines.specs.Values.{repeated}
+use Rattle.lines.proofs.Named.{repeated-none, repeated-here, repeated-later}
+use Rattle.lines.proofs.repeats_in.Statement.{statement}
+use Rattle.lines.proofs.repeats_in.Tie as tie
+
+abbrev Inv-loop : tie.InvT-loop
+Inv-loop block run wanted left₀ at₀ left at =
+    repeated (chosen wanted (namesFrom run 0)) (linesIn block) ≡ repeated (chosen left (namesFrom run at)) (linesIn block)
+
+abbrev μ-loop : tie.MeasureT-loop
+μ-loop block run wanted left₀ at₀ left at = length run + 1 - at
+
+name : (c : tie.After-start Inv-loop μ-loop)
+    → FirstName (c .before .before .before .before .before .before .args .run .now) (c .before .before .before .loop .left) (c .before .before .before .loop .at)
+    (c .start .given .0 .0) (c .start .given .0 .1 .0) (c .start .given .0 .1 .1 .0)
+name c = rw (c .start .given .1) at (c .before .before .next-name .ensures)
+
+returns : tie.Need-returns Inv-loop μ-loop
+returns c =
+    let block = c .before .before .before .before .before .before .args .block .now in
+    let none = rw (c .enum-told .given .1) at (c .before .before .next-name .ensures) in
+    sym (c .before .before .before .loop .inv ∙ ap (λ (ns : List (List ℕ)). repeated ns (linesIn block)) none ∙ repeated-none (linesIn block))
+
+returns-2 : tie.Need-returns-2 Inv-loop μ-loop
+returns-2 c =
+    let before = c .before .before .before .before in
+    let block = before .before .before .before .before .before .before .args .block .now in
+    sym
+    (before .before .before .before .loop .inv ∙ ap (λ (ns : List (List ℕ)). repeated ns (linesIn block)) (name before .names)
+    ∙ repeated-here _ _ _ (sym (c .before .twice .ensures) ∙ c .if1 .taken))
+
+loop-again : tie.Need-loop-again Inv-loop μ-loop
+loop-again c =
+    let before = c .before .before .before .before in
+    let block = before .before .before .before .before .before .before .args .block .now in
+    before .before .before .before .loop .inv ∙ ap (λ (ns : List (List ℕ)). repeated ns (linesIn block)) (name before .names)
+    ∙ repeated-later _ _ _ (sym (c .before .twice .ensures) ∙ c .if1 .left)
+
+pub repeats-in-spec : {M : Type 1} → statement M
+repeats-in-spec =
+    tie.close
+    (tie.spec
+    Inv-loop
+    μ-loop
+    (λ c. refl)
+    (λ c κs. search needs)
+    (λ c. search needs)
+    (λ c. search needs)
+    returns
+    (λ c. omega (arith, name (c .before)))
+    (λ c. omega (arith, name (c .before)))
+    (λ c. omega (arith, name (c .before)))
+    (λ c κs. search needs)
+    returns-2
+    (λ c. omega (arith, name (c .before .before .before .before)))
+    (λ c. omega (arith, name (c .before .before .before .before)))
+    loop-again)

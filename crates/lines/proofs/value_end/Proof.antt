@@ -1,0 +1,48 @@
+-- `value_end` meets its contract: the bytes from at up to i are of a value.
+-- Assumes nothing.
+use borrow.Author.Needs.{needs}
+use borrow.Author.Tests.{not-true, not-false}
+use mathlib.Core.Path.{sym, _∙_}
+use Prim.Native.Nat.{_-_}
+use lib.ListN.{length}
+use Rattle.lines.specs.Lines.{valueByte}
+use Rattle.orders.proofs.Spans.{Passed, passed-none, passed-more, passed-stop, passed-end}
+use Rattle.lines.proofs.value_end.Statement.{statement}
+use Rattle.lines.proofs.value_end.Tie as tie
+
+abbrev Inv-loop : tie.InvT-loop
+Inv-loop block at i₀ i = Passed valueByte block at i
+
+abbrev μ-loop : tie.MeasureT-loop
+μ-loop block at i₀ i = length block - i
+
+loop-holds : tie.Need-loop-holds Inv-loop μ-loop
+loop-holds c = passed-none valueByte _ _ (c .before .pre)
+
+returns : tie.Need-returns Inv-loop μ-loop
+returns c =
+    passed-stop valueByte _ _ _ (c .before .before .before .before .loop .inv) (search needs)
+    (sym (c .before .value-byte .ensures) ∙ not-true _ (c .if1 .taken))
+
+loop-again : tie.Need-loop-again Inv-loop μ-loop
+loop-again c =
+    passed-more valueByte _ _ _ (c .before .before .before .before .loop .inv) (search needs)
+    (sym (c .before .value-byte .ensures) ∙ not-false _ (c .if1 .left))
+
+returns-2 : tie.Need-returns-2 Inv-loop μ-loop
+returns-2 c = passed-end valueByte _ _ _ (c .before .loop .inv) (c .loop-test .left)
+
+pub value-end-spec : {M : Type 1} → statement M
+value-end-spec =
+    tie.close
+    (tie.spec
+    Inv-loop
+    μ-loop
+    loop-holds
+    (λ c. search needs)
+    (λ c κs. search needs)
+    returns
+    (λ c. search needs)
+    (λ c. search needs)
+    loop-again
+    returns-2)

@@ -1,0 +1,68 @@
+-- Where lines and values stand in a block: how the code's contracts say it.
+-- Assumes nothing.
+use Prim.Native.Nat.{ℕ, suc, _+_, _≤_, _<_}
+use mathlib.Core.Path.{_≡_}
+use mathlib.Core.List.{List, [], _∷_, _++_}
+use mathlib.Core.Bool.{true}
+use mathlib.Core.Option.{none, some}
+use lib.ListN.{length, drop}
+use Rattle.orders.specs.Spans.{cut}
+use Rattle.lines.specs.Lines.{Line, goodLine, lineText, linesIn}
+use Rattle.lines.specs.Values.{trimFront, trimEnd, trimmed, timesNamed, valueIn}
+use Rattle.lines.specs.declared.Place.{Place}
+use Rattle.lines.specs.declared.Place.the-variants.{Whole, Broken}
+use Rattle.lines.specs.declared.Span.{Span}
+use Rattle.lines.specs.declared.Found.{Found}
+use Rattle.lines.specs.declared.Found.the-variants.{At, Missing}
+
+-- the line from index at on, whose colon stands at colon and whose CR at end
+abbrev pub lineBetween : List ℕ → ℕ → ℕ → ℕ → Line
+lineBetween block at colon end = record { name = cut block at colon; value = cut block (colon + 1) end }
+
+pub record WholeLine (block : List ℕ) (at colon end : ℕ) : Type 0 where
+  pub named : at < colon
+  pub ordered : colon < end
+  pub within : end + 2 ≤ length block
+  pub good : goodLine (lineBetween block at colon end) ≡ true
+  pub text : drop at block ≡ lineText (lineBetween block at colon end) ++ drop (end + 2) block
+
+-- no good line stands from index at on
+abbrev pub NoLine : List ℕ → ℕ → Type 0
+NoLine block at = (l : Line) (rest : List ℕ) → goodLine l ≡ true → drop at block ≡ lineText l ++ rest → ⊥
+
+abbrev pub PlaceIs : List ℕ → ℕ → Place → Type 0
+PlaceIs block at (Whole colon end) = WholeLine block at colon end
+PlaceIs block at Broken = NoLine block at
+
+-- where the part of the block from index start up to index end starts without the blanks at its front, and where it ends without those at its end
+pub record FrontAt (block : List ℕ) (start end r : ℕ) : Type 0 where
+  pub from : start ≤ r
+  pub within : r ≤ end
+  pub is : trimFront (cut block start end) ≡ cut block r end
+
+pub record BackAt (block : List ℕ) (start end r : ℕ) : Type 0 where
+  pub from : start ≤ r
+  pub within : r ≤ end
+  pub is : trimEnd (cut block start end) ≡ cut block start r
+
+-- r is where the part of the block from index start up to index end stands when it is trimmed
+pub record TrimmedTo (block : List ℕ) (start end : ℕ) (r : Span) : Type 0 where
+  pub ordered : r .start ≤ r .end
+  pub within : r .end ≤ end
+  pub is : trimmed (cut block start end) ≡ cut block (r .start) (r .end)
+
+-- of the lines from index at on, the first that bears the name has its trimmed value from start up to end, and the lines after it start at next
+pub record FirstNamed (block : List ℕ) (at : ℕ) (name : List ℕ) (start end next : ℕ) : Type 0 where
+  pub ordered : start ≤ end
+  pub within : end ≤ length block
+  pub after : next ≤ length block
+  pub value : valueIn (linesIn (drop at block)) name ≡ some (cut block start end)
+  pub times : timesNamed (linesIn (drop at block)) name ≡ suc (timesNamed (linesIn (drop next block)) name)
+
+pub record NoneNamed (block : List ℕ) (at : ℕ) (name : List ℕ) : Type 0 where
+  pub value : valueIn (linesIn (drop at block)) name ≡ none
+  pub times : timesNamed (linesIn (drop at block)) name ≡ 0
+
+abbrev pub FoundIs : List ℕ → ℕ → List ℕ → Found → Type 0
+FoundIs block at name (At start end next) = FirstNamed block at name start end next
+FoundIs block at name Missing = NoneNamed block at name

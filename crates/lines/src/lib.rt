@@ -1,0 +1,226 @@
+// Header lines: whether a block is lines, names that stand twice, and covered values.
+ghost use mathlib.Core.Path.{_≡_};
+ghost use mathlib.Core.Bool.{true};
+ghost use Prim.Native.Nat.{_≤_};
+ghost use lib.ListN.{length, getD};
+ghost use lib.Dec.{ltb};
+ghost use Rattle.orders.specs.Spans.{Spans};
+ghost use Rattle.orders.specs.Extra.{goodExtra};
+ghost use Rattle.orders.specs.Orders.{chosen, coveredNames};
+ghost use Rattle.orders.specs.Walk.{namesFrom};
+ghost use Rattle.lines.specs.Lines.{valueByte, linesIn, goodBlock};
+ghost use Rattle.lines.specs.Values.{blank, timesNamed, repeated, CoveredIs};
+ghost use Rattle.lines.specs.Places.{PlaceIs, FrontAt, BackAt, TrimmedTo, FoundIs};
+use orders::Next;
+
+// Whether the block is header lines.
+pub fn good(block: &[u8]) -> bool
+    ensures { λ r. ⌜ r ≡ goodBlock (now (block .entry)) ⌝ }
+{
+    let mut at: usize = 0;
+    while at < block.len() {
+        let Place::Whole { colon: _, end } = line_at(block, at) else {
+            return false;
+        };
+        at = end + 2;
+    }
+    true
+}
+
+// Whether a name that the orders cover stands twice in the block.
+pub fn repeats(mask: u64, extra: &[u8], block: &[u8]) -> bool
+    requires { ⌜ goodExtra (now extra) ≡ true ⌝ }
+    ensures { λ r. ⌜ r ≡ repeated (coveredNames mask (now (extra .entry))) (linesIn (now (block .entry))) ⌝ }
+{
+    let table = orders::names();
+    if repeats_in(block, &table, mask / 2) {
+        return true;
+    }
+    repeats_in(block, extra, orders::extra_bits(extra))
+}
+
+fn repeats_in(block: &[u8], run: &[u8], wanted: u64) -> bool
+    ensures { λ r. ⌜ r ≡ repeated (chosen wanted (namesFrom (now (run .entry)) 0)) (linesIn (now (block .entry))) ⌝ }
+{
+    let mut left = wanted;
+    let mut at: usize = 0;
+    loop {
+        let Next::Name(start, end, rest) = orders::next_name(run, left, at) else {
+            return false;
+        };
+        if twice(block, &run[start..end]) {
+            return true;
+        }
+        left = rest;
+        at = end + 1;
+    }
+}
+
+fn twice(block: &[u8], name: &[u8]) -> bool
+    ensures { λ r. ⌜ r ≡ ltb 1 (timesNamed (linesIn (now (block .entry))) (now (name .entry))) ⌝ }
+{
+    let Found::At(_, _, next) = find(block, 0, name) else {
+        return false;
+    };
+    let Found::At(_, _, _) = find(block, next, name) else {
+        return false;
+    };
+    true
+}
+
+// The value of a covered name: a part of one of the two blocks.
+pub fn covered<'a>(head: &'a [u8], aside: &'a [u8], name: &[u8]) -> &'a [u8]
+    ensures { λ r. ⌜ CoveredIs (now (aside .entry)) (now (head .entry)) (now (name .entry)) (now r) ⌝ }
+{
+    if let Found::At(start, end, _) = find(aside, 0, name) {
+        return &aside[start..end];
+    }
+    if let Found::At(start, end, _) = find(head, 0, name) {
+        return &head[start..end];
+    }
+    &head[..0]
+}
+
+enum Found {
+    // Where the trimmed value starts, where it ends, and where the next line starts.
+    At(usize, usize, usize),
+    Missing,
+}
+
+// The first line from byte at on that bears the name.
+fn find(block: &[u8], at: usize, name: &[u8]) -> Found
+    requires { ⌜ at ≤ length (now block) ⌝ }
+    ensures { λ r. ⌜ FoundIs (now (block .entry)) at (now (name .entry)) r ⌝ }
+{
+    let mut place = at;
+    while place < block.len() {
+        let Place::Whole { colon, end } = line_at(block, place) else {
+            return Found::Missing;
+        };
+        if orders::same_name(&block[place..colon], name) {
+            let value = trim(block, colon + 1, end);
+            return Found::At(value.start, value.end, end + 2);
+        }
+        place = end + 2;
+    }
+    Found::Missing
+}
+
+enum Place {
+    // The colon stands at colon, and CR LF at end.
+    Whole { colon: usize, end: usize },
+    Broken,
+}
+
+// The line that starts at byte at.
+fn line_at(block: &[u8], at: usize) -> Place
+    requires { ⌜ at ≤ length (now block) ⌝ }
+    ensures { λ r. ⌜ PlaceIs (now (block .entry)) at r ⌝ }
+{
+    let colon = orders::token_end(block, at);
+    if colon == at {
+        return Place::Broken;
+    }
+    if byte_at(block, colon) != 58 {
+        return Place::Broken;
+    }
+    let end = value_end(block, colon + 1);
+    if byte_at(block, end) != 13 {
+        return Place::Broken;
+    }
+    if byte_at(block, end + 1) != 10 {
+        return Place::Broken;
+    }
+    Place::Whole { colon, end }
+}
+
+// The byte at i, or 0 past the end.
+fn byte_at(block: &[u8], i: usize) -> u8
+    ensures { λ r. ⌜ r ≡ getD (now (block .entry)) i 0 ⌝ }
+{
+    if i < block.len() {
+        return block[i];
+    }
+    0
+}
+
+// Where the bytes of a value end that start at byte at.
+fn value_end(block: &[u8], at: usize) -> usize
+    requires { ⌜ at ≤ length (now block) ⌝ }
+    ensures { λ r. ⌜ Spans valueByte (now (block .entry)) at r ⌝ }
+{
+    let mut i = at;
+    while i < block.len() {
+        if !value_byte(block[i]) {
+            return i;
+        }
+        i += 1;
+    }
+    i
+}
+
+fn value_byte(b: u8) -> bool
+    ensures { λ r. ⌜ r ≡ valueByte b ⌝ }
+{
+    if b == 9 {
+        return true;
+    }
+    if b < 32 {
+        return false;
+    }
+    b != 127
+}
+
+struct Span {
+    start: usize,
+    end: usize,
+}
+
+// The part of the block from start up to end, without the blanks at its ends.
+fn trim(block: &[u8], start: usize, end: usize) -> Span
+    requires { ⌜ (start ≤ end) × (end ≤ length (now block)) ⌝ }
+    ensures { λ r. ⌜ TrimmedTo (now (block .entry)) start end r ⌝ }
+{
+    let first = front(block, start, end);
+    Span {
+        start: first,
+        end: back(block, first, end),
+    }
+}
+
+fn front(block: &[u8], start: usize, end: usize) -> usize
+    requires { ⌜ (start ≤ end) × (end ≤ length (now block)) ⌝ }
+    ensures { λ r. ⌜ FrontAt (now (block .entry)) start end r ⌝ }
+{
+    let mut i = start;
+    while i < end {
+        if !is_blank(block[i]) {
+            return i;
+        }
+        i += 1;
+    }
+    i
+}
+
+fn back(block: &[u8], start: usize, end: usize) -> usize
+    requires { ⌜ (start ≤ end) × (end ≤ length (now block)) ⌝ }
+    ensures { λ r. ⌜ BackAt (now (block .entry)) start end r ⌝ }
+{
+    let mut i = end;
+    while start < i {
+        if !is_blank(block[i - 1]) {
+            return i;
+        }
+        i -= 1;
+    }
+    i
+}
+
+fn is_blank(b: u8) -> bool
+    ensures { λ r. ⌜ r ≡ blank b ⌝ }
+{
+    if b == 32 {
+        return true;
+    }
+    b == 9
+}

@@ -1,0 +1,5 @@
+-- The laws that callers' proofs cite, and those of this crate's own functions.
+pub mod Spans
+pub mod Same
+pub mod Walk
+pub mod Tokens

@@ -1,0 +1,117 @@
+-- Laws of the names of a run, one after the other.
+-- Assumes nothing.
+use mathlib.Core.Path.{_≡_, refl, sym, ap, ap₂, _∙_}
+use mathlib.Core.List.{List, [], _∷_, _++_}
+use mathlib.Core.Bool.{Bool, true, false, not, cond, _&&_, and-eq-true-iff}
+use Prim.Native.Nat.{ℕ, zero, suc, _+_, _-_, _*_, _/_, _%_, _^_, _≤_, _<_}
+use native.Mathlib.Nat.{pow-suc}
+use native.Mathlib.Omega.{arith}
+use borrow.Author.Tests.{le-leb, lt-leb, leb-true, eq-eqb}
+use lib.Dec.{leb, ltb, eqb, leb·suc-suc}
+use lib.Pow.{pow-pos}
+use lib.ListN.{length, take, drop, length-drop}
+use lib.Seq.{drop-drop}
+use Rattle.orders.specs.Spans.{leading, Spans, cut}
+use Rattle.orders.specs.Names.{headerNames}
+use Rattle.orders.specs.Extra.{comma, ontoFirst, pieces, extraNames, goodNames, goodExtra}
+use Rattle.orders.specs.Orders.{chosen, coveredNames, longestSessionLife, ordersGood}
+use Rattle.orders.specs.Walk.{noComma, namesFrom}
+
+pub names-start : (run : List ℕ) → namesFrom run 0 ≡ pieces run
+unfolding namesFrom
+names-start run = rw (le-leb 0 (length run) (omega arith))
+
+pub names-past : (run : List ℕ) (at : ℕ) → length run < at → namesFrom run at ≡ []
+unfolding namesFrom
+names-past run at h = rw (lt-leb at (length run) h)
+
+names-within : (run : List ℕ) (at : ℕ) → at ≤ length run → namesFrom run at ≡ pieces (drop at run)
+unfolding namesFrom
+names-within run at h = rw (le-leb at (length run) h)
+
+names-tail : (b : ℕ) (bs : List ℕ) (n : ℕ) → namesFrom (b ∷ bs) (suc n) ≡ namesFrom bs n
+unfolding namesFrom
+names-tail b bs n = rw (leb·suc-suc n (length bs))
+
+pieces-first : (xs : List ℕ) → pieces xs ≡ take (leading noComma xs) xs ∷ namesFrom xs (suc (leading noComma xs))
+unfolding pieces leading namesFrom
+pieces-first [] = refl
+pieces-first (b ∷ bs) = go (eqb b comma) (pieces-first bs)
+  where
+    go : (t : Bool) → pieces bs ≡ take (leading noComma bs) bs ∷ namesFrom bs (suc (leading noComma bs))
+        → cond t ([] ∷ pieces bs) (ontoFirst b (pieces bs))
+        ≡ take (cond (not t) (suc (leading noComma bs)) 0) (b ∷ bs) ∷ namesFrom (b ∷ bs) (suc (cond (not t) (suc (leading noComma bs)) 0))
+    go true e = ap (λ (ns : List (List ℕ)). [] ∷ ns) (sym (names-tail b bs 0 ∙ names-start bs))
+    go false e = ap (ontoFirst b) e ∙ ap (λ (ns : List (List ℕ)). (b ∷ take (leading noComma bs) bs) ∷ ns) (sym (names-tail b bs (suc (leading noComma bs))))
+
+names-drop : (run : List ℕ) (at n : ℕ) → at ≤ length run → namesFrom (drop at run) n ≡ namesFrom run (at + n)
+names-drop run zero n h = ap (namesFrom run) (omega arith)
+names-drop [] (suc at) n h = absurd (omega arith)
+names-drop (b ∷ bs) (suc at) n h = names-drop bs at n (omega arith) ∙ sym (names-tail b bs (at + n)) ∙ ap (namesFrom (b ∷ bs)) (omega arith)
+
+-- the first of the names from index at on ends before the next comma
+pub names-first : (run : List ℕ) (at end : ℕ) → at ≤ length run → Spans noComma run at end
+    → namesFrom run at ≡ cut run at end ∷ namesFrom run (end + 1)
+names-first run at end h s =
+    let k = leading noComma (drop at run) in
+    let size : k ≡ end - at = omega (arith, s .is) in
+    names-within run at h ∙ pieces-first (drop at run)
+    ∙ ap₂ _∷_ (ap (λ (n : ℕ). take n (drop at run)) size) (names-drop run at (suc k) h ∙ ap (namesFrom run) (omega (arith, s .is)))
+
+pub chosen-set : (bits : ℕ) (n : List ℕ) (ns : List (List ℕ)) → eqb (bits % 2) 1 ≡ true → chosen bits (n ∷ ns) ≡ n ∷ chosen (bits / 2) ns
+unfolding chosen
+chosen-set bits n ns h = rw h
+
+pub chosen-clear : (bits : ℕ) (n : List ℕ) (ns : List (List ℕ)) → eqb (bits % 2) 1 ≡ false → chosen bits (n ∷ ns) ≡ chosen (bits / 2) ns
+unfolding chosen
+chosen-clear bits n ns h = rw h
+
+pub chosen-end : (bits : ℕ) → chosen bits [] ≡ []
+unfolding chosen
+chosen-end bits = refl
+
+pub chosen-none : (ns : List (List ℕ)) → chosen 0 ns ≡ []
+unfolding chosen
+chosen-none [] = refl
+chosen-none (n ∷ ns) = chosen-none ns
+
+-- with k bits set, k names are all chosen
+pub chosen-all : (k : ℕ) (ns : List (List ℕ)) → length ns ≤ k → chosen (2 ^ k - 1) ns ≡ ns
+unfolding chosen
+chosen-all k [] h = refl
+chosen-all zero (n ∷ ns) h = absurd (omega arith)
+chosen-all (suc k) (n ∷ ns) h =
+    let odd : (2 ^ suc k - 1) % 2 ≡ 1 = omega (arith, pow-suc 2 k, pow-pos k) in
+    let half : (2 ^ suc k - 1) / 2 ≡ 2 ^ k - 1 = omega (arith, pow-suc 2 k, pow-pos k) in
+    chosen-set (2 ^ suc k - 1) n ns (eq-eqb _ 1 odd)
+    ∙ ap (λ (l : List (List ℕ)). n ∷ l) (ap (λ (bits : ℕ). chosen bits ns) half ∙ chosen-all k ns (omega arith))
+
+-- an empty run has no names, and another has what its commas part
+pub extra-none : (run : List ℕ) → length run ≡ 0 → extraNames run ≡ []
+unfolding extraNames
+extra-none [] h = refl
+extra-none (b ∷ bs) h = absurd (omega arith)
+
+pub extra-some : (run : List ℕ) → (length run ≡ 0 → ⊥) → extraNames run ≡ pieces run
+unfolding extraNames
+extra-some [] h = absurd (h refl)
+extra-some (b ∷ bs) h = refl
+
+-- good extra names are at most eight
+pub few-names : (run : List ℕ) → goodExtra run ≡ true → length (extraNames run) ≤ 8
+unfolding goodExtra
+few-names run h =
+    let outer = and-eq-true-iff (leb (length run) 128 && leb (length (extraNames run)) 8) (goodNames (extraNames run)) .0 h in
+    leb-true _ _ (and-eq-true-iff (leb (length run) 128) (leb (length (extraNames run)) 8) .0 (outer .0) .1)
+
+pub good-extra : (mask : ℕ) (extra : List ℕ) (sessionLife : ℕ) → ordersGood mask extra sessionLife ≡ true → goodExtra extra ≡ true
+unfolding ordersGood
+good-extra mask extra sessionLife h =
+    let outer = and-eq-true-iff (ltb mask (2 ^ 56) && goodExtra extra) (leb sessionLife longestSessionLife) .0 h in
+    and-eq-true-iff (ltb mask (2 ^ 56)) (goodExtra extra) .0 (outer .0) .1
+
+-- the covered names, for a caller that goes through the table that `names` gives, and then through the extra names
+pub covered-names : (mask : ℕ) (extra table : List ℕ) → pieces table ≡ headerNames
+    → coveredNames mask extra ≡ chosen (mask / 2) (namesFrom table 0) ++ extraNames extra
+unfolding coveredNames
+covered-names mask extra table h = ap (λ (ns : List (List ℕ)). chosen (mask / 2) ns ++ extraNames extra) (sym (names-start table ∙ h))

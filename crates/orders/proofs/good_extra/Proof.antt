@@ -1,0 +1,53 @@
+-- `good_extra` meets its contract, one test after the other.
+-- Assumes nothing.
+use borrow.Author.Needs.{needs}
+use borrow.Author.Tests.{le-leb, lt-leb}
+use native.Mathlib.Omega.{arith}
+use lib.ListN.{length}
+use Rattle.orders.specs.Extra.{pieces, goodNames, goodExtra}
+use Rattle.orders.proofs.Walk.{extra-none, extra-some}
+use Rattle.orders.proofs.good_extra.Statement.{statement}
+use Rattle.orders.proofs.good_extra.Tie as tie
+
+returns : tie.Need-returns
+unfolding goodExtra goodNames
+returns c =
+    let extra = c .before .before .args .extra .now in
+    simp (extra-none extra (c .if1 .taken), le-leb (length extra) 128 (omega arith))
+
+returns-2 : tie.Need-returns-2
+unfolding goodExtra
+returns-2 c = simp (lt-leb _ _ (c .if2 .taken))
+
+returns-3 : tie.Need-returns-3
+unfolding goodExtra
+returns-3 c =
+    let before = c .before .before .before .before in
+    let extra = before .before .args .extra .now in
+    simp (extra-some extra (c .before .before .before .if1 .left), le-leb (length extra) 128 (c .before .before .if2 .left), ← (c .before .name-count .ensures), lt-leb _ _ (c .if3 .taken))
+
+returns-4 : tie.Need-returns-4
+unfolding goodExtra
+returns-4 c =
+    let before = c .before .before .before in
+    let extra = before .before .before .before .before .before .args .extra .now in
+    simp (
+      c .good-names .ensures,
+      extra-some extra (before .before .before .before .if1 .left),
+      le-leb (length extra) 128 (before .before .before .if2 .left),
+      ← (before .before .name-count .ensures),
+      le-leb _ _ (before .if3 .left),
+    )
+
+pub good-extra-spec : {M : Type 1} → statement M
+good-extra-spec =
+    tie.close
+    (tie.spec
+    returns
+    returns-2
+    (λ c κs. search needs)
+    returns-3
+    (λ c κs. search needs)
+    (λ c. search needs)
+    (λ c κs. search needs)
+    returns-4)

@@ -1,0 +1,62 @@
+-- `next_name` meets its contract: no name from at up to place is chosen.
+-- Assumes nothing.
+use borrow.Author.Needs.{needs}
+use borrow.Author.Tests.{eq-eqb, ne-eqb}
+use mathlib.Core.Path.{_≡_, refl, ap, _∙_}
+use Prim.Native.Nat.{_+_, _-_, _≤_}
+use native.Mathlib.Omega.{arith}
+use lib.ListN.{length}
+use Rattle.orders.specs.Orders.{chosen}
+use Rattle.orders.specs.Walk.{namesFrom}
+use Rattle.orders.proofs.Walk.{names-first, names-past, chosen-set, chosen-clear, chosen-end}
+use Rattle.orders.proofs.next_name.Statement.{statement}
+use Rattle.orders.proofs.next_name.Tie as tie
+
+abbrev Inv-loop : tie.InvT-loop
+Inv-loop run wanted at left₀ place₀ left place = (at ≤ place) × (chosen wanted (namesFrom run at) ≡ chosen left (namesFrom run place))
+
+abbrev μ-loop : tie.MeasureT-loop
+μ-loop run wanted at left₀ place₀ left place = length run + 1 - place
+
+returns : tie.Need-returns Inv-loop μ-loop
+returns c =
+    let at = c .before .before .before .loop in
+    let run = c .before .before .before .before .before .args .run .now in
+    let ended = c .before .name-end in
+    record {
+      from = at .inv .0;
+      ordered = omega (arith, ended .ensures .is);
+      within = ended .ensures .within;
+      names =
+          at .inv .1 ∙ ap (chosen (at .left)) (names-first run (at .place) (ended .result) (search needs) (ended .ensures))
+          ∙ chosen-set _ _ _ (eq-eqb _ _ (c .if1 .taken));
+    }
+
+loop-again : tie.Need-loop-again Inv-loop μ-loop
+loop-again c =
+    let at = c .before .before .before .loop in
+    let run = c .before .before .before .before .before .args .run .now in
+    let ended = c .before .name-end in (
+      omega (arith, ended .ensures .is),
+      at .inv .1 ∙ ap (chosen (at .left)) (names-first run (at .place) (ended .result) (search needs) (ended .ensures))
+          ∙ chosen-clear _ _ _ (ne-eqb _ _ (c .if1 .left)),
+    )
+
+returns-2 : tie.Need-returns-2 Inv-loop μ-loop
+returns-2 c =
+    let at = c .before .loop in
+    at .inv .1 ∙ ap (chosen (at .left)) (names-past (c .before .before .before .args .run .now) (at .place) (search needs)) ∙ chosen-end (at .left)
+
+pub next-name-spec : {M : Type 1} → statement M
+next-name-spec =
+    tie.close
+    (tie.spec
+    Inv-loop
+    μ-loop
+    (λ c. (omega arith, refl))
+    (λ c κs. search needs)
+    returns
+    (λ c. search needs)
+    (λ c. search needs)
+    loop-again
+    returns-2)

@@ -1,0 +1,31 @@
+-- Going through the names of a run, one after the other: how the code's contracts say it.
+-- Assumes nothing.
+use Prim.Native.Nat.{ℕ, suc, _+_, _≤_}
+use mathlib.Core.Path.{_≡_}
+use mathlib.Core.List.{List, [], _∷_}
+use mathlib.Core.Bool.{Bool, not, cond}
+use lib.ListN.{length, drop}
+use lib.Dec.{leb, eqb}
+use Rattle.orders.specs.Spans.{cut}
+use Rattle.orders.specs.Extra.{comma, pieces}
+use Rattle.orders.specs.Orders.{chosen}
+use Rattle.orders.specs.declared.Next.{Next}
+use Rattle.orders.specs.declared.Next.the-variants.{Name, End}
+
+abbrev pub noComma : ℕ → Bool
+noComma b = not (eqb b comma)
+
+-- the names of a run from the one that starts at index at on; past the run's end there are none
+unfoldable pub namesFrom : List ℕ → ℕ → List (List ℕ)
+namesFrom run at = cond (leb at (length run)) (pieces (drop at run)) []
+
+-- the first chosen name stands from start up to end, and the others come after it
+pub record FirstName (run : List ℕ) (wanted at start end left : ℕ) : Type 0 where
+  pub from : at ≤ start
+  pub ordered : start ≤ end
+  pub within : end ≤ length run
+  pub names : chosen wanted (namesFrom run at) ≡ cut run start end ∷ chosen left (namesFrom run (end + 1))
+
+abbrev pub NextIs : List ℕ → ℕ → ℕ → Next → Type 0
+NextIs run wanted at (Name start end left) = FirstName run wanted at start end left
+NextIs run wanted at End = chosen wanted (namesFrom run at) ≡ []

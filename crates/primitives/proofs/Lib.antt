@@ -1,0 +1,2 @@
+-- The modules that belong to no one function.
+pub mod Sealing

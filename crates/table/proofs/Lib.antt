@@ -1,0 +1,10 @@
+-- The laws that callers' proofs cite, and those of this crate's own functions.
+pub mod Same
+pub mod Records
+pub mod Scan
+pub mod Tests
+pub mod Found
+pub mod Fitting
+pub mod Meaning
+pub mod Stored
+pub mod Sessions

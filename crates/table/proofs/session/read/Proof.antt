@@ -1,0 +1,27 @@
+-- `table::session::read` meets its contract.
+use Prim.Native.Nat.{ℕ, _+_, _-_, _*_}
+use mathlib.Core.Path.{_≡_, ap, _∙_}
+use native.Mathlib.Omega.{arith}
+use borrow.Author.Needs.{needs}
+use Rattle.cells.specs.Runs.{part}
+use Rattle.table.specs.Record.{recordOf}
+use Rattle.table.proofs.session.read.Statement.{statement}
+use Rattle.table.proofs.session.read.Tie as tie
+
+returns : tie.Need-returns
+returns c =
+    let a = c .before .before .before .args in
+    let long : 30 * a .place + 30 - 30 * a .place ≡ 30 = omega arith in
+    c .parse .ensures ∙ ap (λ (n : ℕ). recordOf (part (a .table .now) (30 * a .place) n)) long
+
+pub read-spec : {M : Type 1} → statement M
+read-spec =
+    tie.close
+    (tie.spec
+    (λ c. search needs)
+    (λ c. search needs)
+    (λ c. search needs)
+    (λ c. search needs)
+    (λ c. search needs)
+    (λ c κs. search needs)
+    returns)

@@ -1,0 +1,40 @@
+-- `table::session::write` meets its contract.
+use mathlib.Core.Path.{_≡_}
+use native.Mathlib.Omega.{arith}
+use lib.ListN.{length}
+use borrow.Author.Needs.{needs}
+use Rattle.table.proofs.Records.{written}
+use Rattle.table.proofs.session.write.Statement.{statement}
+use Rattle.table.proofs.session.write.Tie as tie
+
+iv-long : (start : tie.Start) → length (start .args .session .iv) ≡ 12
+iv-long start = search needs
+
+put-at-requires : tie.Need-put-at-requires
+put-at-requires c κs = omega (arith, iv-long (c .before .before .before .before .before .before .before .before))
+
+returns : tie.Need-returns
+returns c =
+    let highest = c .before .before .before .before .before in
+    let any = highest .before .before .before .before .before in
+    let iv = any .before .before .before .before .before in
+    let used = iv .before .before .before .before .before .before .before .before in
+    let start = used .before .before .before .before in
+    let a = start .args in
+    written (a .session) (a .out .now) _ _ (start .pre) (iv-long start)
+    (used .put-mark .ensures) (iv .before .before .before .put-at .ensures) (any .before .before .before .before .put32 .ensures)
+    (any .put-mark2 .ensures) (highest .before .put322 .ensures) (c .before .before .put64 .ensures)
+
+pub write-spec : {M : Type 1} → statement M
+write-spec =
+    tie.close
+    (tie.spec
+    (λ c κs. search needs)
+    (λ c. search needs)
+    put-at-requires
+    (λ c κs. search needs)
+    (λ c κs. search needs)
+    (λ c κs. search needs)
+    (λ c κs. search needs)
+    (λ c. search needs)
+    returns)

@@ -1,0 +1,97 @@
+// Whether the table is well formed.
+ghost use mathlib.Core.Path.{_≡_};
+ghost use Prim.Native.Nat.{_+_, _<_};
+ghost use lib.ListN.{drop};
+ghost use Rattle.table.specs.Table.{places, recordAt, records};
+ghost use Rattle.table.specs.WellFormed.{traceless, blank, windowSound, sound, fitting, wellFormed};
+use super::place;
+use super::place::Place;
+use super::session;
+use super::session::Record;
+use super::session::SIZE;
+
+// Whether nonce and bits are zero.
+fn no_trace(session: Record) -> bool
+    ensures { λ r. ⌜ r ≡ traceless session ⌝ }
+{
+    if session.highest != 0 {
+        return false;
+    }
+    session.bits == 0
+}
+
+// Whether a record holds zeros, its first mark apart.
+fn holds_zeros(session: Record) -> bool
+    ensures { λ r. ⌜ r ≡ blank session ⌝ }
+{
+    if session.expiry != 0 {
+        return false;
+    }
+    if session.any != 0 {
+        return false;
+    }
+    if !no_trace(session) {
+        return false;
+    }
+    let iv = session.iv;
+    let zeros = [0u8; 12];
+    place::equal(&iv, &zeros)
+}
+
+// Whether mark, nonce and bits fit each other.
+fn window_sound(session: Record) -> bool
+    ensures { λ r. ⌜ r ≡ windowSound session ⌝ }
+{
+    if session.any == 0 {
+        return no_trace(session);
+    }
+    if session.any != 1 {
+        return false;
+    }
+    session.bits % 2 == 1
+}
+
+fn record_sound(session: Record) -> bool
+    ensures { λ r. ⌜ r ≡ sound session ⌝ }
+{
+    if session.used == 0 {
+        return holds_zeros(session);
+    }
+    if session.used != 1 {
+        return false;
+    }
+    window_sound(session)
+}
+
+// Whether the record at a place is sound, and no record after it has its IV where it is used.
+fn fits_at(table: &[u8], place: usize) -> bool
+    requires { ⌜ place < places (now table) ⌝ }
+    ensures { λ r. ⌜ r ≡ fitting (recordAt (now (table .entry)) place) (drop (place + 1) (records (now (table .entry)))) ⌝ }
+{
+    let here = session::read(table, place);
+    if !record_sound(here) {
+        return false;
+    }
+    if here.used != 1 {
+        return true;
+    }
+    let iv = here.iv;
+    match place::find_from(table, place + 1, &iv) {
+        Place::At(_) => false,
+        Place::Nowhere => true,
+    }
+}
+
+pub fn well_formed(table: &[u8]) -> bool
+    ensures { λ r. ⌜ r ≡ wellFormed (records (now (table .entry))) ⌝ }
+{
+    let n = table.len() / SIZE;
+    let mut i: usize = 0;
+    while i < n {
+        if !fits_at(table, i) {
+            return false;
+        }
+        i += 1;
+    }
+    true
+}
