@@ -1,0 +1,116 @@
+"""The independent second program: `python3 tests/second COMMAND`; README.md says what for."""
+
+import argparse
+import contextlib
+import io
+import os
+import sys
+
+import calls
+from histories import History
+
+
+def generate(arguments):
+    """Write a call file, the answers to it and, beside it, the name of each call."""
+    print(f"seed {arguments.seed}", flush=True)
+    paths = (arguments.calls, arguments.answers, names_beside(arguments.calls))
+    with contextlib.ExitStack() as stack:
+        files = [stack.enter_context(open(path, "w", encoding="ascii", newline="\n")) for path in paths]
+        history = History(arguments.seed, calls.Writer(*files))
+        history.generate(arguments.count)
+    print(f"{history.written} calls")
+    return report_numbers(history.counts)
+
+
+def compare(arguments):
+    """Print the differences between the answers expected and got."""
+    names = names_beside(arguments.calls)
+    with contextlib.ExitStack() as stack:
+        asked, expected, got = (
+            stack.enter_context(open(path, encoding="ascii", errors="replace"))
+            for path in (arguments.calls, arguments.expected, arguments.got)
+        )
+        wanted = expected.readlines()
+        known = ["unnamed"] * len(wanted)
+        if os.path.exists(names):
+            known = stack.enter_context(open(names, encoding="ascii"))
+        return calls.compare(asked, known, wanted, got, sys.stdout)
+
+
+def coverage(arguments):
+    """Count numbers, faults and pairs without keeping the calls."""
+    history = History(arguments.seed, calls.Writer(Nowhere(), Nowhere(), Nowhere()))
+    history.generate(arguments.count)
+    counts = history.counts
+    print(f"seed {arguments.seed}: {history.written} calls")
+    for number in range(21):
+        print(f"number {number}: {counts.numbers[number]}")
+    for name, count in counts.acts.items():
+        print(f"act {count}: {name}")
+    for name, count in counts.faults.items():
+        print(f"fault {count}: {name}")
+    for (lower, higher, answer), count in sorted(counts.pairs.items()):
+        print(f"pair {lower} with {higher} gave {answer}: {count}")
+    unmet = [name for name, count in counts.faults.items() if count == 0]
+    print(f"{len(counts.faults) - len(unmet)} of {len(counts.faults)} faults came up")
+    return report_numbers(counts)
+
+
+def run_cases(arguments):
+    import cases  # here alone: reading it runs the model
+
+    return cases.run(sys.stdout)
+
+
+def report_numbers(counts):
+    """True if every number 0 to 20 came up."""
+    missing = [number for number in range(21) if counts.numbers[number] == 0]
+    if missing:
+        print("numbers that never came up:", *missing)
+    return not missing
+
+
+def names_beside(path):
+    return path + ".names"
+
+
+class Nowhere(io.TextIOBase):
+    """A file that keeps nothing."""
+
+    def write(self, text):
+        return len(text)
+
+
+def command_line():
+    parser = argparse.ArgumentParser(prog="second", description=__doc__)
+    commands = parser.add_subparsers(required=True)
+
+    command = commands.add_parser("generate", help="write calls and the answers to them")
+    add_seed_and_count(command)
+    command.add_argument("--calls", required=True)
+    command.add_argument("--answers", required=True)
+    command.set_defaults(run=generate)
+
+    command = commands.add_parser("compare", help="compare a program's answers with the expected ones")
+    command.add_argument("--calls", required=True)
+    command.add_argument("--expected", required=True)
+    command.add_argument("--got", required=True)
+    command.set_defaults(run=compare)
+
+    command = commands.add_parser("cases", help="run the self-tests")
+    command.set_defaults(run=run_cases)
+
+    command = commands.add_parser("coverage", help="count how often each number and each fault comes up")
+    add_seed_and_count(command)
+    command.set_defaults(run=coverage)
+    return parser
+
+
+def add_seed_and_count(command):
+    command.add_argument("--seed", type=int, required=True)
+    command.add_argument("--count", type=int, required=True)
+
+
+if __name__ == "__main__":
+    arguments = command_line().parse_args()
+    sys.exit(0 if arguments.run(arguments) else 1)

@@ -1,0 +1,298 @@
+"""Self-tests: the twelve proved cases of document 01, a hand-made call for each row of its table, and the catalogue."""
+
+import base64
+import hashlib
+import hmac
+import io
+import random
+
+from cryptography.hazmat.primitives.ciphers.aead import AESGCM
+
+import calls
+import client
+import encoding
+import model
+import record as rec
+from faults import CATALOGUE
+from histories import Disagreement, History
+
+CASES = []
+
+
+def case(name):
+    def enter(check):
+        CASES.append((name, check))
+        return check
+
+    return enter
+
+
+def run(out):
+    """Run all; true if none failed."""
+    failed = 0
+    for name, check in CASES:
+        try:
+            good = check()
+        except Exception as error:  # a case that cannot run has failed like any other
+            good, name = False, f"{name}: {error!r:.2000}"
+        if not good:
+            failed += 1
+            print(f"failed: {name}", file=out)
+    print(f"{len(CASES) - failed} passed, {failed} failed", file=out)
+    return failed == 0
+
+
+def equal(name, got, wanted):
+    case(f"{name}: {got!r:.200} should be {wanted!r:.200}")(lambda: got == wanted)
+
+
+# The twelve cases of 01
+
+WINDOW_100 = rec.Record(1, bytes(12), 0, 1, 100, 1)
+
+equal("1, netstring of nothing", encoding.netstring(b""), b"0:,")
+equal("2, Kb+4", encoding.number(encoding.base64_bytes(b"Kb+4")), 2_736_056)
+equal("3, AQQ=", encoding.mask(encoding.base64_bytes(b"AQQ=")), 4)
+equal("4, WcBGQw==", encoding.number(encoding.base64_bytes(b"WcBGQw==")), 1_505_773_123)
+equal("5, Aw1z7w==", encoding.mask(encoding.base64_bytes(b"Aw1z7w==")), 0x0D73EF)
+equal("6, fresh, n 0", rec.take_nonce(rec.fresh(bytes(12), 0), 0), (0, rec.Record(1, bytes(12), 0, 1, 0, 1)))
+equal("7, n 37", rec.take_nonce(WINDOW_100, 37), (0, WINDOW_100._replace(bits=1 << 63 | 1)))
+equal("8, n 36", rec.take_nonce(WINDOW_100, 36), (15, WINDOW_100))
+equal("9, n 100", rec.take_nonce(WINDOW_100, 100), (16, WINDOW_100))
+equal("10, n 164", rec.take_nonce(WINDOW_100, 164), (0, WINDOW_100._replace(highest=164, bits=1)))
+equal("11, t 1000, lt 1010",
+      model.idle_too_long(model.Orders(0, b"", 0, 0, 0), {b"t": b"\3\xe8", b"lt": b"\3\xf2"}), False)
+
+TEXT_12 = bytes.fromhex(
+    "323a 0104 2c 323a 0103 2c 303a 2c 313a 05 2c 323a 03e8 2c 323a 03de 2c 313a 61 2c 313a 2f 2c 303a 2c"
+)
+FIELDS_12 = {b"h": b"\1\4", b"ah": b"\1\3", b"n": b"\5", b"t": b"\3\xe8", b"lt": b"\3\xde"}
+
+equal("12, signed text of the model", model.signed_text(FIELDS_12, [b"a"], b"/", b""), TEXT_12)
+equal("12, signed text of the client",
+      client.joined(client.signed_parts(list(FIELDS_12.items()), [b"Host: a\r\n"], [], b"/", b"")), TEXT_12)
+
+# The primitives, by published vectors: RFC 4231 case 1, and test case 14 of the GCM specification
+
+equal("HMAC-SHA-512", model.hmac_sha_512(b"\x0b" * 20, b"Hi There").hex(),
+      "87aa7cdea5ef619d4ff0b4241a1d6cb02379f4e2ce4ec2787ad0b30545e17cde"
+      "daa833b7d6b8a702038b274eaea3f4e4be9d914eeb61f1702e696c203a126854")
+equal("AES-256-GCM", tuple(run.hex() for run in model.sealed(bytes(32), bytes(12), bytes(16))),
+      ("cea7403d4d606b6e074ec5d3baf39d18", "d0d1c8a799996bf0265b98b5d48ab919"))
+
+# Base64 against the standard library, on every text of one group over a small alphabet
+
+SMALL = b"AQgv/w+=-_ "
+
+
+@case("base64 of every group over a small alphabet")
+def every_group():
+    groups = (bytes([a, b, c, d]) for a in SMALL for b in SMALL for c in SMALL for d in SMALL)
+    return all(encoding.base64_bytes(text) == strictly_decoded(text) for text in groups)
+
+
+def strictly_decoded(text):
+    """A text is good exactly if encoding what it decodes to gives it back."""
+    try:
+        run = base64.b64decode(text, validate=True)
+    except ValueError:
+        return None
+    return run if base64.b64encode(run) == text else None
+
+
+# A hand-made call for each row of the table. The request is that of case 12; now is 1000.
+
+SERVER_KEY = bytes(range(32))
+SESSION_KEY = bytes(range(100, 132))
+IV = b"twelve bytes"
+REPLY = b"\xaa" * 1_024
+FRESH = rec.fresh(IV, 2_000)
+ORDERS = model.Orders(3, b"", 0, 0, 1_000)
+
+
+def text_of(fields):
+    return b";".join(key + b":" + base64.b64encode(run) for key, run in fields.items())
+
+
+TOKEN = b"32:" + SESSION_KEY + b",2:id,4:2000,"
+
+
+def request(records=(FRESH, rec.FREE), orders=ORDERS, clock=1_000, head=b"Host: a\r\n", path=b"/", token=TOKEN,
+            text=TEXT_12, server_key=SERVER_KEY, reply=REPLY, closing=b"", **changed):
+    """The request with one thing or two changed; further names are fields."""
+    run = AESGCM(SERVER_KEY).encrypt(IV, token, None)
+    fields = {b"s": run[:-16], b"iv": IV, b"tag": run[-16:], **FIELDS_12}
+    fields[b"c"] = hmac.new(SESSION_KEY, text, hashlib.sha512).digest()
+    fields.update({key.encode(): run for key, run in changed.items()})
+    value = text_of(fields) + closing
+    table = rec.table_of(records)
+    return model.judge(orders, clock, server_key, value, head, b"", path, b"", table, reply), table, reply
+
+
+def setting_up(records=(rec.FREE,), orders=ORDERS, clock=1_000, value=b"r:AQQ=", session_id=b"id"):
+    table = rec.table_of(records)
+    return model.setup(orders, clock, SERVER_KEY, SESSION_KEY, IV, session_id, value, table, REPLY), table, REPLY
+
+
+def row(number, asked, name=""):
+    """A refusal without effect."""
+    outcome, table, reply = asked
+    equal(f"row {number} {name}", outcome, model.Outcome(number, 0, reply, table))
+
+
+def freed(number, asked):
+    """A refusal that frees the one used record and writes the invalidation."""
+    outcome, table, reply = asked
+    text = b"i:" + base64.b64encode(hmac.new(SESSION_KEY, b"Session Expired", hashlib.sha512).digest())
+    wanted = model.Outcome(number, 90, text + reply[90:], bytes(len(table)))
+    equal(f"row {number}, which frees", outcome, wanted)
+
+
+def accepted(name, asked, record):
+    outcome, table, reply = asked
+    wanted = model.Outcome(0, 2, b"id" + reply[2:], rec.to_bytes(record) + table[30:])
+    equal(f"row 0, {name}", outcome, wanted)
+
+
+TAKEN = FRESH._replace(begun=1, highest=5, bits=1)
+T_700 = TEXT_12.replace(b"\3\xe8", b"\2\xbc")
+T_699 = TEXT_12.replace(b"\3\xe8", b"\2\xbb")
+
+accepted("request of case 12", request(), TAKEN)
+accepted("closing semicolon", request(closing=b";"), TAKEN)
+accepted("age 300", request(text=T_700, t=b"\2\xbc"), TAKEN)
+row(1, request(path=b""))
+row(1, request(reply=bytes(1_023)), "reply of 1,023")
+row(2, request(orders=ORDERS._replace(mask=1 << 56 | 3)))
+row(2, request(orders=ORDERS._replace(extra=b"a" * 129)), "129 bytes of extra names")
+row(3, request(records=(FRESH, FRESH)))
+row(4, request(t=b"\0\3\xe8"))
+row(5, request(x=b"\0"))
+row(6, request(head=b"Host a\r\n"))
+row(7, request(head=b"Host: a\r\nhost: a\r\n"))
+row(8, request(ah=b"\1\1"))
+row(9, request(server_key=bytes(32)))
+row(9, request(token=TOKEN + b","), "a byte after the netstrings")
+freed(10, request(clock=2_000))
+row(11, request(path=b"/x"))
+row(12, request(records=(rec.FREE,)))
+freed(13, request(text=TEXT_12.replace(b"2:\3\xde", b"1:\0"), lt=b"\0", orders=ORDERS._replace(idle=999)))
+row(14, request(text=T_699, t=b"\2\xbb"))
+row(15, request(records=(TAKEN._replace(highest=69),)))
+row(16, request(records=(TAKEN,)))
+row(17, setting_up(records=(FRESH, rec.FREE)))
+row(18, setting_up(records=(rec.fresh(b"another iv..", 1_001),)))
+row(19, setting_up(value=b"r:AQM="))
+row(20, setting_up(clock=4_294_966_296))
+row(1, setting_up(session_id=bytes(65)), "at setup")
+row(5, setting_up(value=b"r:AQQ=;r:AQQ="), "at setup")
+
+
+@case("row 0, setup: reply and record")
+def setup_accepted():
+    outcome, table, _ = setting_up(records=(rec.fresh(b"another iv..", 1_000),))
+    run = AESGCM(SERVER_KEY).encrypt(IV, TOKEN, None)
+    fields = {b"s": run[:-16], b"iv": IV, b"tag": run[-16:], b"kh": SESSION_KEY, b"h": b"\1\4", b"ah": b"\1\3"}
+    text = text_of(fields)
+    return outcome == model.Outcome(0, len(text), text + REPLY[len(text):], rec.to_bytes(FRESH))
+
+
+@case("setup: the longest reply has 459 bytes")
+def longest_reply():
+    orders = model.Orders((1 << 56) - 1, b"x" * 128, 0, 0, 0)
+    outcome, _, _ = setting_up(orders=orders, clock=2_000_000_000, session_id=bytes(64))
+    return outcome.length == 459
+
+
+equal("row 0, end", model.end(IV, rec.table_of([rec.FREE, TAKEN])), model.Outcome(0, 0, b"", bytes(60)))
+equal("row 1, end", model.end(IV[:11], rec.to_bytes(FRESH)), model.Outcome(1, 0, b"", rec.to_bytes(FRESH)))
+equal("row 3, end", model.end(IV, rec.to_bytes(FRESH._replace(begun=2))).number, 3)
+equal("row 12, end", model.end(bytes(12), bytes(30)), model.Outcome(12, 0, b"", bytes(30)))
+
+
+# The window over whole histories, against the rule of demand 2
+
+
+@case("window: accepted exactly if not accepted before and less than 64 below the highest accepted")
+def window_over_histories():
+    rng = random.Random(5)
+    for start in (0, 30, 1_000, model.HIGHEST - 300):
+        record, taken = FRESH, set()
+        for _ in range(2_000):
+            nonce = min(max(0, start + rng.randint(-150, 150)), model.HIGHEST)
+            start += rng.choice([0, 0, 1]) if start < model.HIGHEST else 0
+            fits = not taken or nonce not in taken and max(taken) - nonce < 64
+            number, record = rec.take_nonce(record, nonce)
+            if (number == 0) != fits:
+                return False
+            taken |= {nonce} if fits else set()
+    return True
+
+
+# The catalogue: every fault on every kind of call gets its number; and the files
+
+
+def history_into(seed):
+    files = [io.StringIO() for _ in range(3)]
+    return History(seed, calls.Writer(*files)), files
+
+
+CATALOGUE_HISTORY, _ = history_into(1)
+
+
+def fault_alone(fault, kind):
+    def check():
+        history = CATALOGUE_HISTORY
+        while history.written == 0 or not history.live_sessions():
+            history.begin_chapter()
+            history.set_up()
+        try:
+            history.ask(history.draft_for_faults(kind), [fault], fault.name, expected=fault.number)
+        except Disagreement:
+            return False
+        return True
+
+    case(f"{kind}: {fault.name}")(check)
+
+
+for catalogued in CATALOGUE:
+    for kind_of_call in catalogued.on:
+        fault_alone(catalogued, kind_of_call)
+
+
+@case("names of faults are distinct")
+def names_distinct():
+    names = [fault.name for fault in CATALOGUE]
+    return len(names) == len(set(names))
+
+
+@case("one seed gives one history")
+def reproducible():
+    texts = []
+    for _ in range(2):
+        history, files = history_into(7)
+        history.generate(300)
+        texts.append([file.getvalue() for file in files])
+    return texts[0] == texts[1]
+
+
+@case("compare passes equal answers and shows an altered one")
+def comparing():
+    history, (asked, answers, names) = history_into(3)
+    history.generate(200)
+    lines = answers.getvalue().splitlines(keepends=True)
+    altered = lines[:99] + ["21" + lines[99]] + lines[100:]
+
+    def compared(got):
+        out = io.StringIO()
+        passed = calls.compare(asked.getvalue().splitlines(True), names.getvalue().splitlines(True), lines, got, out)
+        return passed, out.getvalue()
+
+    same, short, other = compared(lines), compared(lines[:-1]), compared(altered)
+    return (
+        same == (True, "200 passed, 0 failed\n")
+        and not short[0]
+        and not other[0]
+        and "got      21" + lines[99].strip() in other[1]
+        and other[1].endswith("199 passed, 1 failed\n")
+    )

@@ -1,0 +1,19 @@
+"""The faults, one file for each subject of document 01, gathered in one catalogue."""
+
+from faults import (  # noqa: F401  (each enters its faults as it is read)
+    coverage,
+    fields,
+    grammar,
+    lines,
+    orders,
+    sealed,
+    sessions,
+    signature,
+    sizes,
+    tables,
+    times,
+    window,
+)
+from faults.catalogue import CATALOGUE
+
+__all__ = ["CATALOGUE"]

@@ -1,0 +1,68 @@
+"""The catalogue: a fault has a name, the number that it gives alone, and the stage at which it enters a draft.
+
+Number 0 marks an edge: something odd that 01 nevertheless accepts.
+"""
+
+from typing import Callable, NamedTuple
+
+REQUEST = ("judge", "one")
+VALUED = ("judge", "one", "setup")
+TABLED = ("judge", "setup", "end")
+
+CATALOGUE = []
+
+
+class Fault(NamedTuple):
+    name: str
+    number: int
+    at: str
+    on: tuple
+    needs: Callable
+    alter: Callable
+    long: bool  # its runs are so long that it isn't worth pairing
+
+
+def nothing(draft):
+    """What most faults need."""
+
+
+def fault(name, number, at, on=REQUEST, needs=nothing, long=False):
+    """Enter the decorated function, which alters a draft by chance of the generator given, into the catalogue."""
+
+    def enter(alter):
+        CATALOGUE.append(Fault(name, number, at, on, needs, alter, long))
+        return alter
+
+    return enter
+
+
+# What faults need of a draft before they can show
+
+
+def nonces(draft):
+    draft.order_nonces()
+
+
+def no_nonces(draft):
+    draft.order_no_nonces()
+
+
+def extras(draft):
+    draft.order_extra(b"X-Dealer,X-Farm")
+
+
+def no_extras(draft):
+    draft.order_extra(b"")
+
+
+def short_id(draft):
+    """Room in the token's 118 bytes."""
+    draft.session_id = draft.session_id[:8]
+
+
+def each_32_but(good):
+    """The byte values that aren't good, as (name, values) for each 32 of the 256, so that all regions come up."""
+    for start in range(0, 256, 32):
+        values = [byte for byte in range(start, start + 32) if byte not in good]
+        if values:
+            yield f"among {start} to {start + 31}", values

@@ -1,0 +1,139 @@
+"""Refusal 2 and its edges: orders. The request follows them, however bad, so that a lax gate would accept it."""
+
+import model
+from faults.catalogue import REQUEST, VALUED, each_32_but, fault
+
+LONGEST_NAME = b"X-" + b"n" * 126
+
+
+def extra_run(name, run, number):
+    @fault(f"extra names: {name}", number, "plan", VALUED)
+    def alter(draft, rng):
+        draft.order(extra=run)
+
+
+extra_run("none", b"", 0)
+extra_run("one of one byte", b"q", 0)
+extra_run("one of 128 bytes", LONGEST_NAME, 0)
+extra_run("eight", b"a,b,c,d,e,f,g,j", 0)
+extra_run("eight, 128 bytes", b",".join(bytes([letter]) * 15 for letter in b"abcdefg") + b"," + b"h" * 16, 0)
+extra_run("every token character", model.TOKEN_CHARACTERS, 0)
+extra_run("a listed name and more", b"Hostess,Hos,X-S-Armory,X-S-Armo", 0)
+
+extra_run("nine", b"a,b,c,d,e,f,g,j,k", 2)
+extra_run("one of 129 bytes", LONGEST_NAME + b"n", 2)
+extra_run("eight, 129 bytes", b",".join(bytes([letter]) * 15 for letter in b"abcdefg") + b"," + b"h" * 17, 2)
+extra_run("far over 128 bytes", b"a" * 384, 2)
+extra_run("one of 256 bytes", b"a" * 256, 2)
+extra_run("a lone comma", b",", 2)
+extra_run("a leading comma", b",a", 2)
+extra_run("a closing comma", b"a,", 2)
+extra_run("a double comma", b"a,,b", 2)
+extra_run("a blank after the comma", b"a, b", 2)
+extra_run("a blank name", b" ", 2)
+extra_run("twice", b"X-Farm,b,X-Farm", 2)
+extra_run("twice in other case", b"X-Farm,b,x-fARM", 2)
+extra_run("twice, first and last of eight", b"a,b,c,d,e,f,g,A", 2)
+extra_run("X-S-Armor", b"X-S-Armor", 2)
+extra_run("x-s-armor in other case", b"a,x-S-aRMOR", 2)
+
+
+for no_token, no_token_values in each_32_but(model.TOKEN_CHARACTERS + b","):
+
+    @fault(f"extra names: a byte that no token has {no_token}", 2, "plan", VALUED)
+    def extra_bad_byte(draft, rng, values=no_token_values):
+        draft.order(extra=b"a,X-%cb" % rng.choice(values))
+
+
+@fault("extra names: a listed name, covered", 2, "plan", VALUED)
+def extra_listed_covered(draft, rng):
+    place = rng.randrange(len(model.NAMES))
+    draft.order(extra=model.NAMES[place], mask=draft.orders.mask | 2 << place)
+
+
+@fault("extra names: a listed name, not covered", 2, "plan", VALUED)
+def extra_listed_uncovered(draft, rng):
+    place = rng.randrange(len(model.NAMES))
+    draft.order(extra=b"q," + model.NAMES[place], mask=draft.orders.mask & ~(2 << place))
+
+
+@fault("extra names: a listed name in other case", 2, "plan", VALUED)
+def extra_listed_other_case(draft, rng):
+    draft.order(extra=rng.choice(model.NAMES).swapcase())
+
+
+@fault("extra names: 65,541 bytes", 2, "lent", VALUED, long=True)
+def extra_past_16_bits(draft, rng):
+    draft.order(extra=b"a" * 65_541)
+
+
+def two_extras(name, extra):
+    """Names that a careless comparison would take for one, each with a line of its own."""
+
+    @fault(f"extra names: {name}", 0, "plan", REQUEST)
+    def alter(draft, rng):
+        draft.order(extra=extra)
+        for place, listed in enumerate(extra.split(b",")):
+            draft.give(listed, head=b"v%d" % place)
+
+
+two_extras("one the beginning of another", b"Q,QQ,Q-")
+two_extras("alike but for ^ and ~", b"x^,x~")
+two_extras("in both cases of other letters", b"xA,xb,Xc")
+
+
+@fault("mask with a bit above 55", 2, "plan", VALUED)
+def mask_higher_bit(draft, rng):
+    draft.order(mask=draft.orders.mask | 1 << rng.randint(56, 63))
+
+
+@fault("mask with bit 56", 2, "plan", VALUED)
+def mask_bit_56(draft, rng):
+    draft.order(mask=draft.orders.mask | 1 << 56)
+
+
+@fault("mask with bit 55", 0, "plan", VALUED)
+def mask_bit_55(draft, rng):
+    draft.order(mask=draft.orders.mask | 1 << 55)
+
+
+@fault("mask of all 56 bits", 0, "plan", VALUED)
+def mask_full(draft, rng):
+    draft.order(mask=(1 << 56) - 1)
+
+
+@fault("mask 0", 0, "plan", VALUED)
+def mask_zero(draft, rng):
+    draft.order(mask=0)
+
+
+@fault("mask of one bit", 0, "plan", VALUED)
+def mask_single_bit(draft, rng):
+    draft.order(mask=1 << rng.randint(0, 55))
+
+
+@fault("longest setup reply, 459 bytes", 0, "plan", ("setup",))
+def longest_reply(draft, rng):
+    draft.order(mask=(1 << 56) - 1, extra=LONGEST_NAME, session_life=2_592_000)
+    draft.session_id = rng.randbytes(64)
+    draft.clock = rng.randint(1_000_000_000, 4_000_000_000)
+
+
+@fault("session life of 2,592,001", 2, "plan", VALUED)
+def life_too_long(draft, rng):
+    draft.order(session_life=2_592_001)
+
+
+@fault("session life of 4,294,967,295", 2, "plan", VALUED)
+def life_longest_number(draft, rng):
+    draft.order(session_life=model.HIGHEST)
+
+
+@fault("session life of 2,592,000 in a request", 0, "plan", REQUEST)
+def life_longest(draft, rng):
+    draft.order(session_life=2_592_000)
+
+
+@fault("request life and idle limit of 4,294,967,295", 0, "plan", VALUED)
+def widest_limits(draft, rng):
+    draft.order(request_life=model.HIGHEST, idle=model.HIGHEST)

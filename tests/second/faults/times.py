@@ -1,0 +1,199 @@
+"""Refusals 10, 13 and 14 and their edges: expiry, idleness and age."""
+
+import model
+import record as rec
+from faults.catalogue import fault
+
+HIGHEST = model.HIGHEST
+
+# 10: 'now is at or past the token's expiry'
+
+
+def expires(name, number, seconds):
+    @fault(name, number, "plan")
+    def alter(draft, rng):
+        draft.expiry = min(max(0, draft.clock + seconds), HIGHEST)
+
+
+expires("token expires now", 10, 0)
+expires("token expired a second ago", 10, -1)
+expires("token expired long ago", 10, -100_000)
+expires("token expires in a second", 0, 1)
+
+
+@fault("token expired, no record", 10, "plan")
+def expired_without_record(draft, rng):
+    draft.expiry = draft.clock
+    draft.put(draft.place, rec.FREE)
+
+
+@fault("token expired, record of another session in the place", 10, "plan")
+def expired_other_record(draft, rng):
+    draft.expiry = draft.clock
+    draft.put(draft.place, rec.fresh(b"another iv..", HIGHEST))
+
+
+@fault("token expired, the record's expiry to come", 10, "plan")
+def expired_record_young(draft, rng):
+    draft.expiry = draft.clock
+    draft.put(draft.place, draft.own()._replace(expiry=HIGHEST))
+
+
+def expired(draft):
+    draft.expiry = draft.clock
+
+
+@fault("token expired, wrong signature", 10, "signed", needs=expired)
+def expired_forged(draft, rng):
+    draft.set_field(b"c", bytes(64))
+
+
+@fault("clock at its end", 10, "plan")
+def clock_at_end(draft, rng):
+    """No expiry lies behind it."""
+    draft.clock = draft.t = draft.lt = draft.expiry = HIGHEST
+
+
+@fault("clock 0", 0, "plan")
+def clock_zero(draft, rng):
+    draft.clock = draft.t = draft.lt = 0
+    draft.expiry = rng.choice([1, draft.expiry or 1])
+
+
+@fault("clock one before its end", 0, "plan")
+def clock_near_end(draft, rng):
+    draft.clock = draft.t = draft.lt = HIGHEST - 1
+    draft.expiry = HIGHEST
+
+
+@fault("record expired, token not", 0, "plan")
+def record_expired(draft, rng):
+    """The record's own expiry is never read in judging."""
+    draft.put(draft.place, draft.own()._replace(expiry=rng.choice([0, draft.clock, max(0, draft.clock - 1)])))
+
+
+@fault("a second token with this IV, another id and expiry", 0, "plan")
+def second_token(draft, rng):
+    draft.key, draft.session_id = rng.randbytes(32), b"second token"
+    draft.expiry = min(draft.clock + rng.randint(1, 1_000_000), HIGHEST)
+
+
+# 13: 't minus lt exceeds the idle limit'
+
+
+def gaps(name, number, ordered, seconds):
+    @fault(name, number, "plan")
+    def alter(draft, rng):
+        draft.order(idle=ordered)
+        draft.gap(seconds)
+
+
+gaps("gap 1800 at the default", 0, 0, 1_800)
+gaps("gap 1801 at the default", 13, 0, 1_801)
+gaps("gap 1 at limit 1", 0, 1, 1)
+gaps("gap 2 at limit 1", 13, 1, 2)
+gaps("gap 700 at limit 700", 0, 700, 700)
+gaps("gap 701 at limit 700", 13, 700, 701)
+gaps("gap 0", 0, 1, 0)
+
+
+@fault("gap below zero", 0, "plan")
+def gap_negative(draft, rng):
+    draft.order(idle=1)
+    draft.lt = min(HIGHEST, draft.t + rng.choice([1, 10, 1_801, 1 << 31]))
+
+
+@fault("lt at its end, t near 0", 0, "plan")
+def gap_lowest(draft, rng):
+    draft.at(100)
+    draft.aged(rng.choice([0, 100]))
+    draft.order(idle=1, request_life=0)
+    draft.lt = HIGHEST
+
+
+@fault("t at its end, lt 0", 13, "plan")
+def gap_highest(draft, rng):
+    draft.t, draft.lt = HIGHEST, 0
+    draft.order(idle=rng.choice([0, 1, HIGHEST - 1]))
+
+
+@fault("t at its end, lt 0, idle limit at its end", 0, "plan")
+def gap_highest_allowed(draft, rng):
+    draft.t, draft.lt = HIGHEST, 0
+    draft.order(idle=HIGHEST)
+
+
+@fault("gap of 2^31", 13, "plan")
+def gap_half(draft, rng):
+    draft.order(idle=rng.choice([0, 1 << 31]))
+    draft.at((1 << 31) + 1)
+    draft.t, draft.lt = draft.clock, 0
+
+
+@fault("idle and too old", 13, "plan")
+def idle_and_old(draft, rng):
+    draft.order(idle=0, request_life=0)
+    draft.at(max(draft.clock, 10_000))
+    draft.aged(301)
+    draft.gap(1_801)
+
+
+@fault("gap wide, measured from now only", 0, "plan")
+def gap_from_now(draft, rng):
+    """now minus lt is over the limit, t minus lt isn't."""
+    draft.order(idle=100, request_life=300)
+    draft.at(max(draft.clock, 10_000))
+    draft.aged(50)
+    draft.gap(100)
+
+
+# 14: 'now minus t exceeds the request life'
+
+
+def ages(name, number, ordered, seconds):
+    @fault(name, number, "plan")
+    def alter(draft, rng):
+        draft.order(request_life=ordered)
+        draft.aged(seconds)
+
+
+ages("age 299 at the default", 0, 0, 299)
+ages("age 300 at the default", 0, 0, 300)
+ages("age 301 at the default", 14, 0, 301)
+ages("age 300 at limit 300", 0, 300, 300)
+ages("age 301 at limit 300", 14, 300, 301)
+ages("age 1 at limit 1", 0, 1, 1)
+ages("age 2 at limit 1", 14, 1, 2)
+ages("age 60 at limit 60", 0, 60, 60)
+ages("age 61 at limit 60", 14, 60, 61)
+ages("age 0 at limit 1", 0, 1, 0)
+ages("age far past", 14, 0, 100_000)
+
+
+def ahead(name, seconds):
+    @fault(name, 0, "plan")
+    def alter(draft, rng):
+        draft.order(request_life=1)
+        draft.t = min(HIGHEST, draft.clock + seconds)
+        draft.lt = draft.t
+
+
+ahead("a second ahead", 1)
+ahead("30 seconds ahead", 30)
+ahead("a year ahead", 31_536_000)
+ahead("2^31 ahead", 1 << 31)
+ahead("as far ahead as can be", HIGHEST)
+
+
+@fault("age of nearly 2^32", 14, "plan")
+def oldest(draft, rng):
+    draft.order(request_life=rng.choice([0, HIGHEST - 2]))
+    draft.clock, draft.t, draft.lt = HIGHEST - 1, 0, 0
+    draft.expiry = HIGHEST
+
+
+@fault("age of nearly 2^32 in the longest life", 0, "plan")
+def oldest_allowed(draft, rng):
+    draft.order(request_life=HIGHEST - 1)
+    draft.clock, draft.t, draft.lt = HIGHEST - 1, 0, 0
+    draft.expiry = HIGHEST

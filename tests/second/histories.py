@@ -1,0 +1,345 @@
+"""The generator: from a seed, a history of calls on tables that evolve under the model.
+
+A history is cut into chapters. Each begins with an empty table, a server key, a clock and orders of its own. Good calls
+alternate with resent requests, requests of sessions that are gone, endings, single faults and pairs of faults. Every
+single fault must get the number that the catalogue gives it: the model and the catalogue check each other.
+"""
+
+import random
+from collections import Counter
+from dataclasses import dataclass
+
+import client
+import drafts
+import model
+import record as rec
+from faults import CATALOGUE
+
+HIGHEST = model.HIGHEST
+CALLS_IN_CHAPTER = 250
+TABLE_SIZES = [1, 2, 2, 3, 3, 4, 4, 5, 6, 8, 8, 12, 16, 30, 64]
+CLOCKS = [0, 200, 5_000, 70_000, 1_505_773_123, 1_760_000_000, (1 << 31) - 600, HIGHEST - 3_000_000, HIGHEST - 9_000]
+KINDS_IN_PAIRS = ["judge"] * 14 + ["one"] * 3 + ["setup"] * 8 + ["end"]
+
+
+class Disagreement(Exception):
+    """The model answers otherwise than the catalogue says."""
+
+
+@dataclass
+class Session:
+    """What the generator knows of a session that was set up."""
+
+    iv: bytes
+    key: bytes
+    session_id: bytes
+    expiry: int
+    orders: model.Orders
+    last: int
+
+
+class Counts:
+    """How often each number, each act without a fault, each fault and each pair of numbers came up."""
+
+    def __init__(self):
+        self.numbers = Counter()
+        self.acts = Counter()
+        self.faults = Counter({fault.name: 0 for fault in CATALOGUE})
+        self.pairs = Counter()
+
+
+class History:
+    def __init__(self, seed, writer):
+        self.rng = random.Random(seed)
+        self.writer = writer
+        self.counts = Counts()
+        self.deck = []
+        self.written = 0
+
+    def generate(self, count):
+        """Write so many calls."""
+        while self.written < count:
+            if self.written % CALLS_IN_CHAPTER == 0:
+                self.begin_chapter()
+            self.step()
+
+    # Chapters
+
+    def begin_chapter(self):
+        rng = self.rng
+        self.table = bytes(rec.SIZE * rng.choice(TABLE_SIZES))
+        self.clock = rng.choice(CLOCKS)
+        self.server_key = rng.randbytes(32)
+        lives = [500, 3_000, 6_000] if self.clock > HIGHEST - 10_000 else [0, 900, 5_000, 1_209_600, 2_592_000]
+        self.orders = [client.make_orders(rng, rng.choice(lives)) for _ in range(3)]
+        self.sessions = []
+        self.accepted = []
+        self.reply = (rng.choice([1_024, 1_024, 1_024, 1_100]), rng.randrange(256))
+        self.reply_altered = True
+
+    def live_sessions(self):
+        records = rec.records_of(self.table)
+        return [s for s in self.sessions if s.expiry > self.clock and rec.place_of(records, s.iv) is not None]
+
+    def gone_sessions(self):
+        live = self.live_sessions()
+        return [s for s in self.sessions if s not in live]
+
+    def pass_time(self):
+        """Mostly seconds; now and then to a moment about the end of some session."""
+        rng = self.rng
+        later = self.clock + rng.choice([0, 0, 0, 1, 1, 2, 5, 20])
+        if rng.random() < 0.01 and self.sessions:
+            later = rng.choice(self.sessions).expiry + rng.choice([-1, 0, 1])
+        self.clock = min(max(self.clock, later), HIGHEST - 1)
+
+    # One step of a history
+
+    def step(self):
+        self.pass_time()
+        live = self.live_sessions()
+        if not live:
+            return self.set_up_or_clear()
+        chosen = self.rng.random()
+        if chosen < 0.32:
+            return self.good_request(self.rng.choice(live))
+        if chosen < 0.38:
+            return self.resend()
+        if chosen < 0.41:
+            return self.request_of_gone_session()
+        if chosen < 0.47:
+            return self.set_up()
+        if chosen < 0.48:
+            return self.end(self.rng.choice(self.sessions))
+        if chosen < 0.85:
+            return self.single_fault()
+        return self.pair_of_faults()
+
+    def set_up_or_clear(self):
+        """A new session; if none fits, because the table is full or time at its end, a new chapter."""
+        if self.set_up().number != 0:
+            self.begin_chapter()
+
+    def set_up(self):
+        draft = self.setup_draft()
+        return self.ask(draft, [], "setup")
+
+    def good_request(self, session):
+        place = rec.place_of(rec.records_of(self.table), session.iv)
+        kind = "one" if place == 0 and self.rng.random() < 0.3 else "judge"
+        draft = self.request_draft(session, kind)
+        outcome = self.ask(draft, [], "good request", expected=0)
+        session.last = draft.t
+        return outcome
+
+    def resend(self):
+        """An accepted request again, as a proxy or a reader of a bundle would send it."""
+        if not self.accepted:
+            return self.set_up()
+        arguments = list(self.rng.choice(self.accepted))
+        arguments[5] = self.clock
+        return self.act(drafts.Call("judge", tuple(arguments), self.table, self.lent_reply()), "resent request")
+
+    def request_of_gone_session(self):
+        gone = self.gone_sessions()
+        if not gone:
+            return self.resend()
+        return self.ask(self.request_draft(self.rng.choice(gone), "judge"), [], "request of a gone session")
+
+    def end(self, session):
+        draft = drafts.End("end", self.table, session.iv, reply=self.lent_reply())
+        return self.ask(draft, [], "ending")
+
+    def single_fault(self):
+        if not self.deck:
+            self.deck = shuffled_deck(self.rng)
+        fault, kind = self.deck.pop()
+        return self.ask(self.draft_for_faults(kind), [fault], fault.name, expected=fault.number)
+
+    def pair_of_faults(self):
+        """Two numbers first, so that rare ones are paired as often as common ones."""
+        kind = self.rng.choice(KINDS_IN_PAIRS)
+        fitting = [fault for fault in CATALOGUE if kind in fault.on and not fault.long]
+        numbers = self.rng.sample(sorted({fault.number for fault in fitting}), 2)
+        pair = [self.rng.choice([fault for fault in fitting if fault.number == number]) for number in numbers]
+        # Edges go in first, then high numbers: the faults of 1 cut runs to a size that nothing can be put into.
+        pair.sort(key=lambda fault: fault.number or HIGHEST, reverse=True)
+        outcome = self.ask(self.draft_for_faults(kind), pair, " + ".join(fault.name for fault in pair))
+        self.counts.pairs[(min(numbers), max(numbers), outcome.number)] += 1
+        return outcome
+
+    # Drafts of good calls
+
+    def lent_reply(self):
+        """The chapter's reply buffer anew if the last call was lent another, else the buffer as it stands."""
+        return self.reply if self.reply_altered else None
+
+    def setup_draft(self):
+        rng = self.rng
+        return drafts.Setup(
+            kind="setup",
+            table=self.table,
+            iv=rng.randbytes(12),
+            reply=self.lent_reply(),
+            orders=rng.choice(self.orders),
+            clock=self.clock,
+            server_key=self.server_key,
+            session_key=rng.randbytes(32),
+            session_id=rng.randbytes(rng.choice([1, 16, 64, rng.randint(1, 64)])),
+            offer=client.encoded_mask(rng.choice([4, 4, 4, 5, 6, 7, 0xF4, 1 << 40 | 4])),
+        )
+
+    def request_draft(self, session, kind):
+        rng = self.rng
+        records = rec.records_of(self.table)
+        place = rec.place_of(records, session.iv)
+        orders = session.orders
+        t, lt = self.times(session)
+        nonce = fresh_nonce(records[place], rng) if place is not None else 5
+        if nonce is None:
+            orders = orders._replace(mask=orders.mask & ~1)
+            nonce = 0
+        head, aside = self.lines(orders)
+        return drafts.Request(
+            kind=kind,
+            table=self.table,
+            iv=session.iv,
+            place=place,
+            reply=self.lent_reply(),
+            orders=orders,
+            clock=self.clock,
+            server_key=self.server_key,
+            key=session.key,
+            session_id=session.session_id,
+            expiry=session.expiry,
+            t=t,
+            lt=lt,
+            n=nonce,
+            head_lines=head,
+            aside_lines=aside,
+            path=rng.choice([b"/", b"/parts/belt?n=11", b"/a%20b", b"*", b"/" + b"p" * rng.randrange(60)]),
+            body=rng.randbytes(rng.choice([0, 0, 6, rng.randrange(300), rng.randrange(300), rng.randrange(1_500)])),
+        )
+
+    def times(self, session):
+        """Two times that pass: the age within the request life, the gap within the idle limit."""
+        rng = self.rng
+        life, idle = model.request_life(session.orders), model.idle_limit(session.orders)
+        t = max(0, self.clock - min(life, rng.choice([0, 0, 1, 3, life])))
+        if rng.random() < 0.1:
+            t = min(HIGHEST, self.clock + rng.choice([1, 30, 3_600]))
+        lt = session.last
+        if t - lt > idle:
+            lt = t - rng.randint(0, min(t, idle))
+        return t, lt
+
+    def lines(self, orders):
+        """Lines for most covered names and for some others, here and there with the client's own set aside."""
+        rng = self.rng
+        covered = model.covered_names(orders)
+        named = {name.lower(): name for name in model.NAMES + client.UNLISTED}
+        present = [named.get(name, name) for name in covered if rng.random() < 0.8]
+        others = [name for name in rng.sample(model.NAMES, 2) + [b"X-Unknown"] if name.lower() not in covered]
+        head = [client.line(name, value(rng)) for name in present + others]
+        aside = [client.line(name.lower(), value(rng)) for name in covered if rng.random() < 0.12]
+        rng.shuffle(head)
+        return head, aside
+
+    def draft_for_faults(self, kind):
+        """A call that is good whatever the table holds, so that only the faults speak."""
+        if kind == "setup":
+            draft = self.setup_draft()
+            draft.table = with_last_free(draft.table)
+            draft.clock = min(draft.clock, HIGHEST - model.session_life(draft.orders))
+            return draft
+        session = self.rng.choice(self.live_sessions())
+        if kind == "end":
+            place = rec.place_of(rec.records_of(self.table), session.iv)
+            return drafts.End("end", self.table, session.iv, place, self.lent_reply())
+        draft = self.request_draft(session, kind)
+        if kind == "one" and draft.place != 0:
+            draft.table = with_first(draft.table, draft.place)
+            draft.place = 0
+        return draft
+
+    # Asking the model
+
+    def ask(self, draft, faults, name, expected=None):
+        call = drafts.build(draft, faults, self.rng)
+        outcome = self.write(call, name) if faults else self.act(call, name)
+        for fault in faults:
+            self.counts.faults[fault.name] += 1
+        if expected is not None and outcome.number != expected:
+            raise Disagreement(f"{name}: the model answers {outcome.number}, the catalogue {expected}: {call}")
+        return outcome
+
+    def act(self, call, name):
+        """A call without a fault of the catalogue."""
+        self.counts.acts[name] += 1
+        return self.write(call, name)
+
+    def write(self, call, name):
+        outcome = self.writer.write(call, name)
+        self.written += 1
+        self.counts.numbers[outcome.number] += 1
+        self.reply_altered = call.reply not in (None, self.reply)
+        if call.table == self.table:
+            self.table = outcome.table
+            if outcome.number == 0:
+                self.remember(call, outcome)
+        return outcome
+
+    def remember(self, call, outcome):
+        """A call was accepted on the chapter's own table: later ones build on it."""
+        if call.kind == "setup":
+            orders, (clock, _, _, _, session_id, _) = model.Orders(*call.arguments[:5]), call.arguments[5:]
+            given = client.parse_reply(outcome.reply[:outcome.length])
+            expiry = clock + model.session_life(orders)
+            self.sessions.append(Session(given[b"iv"], given[b"kh"], session_id, expiry, orders, clock))
+        if call.kind in ("judge", "one") and sum(map(len, call.arguments[7:])) < 4_000:
+            self.accepted = [*self.accepted[-5:], call.arguments]
+
+
+def shuffled_deck(rng):
+    """Every fault with every kind of call that it concerns; the thin entry, judge's twin, only for a third of judge's.
+
+    One fault of each number is dealt first, so that short histories too meet them all.
+    """
+    deck = [
+        (fault, kind)
+        for fault in CATALOGUE
+        for kind in fault.on
+        if kind != "one" or len(fault.on) == 1 or rng.random() < 0.33
+    ]
+    rng.shuffle(deck)
+    first_of_number = {fault.number: (fault, kind) for fault, kind in deck}
+    firsts = list(first_of_number.values())
+    return [card for card in deck if card not in firsts] + firsts
+
+
+def value(rng):
+    blanks = rng.choice([b" ", b"", b"\t "])
+    return blanks + rng.choice([b"a", b"shop.example", b"x=1; y=2", b"", b"\xe9t\xe9", b"1:a,"])
+
+
+def fresh_nonce(record, rng):
+    """A nonce that the window accepts, or None if there is none left."""
+    if record.begun == 0:
+        return rng.choice([0, 1, 5, 64, 1_000, rng.randrange(1 << 32), HIGHEST - 100])
+    jumps = [1] * 12 + [2, 3, 5, 31, 32, 33, 62, 63, 64, 65]
+    above = [record.highest + d for d in jumps if record.highest + d <= HIGHEST]
+    below = [record.highest - d for d in range(rec.WIDTH) if d <= record.highest and not record.bits >> d & 1]
+    fitting = [*above, *rng.sample(below, min(5, len(below))), *below[-1:]]
+    return rng.choice(fitting) if fitting else None
+
+
+def with_last_free(table):
+    """Room for a setup: a free record at the end, after whatever the table holds."""
+    return table[:63 * rec.SIZE] + rec.to_bytes(rec.FREE)
+
+
+def with_first(table, place):
+    """The record at this place put in front, for the thin entry."""
+    records = rec.records_of(table)
+    records[0], records[place] = records[place], records[0]
+    return rec.table_of(records)

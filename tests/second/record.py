@@ -1,0 +1,109 @@
+"""The session table ('Orders, records and sizes' in 01) and the nonce window ('Age, idleness and the window')."""
+
+from typing import NamedTuple
+
+SIZE = 30
+WIDTH = 64  # the highest nonce and the 63 below it
+
+
+class Record(NamedTuple):
+    """One record; the two marks are kept as the bytes they are, since a wrong one is refusal 3."""
+
+    used: int
+    iv: bytes
+    expiry: int
+    begun: int  # whether a nonce was accepted yet
+    highest: int
+    bits: int
+
+
+FREE = Record(0, bytes(12), 0, 0, 0, 0)
+
+
+def fresh(iv, expiry):
+    """What a setup leaves: 'it then holds the IV, the new expiry and no nonce'."""
+    return Record(1, iv, expiry, 0, 0, 0)
+
+
+def from_bytes(run):
+    return Record(
+        used=run[0],
+        iv=run[1:13],
+        expiry=int.from_bytes(run[13:17], "big"),
+        begun=run[17],
+        highest=int.from_bytes(run[18:22], "big"),
+        bits=int.from_bytes(run[22:30], "big"),
+    )
+
+
+def to_bytes(record):
+    return (
+        bytes([record.used])
+        + record.iv
+        + record.expiry.to_bytes(4, "big")
+        + bytes([record.begun])
+        + record.highest.to_bytes(4, "big")
+        + record.bits.to_bytes(8, "big")
+    )
+
+
+def records_of(table):
+    return [from_bytes(table[start:start + SIZE]) for start in range(0, len(table), SIZE)]
+
+
+def table_of(records):
+    return b"".join(to_bytes(record) for record in records)
+
+
+def record_at(table, place):
+    return from_bytes(table[place * SIZE:][:SIZE])
+
+
+def with_record(table, place, record):
+    return table[:place * SIZE] + to_bytes(record) + table[(place + 1) * SIZE:]
+
+
+def place_of(records, iv):
+    """Where the used record with this IV stands, or None: a free record's zeros are no IV."""
+    for place, record in enumerate(records):
+        if record.used == 1 and record.iv == iv:
+            return place
+    return None
+
+
+def marks_good(record):
+    return record.used in (0, 1) and record.begun in (0, 1)
+
+
+def contents_good(record):
+    """The conditions on a single record; bits for nonces below 0 are not among them (READINGS C2)."""
+    if record.used == 0:
+        return record == FREE
+    if record.begun == 0:
+        return record.highest == 0 and record.bits == 0
+    return record.bits % 2 == 1
+
+
+def ivs_distinct(records):
+    ivs = [record.iv for record in records if record.used == 1]
+    return len(ivs) == len(set(ivs))
+
+
+def well_formed(records):
+    return all(marks_good(r) and contents_good(r) for r in records) and ivs_distinct(records)
+
+
+def take_nonce(record, nonce):
+    """One step of the window: the number (0, 15 or 16) and the record after it."""
+    if record.begun == 0:
+        return 0, record._replace(begun=1, highest=nonce, bits=1)
+    if nonce > record.highest:
+        distance = nonce - record.highest
+        kept = record.bits << distance if distance < WIDTH else 0
+        return 0, record._replace(highest=nonce, bits=kept % (1 << WIDTH) | 1)
+    distance = record.highest - nonce
+    if distance >= WIDTH:
+        return 15, record
+    if record.bits >> distance & 1:
+        return 16, record
+    return 0, record._replace(bits=record.bits | 1 << distance)
