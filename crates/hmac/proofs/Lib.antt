@@ -1,4 +1,4 @@
--- The laws that the proofs of this crate's functions cite.
+-- The laws of this crate: those of Streaming serve callers too, and the others its own functions.
 pub mod KeyBlock
 pub mod Streaming
 pub mod Examples

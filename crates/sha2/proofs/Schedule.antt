@@ -10,7 +10,7 @@ use borrow.Author.Tests.{lt-ltb, le-ltb}
 use Rattle.sha2.specs.Block.{M, mixed, schedule}
 use Rattle.sha2.specs.Laid.{Laid}
 
--- t is the next word's place, and n the next word's but one
+-- t is the place of the next word, and n the place after it
 module _ (block w : List ℕ) (t n x : ℕ) (laid : Laid w block t) (fits : t < 80) (e : n ≡ suc t) where
   -- one of the block's own words
   pub own-word : t < 16 → x ≡ M block t → Laid (set w t x) block n
