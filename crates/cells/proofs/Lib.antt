@@ -1,3 +1,4 @@
 -- The laws that callers' proofs cite, and those of this crate's own functions.
 pub mod Runs
 pub mod Numbers
+pub mod Equality

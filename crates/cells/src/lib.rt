@@ -1,8 +1,9 @@
-// Byte runs: numbers in them, and parts of them written over.
+// Byte runs: numbers in them, parts of them written over, and whether two are the same.
 ghost use mathlib.Core.Path.{_≡_};
 ghost use mathlib.Core.List.{[], _∷_};
 ghost use Prim.Native.Nat.{_+_, _≤_};
 ghost use lib.ListN.{length, replicate};
+ghost use Rattle.cells.specs.Runs as R;
 ghost use Rattle.cells.specs.Runs.{spliced, fronted, part};
 ghost use Rattle.cells.specs.Numbers.{bytesOf, number};
 
@@ -102,4 +103,20 @@ pub fn put_at(out: &mut [u8], at: usize, src: &[u8])
 {
     let end = at + src.len();
     put_front(&mut out[at..end], src);
+}
+
+// Whether two runs are the same. Of runs of one length every byte is looked at, whatever the others are.
+pub fn same(a: &[u8], b: &[u8]) -> bool
+    ensures { λ r. ⌜ r ≡ R.same (now (a .entry)) (now (b .entry)) ⌝ }
+{
+    if a.len() != b.len() {
+        return false;
+    }
+    let mut differences: u8 = 0;
+    let mut i = 0;
+    while i < a.len() {
+        differences = differences | (a[i] ^ b[i]);
+        i += 1;
+    }
+    differences == 0
 }

@@ -1,0 +1,101 @@
+-- The test of two runs: it holds exactly of equal runs, and a loop can make it by gathering the differences.
+-- Assumes nothing.
+use mathlib.Core.Path.{_≡_, refl, sym, ap, ap₂, _∙_}
+use mathlib.Core.List.{List, [], _∷_}
+use mathlib.Core.Bool.{Bool, true, false, false≢true, _&&_}
+use Prim.Native.Nat.{ℕ, zero, suc, _+_, _≤_, _<_}
+use native.Mathlib.Nat.{le-of-suc-le-suc, not-suc-le-zero}
+use native.Mathlib.Numerals.{add-one}
+use native.Mathlib.Omega.{arith}
+use borrow.Author.Tests.{eqb-true, eqb-false, eq-eqb, ne-eqb}
+use lib.Bits.{bitAnd, bitOr, bitXor, or-add-and, xor-add-and, and-le-l, and-le-r, xor-self}
+use lib.Dec.{eqb}
+use lib.ListN.{length, getD, take}
+use lib.Seq.{take-all}
+use Rattle.cells.specs.Runs.{same}
+
+pub same-equal : (xs ys : List ℕ) → same xs ys ≡ true → xs ≡ ys
+unfolding same
+same-equal [] [] e = refl
+same-equal [] (y ∷ ys) e = absurd (false≢true e)
+same-equal (x ∷ xs) [] e = absurd (false≢true e)
+same-equal (x ∷ xs) (y ∷ ys) e = by (eqb x y) refl (same-equal xs ys) e
+  where
+    by : (t : Bool) → eqb x y ≡ t → (same xs ys ≡ true → xs ≡ ys) → (t && same xs ys) ≡ true → x ∷ xs ≡ y ∷ ys
+    by true p rest f = ap₂ _∷_ (eqb-true x y p) (rest f)
+    by false p rest f = absurd (false≢true f)
+
+pub same-self : (xs : List ℕ) → same xs xs ≡ true
+unfolding same
+same-self [] = refl
+same-self (x ∷ xs) = rw (eq-eqb x x refl) (same-self xs)
+
+pub same-not : (xs ys : List ℕ) → (xs ≡ ys → ⊥) → same xs ys ≡ false
+same-not xs ys differ = by (same xs ys) refl
+  where
+    by : (t : Bool) → same xs ys ≡ t → t ≡ false
+    by true e = absurd (differ (same-equal xs ys e))
+    by false e = refl
+
+pub same-comm : (xs ys : List ℕ) → same xs ys ≡ same ys xs
+same-comm xs ys = by (same xs ys) refl
+  where
+    by : (t : Bool) → same xs ys ≡ t → t ≡ same ys xs
+    by true e = sym (ap (λ (l : List ℕ). same ys l) (same-equal xs ys e) ∙ same-self ys)
+    by false e = sym (same-not ys xs (λ k. false≢true (sym e ∙ ap (λ (l : List ℕ). same xs l) k ∙ same-self xs)))
+
+-- tests of facts that follow from each other
+eqb-same : (a b c d : ℕ) → (a ≡ b → c ≡ d) → (c ≡ d → a ≡ b) → eqb a b ≡ eqb c d
+eqb-same a b c d to from = by (eqb a b) refl
+  where
+    by : (t : Bool) → eqb a b ≡ t → eqb a b ≡ eqb c d
+    by true e = e ∙ sym (eq-eqb c d (to (eqb-true a b e)))
+    by false e = e ∙ sym (ne-eqb c d (λ q. eqb-false a b e (from q)))
+
+-- differences gathered are none exactly if there were none and there is none now
+or-zero : (d x : ℕ) → eqb (bitOr d x) 0 ≡ (eqb d 0 && eqb x 0)
+or-zero d x = by (eqb d 0) refl
+  where
+    by : (t : Bool) → eqb d 0 ≡ t → eqb (bitOr d x) 0 ≡ (t && eqb x 0)
+    by true e =
+        let z : d ≡ 0 = eqb-true d 0 e in
+        eqb-same (bitOr d x) 0 x 0
+        (λ q. omega (arith, or-add-and d x, and-le-l d x, and-le-r d x))
+        (λ q. omega (arith, or-add-and d x, and-le-l d x, and-le-r d x))
+    by false e = ne-eqb (bitOr d x) 0 (λ q. eqb-false d 0 e (omega (arith, or-add-and d x, and-le-l d x, and-le-r d x)))
+
+xor-zero : (x y : ℕ) → eqb (bitXor x y) 0 ≡ eqb x y
+xor-zero x y =
+    eqb-same (bitXor x y) 0 x y
+    (λ q. omega (arith, xor-add-and x y, and-le-l x y, and-le-r x y))
+    (λ q. ap (λ (n : ℕ). bitXor n y) q ∙ xor-self y)
+
+and-assoc : (a b c : Bool) → (a && (b && c)) ≡ ((a && b) && c)
+and-assoc true b c = refl
+and-assoc false b c = refl
+
+and-true : (a : Bool) → a ≡ (a && true)
+and-true true = refl
+and-true false = refl
+
+one-more : (xs ys : List ℕ) (i : ℕ) → i < length xs → i < length ys
+    → (same (take i xs) (take i ys) && eqb (getD xs i 0) (getD ys i 0)) ≡ same (take (suc i) xs) (take (suc i) ys)
+unfolding same
+one-more [] ys i h k = absurd (not-suc-le-zero h)
+one-more (x ∷ xs) [] i h k = absurd (not-suc-le-zero k)
+one-more (x ∷ xs) (y ∷ ys) zero h k = and-true (eqb x y)
+one-more (x ∷ xs) (y ∷ ys) (suc i) h k =
+    sym (and-assoc (eqb x y) (same (take i xs) (take i ys)) (eqb (getD xs i 0) (getD ys i 0)))
+    ∙ ap (λ (t : Bool). eqb x y && t) (one-more xs ys i (le-of-suc-le-suc h) (le-of-suc-le-suc k))
+
+-- a turn of the loop that gathers the differences, and its end
+pub compared-more : (xs ys : List ℕ) (i d : ℕ) → i < length xs → i < length ys → eqb d 0 ≡ same (take i xs) (take i ys)
+    → eqb (bitOr d (bitXor (getD xs i 0) (getD ys i 0))) 0 ≡ same (take (i + 1) xs) (take (i + 1) ys)
+compared-more xs ys i d h k e =
+    or-zero d (bitXor (getD xs i 0) (getD ys i 0))
+    ∙ ap₂ _&&_ e (xor-zero (getD xs i 0) (getD ys i 0))
+    ∙ one-more xs ys i h k
+    ∙ rw add-one
+
+pub compared-all : (xs ys : List ℕ) (i : ℕ) → length xs ≤ i → length ys ≤ i → same (take i xs) (take i ys) ≡ same xs ys
+compared-all xs ys i h k = ap₂ same (take-all i xs h) (take-all i ys k)
