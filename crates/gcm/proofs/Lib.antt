@@ -5,4 +5,3 @@ pub mod Product
 pub mod Blocks
 pub mod Masking
 pub mod Hashing
-pub mod Equality

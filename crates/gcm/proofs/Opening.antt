@@ -10,8 +10,9 @@ use Rattle.cells.specs.Numbers.{bytesOf}
 use Rattle.cells.proofs.Numbers.{length-bytesOf}
 use Rattle.gcm.specs.Ghash.{ghash}
 use Rattle.gcm.specs.Gctr.{inc32}
-use Rattle.gcm.specs.Gcm.{preCounter, crypted, hashKey, hashInput, tagOf, sealed, equal, given, opened}
-use Rattle.gcm.proofs.Equality.{equal-true, equal-refl}
+use Rattle.gcm.specs.Gcm.{preCounter, crypted, hashKey, hashInput, tagOf, sealed, given, opened}
+use Rattle.cells.specs.Runs.{same}
+use Rattle.cells.proofs.Equality.{same-equal, same-self}
 use Rattle.gcm.proofs.Masking.{gctr-back, length-gctr}
 
 -- a text's cipher text, and a cipher text's text, are as long as it
@@ -32,7 +33,7 @@ crypted-back key iv text = gctr-back key (inc32 (preCounter iv)) text
 pub opened-sealed : (key iv aad text : List ℕ) → opened key iv aad (sealed key iv aad text .cipher) (sealed key iv aad text .tag) ≡ some text
 unfolding opened sealed
 opened-sealed key iv aad text =
-    ap₂ given (equal-refl (tagOf key iv aad (crypted key iv text))) (crypted-back key iv text)
+    ap₂ given (same-self (tagOf key iv aad (crypted key iv text))) (crypted-back key iv text)
 
 -- a text that was given was given for the right tag
 given-some : (t : Bool) (text p : List ℕ) → given t text ≡ some p → (t ≡ true) × (text ≡ p)
@@ -44,7 +45,7 @@ pub sealed-opened : (key iv aad cipher tag text : List ℕ) → opened key iv aa
     → sealed key iv aad text ≡ record { cipher = cipher; tag = tag }
 unfolding opened sealed
 sealed-opened key iv aad cipher tag text e =
-    let found = given-some (equal tag (tagOf key iv aad cipher)) (crypted key iv cipher) text e in
-    let same : tag ≡ tagOf key iv aad cipher = equal-true tag (tagOf key iv aad cipher) (found .0) in
+    let found = given-some (same tag (tagOf key iv aad cipher)) (crypted key iv cipher) text e in
+    let right : tag ≡ tagOf key iv aad cipher = same-equal tag (tagOf key iv aad cipher) (found .0) in
     let back : crypted key iv text ≡ cipher = ap (crypted key iv) (sym (found .1)) ∙ crypted-back key iv cipher in
-    ap (λ (c : List ℕ). record { cipher = c; tag = tagOf key iv aad c }) back ∙ ap (λ (t : List ℕ). record { cipher = cipher; tag = t }) (sym same)
+    ap (λ (c : List ℕ). record { cipher = c; tag = tagOf key iv aad c }) back ∙ ap (λ (t : List ℕ). record { cipher = cipher; tag = t }) (sym right)

@@ -4,9 +4,9 @@ use mathlib.Core.Bool.{Bool, true, false}
 use mathlib.Core.List.{List, [], _∷_, _++_}
 use mathlib.Core.Option.{Option, none, some}
 use Prim.Native.Nat.{ℕ, _-_, _*_, _%_}
-use lib.Dec.{eqb}
 use lib.ListN.{length, replicate}
 use Rattle.aes.specs.Cipher.{aes256}
+use Rattle.cells.specs.Runs.{same}
 use Rattle.cells.specs.Numbers.{bytesOf, number}
 use Rattle.gcm.specs.Ghash.{ghash}
 use Rattle.gcm.specs.Gctr.{inc32, gctr}
@@ -43,21 +43,10 @@ unfoldable pub sealed : List ℕ → List ℕ → List ℕ → List ℕ → Seal
 sealed key iv aad text =
     record { cipher = crypted key iv text; tag = tagOf key iv aad (crypted key iv text) }
 
-abbrev pub both : Bool → Bool → Bool
-both true b = b
-both false b = false
-
--- whether two runs are the same
-unfoldable pub equal : List ℕ → List ℕ → Bool
-equal [] [] = true
-equal [] (y ∷ ys) = false
-equal (x ∷ xs) [] = false
-equal (x ∷ xs) (y ∷ ys) = both (eqb x y) (equal xs ys)
-
 abbrev pub given : Bool → List ℕ → Option (List ℕ)
 given true text = some text
 given false text = none
 
 -- 7.2: the text, where the tag is that of the cipher text
 unfoldable pub opened : List ℕ → List ℕ → List ℕ → List ℕ → List ℕ → Option (List ℕ)
-opened key iv aad cipher tag = given (equal tag (tagOf key iv aad cipher)) (crypted key iv cipher)
+opened key iv aad cipher tag = given (same tag (tagOf key iv aad cipher)) (crypted key iv cipher)

@@ -261,20 +261,6 @@ pub fn seal(key: &[u8], iv: &[u8], text: &[u8], out: &mut [u8], tag: &mut [u8])
     tag_of(&keys, iv, out, tag);
 }
 
-// Whether two tags are the same: every byte is looked at, whatever the others are.
-fn same(a: &[u8], b: &[u8]) -> bool
-    requires { ⌜ (length (now a) ≡ 16) × (length (now b) ≡ 16) ⌝ }
-    ensures { λ r. ⌜ r ≡ S.equal (now (a .entry)) (now (b .entry)) ⌝ }
-{
-    let mut differences = 0u32;
-    let mut i = 0;
-    while i < 16 {
-        differences += (a[i] ^ b[i]) as u32;
-        i += 1;
-    }
-    differences == 0
-}
-
 pub enum Opened {
     Text,
     Wrong,
@@ -288,7 +274,7 @@ pub fn unseal(key: &[u8], iv: &[u8], cipher: &[u8], tag: &[u8], out: &mut [u8]) 
     let keys = aes::expand(key);
     let mut right = [0u8; 16];
     tag_of(&keys, iv, cipher, &mut right);
-    if !same(tag, &right) {
+    if !cells::same(tag, &right) {
         return Opened::Wrong;
     }
     stream(&keys, next(pre_counter(iv)), cipher, out);

@@ -1,5 +1,4 @@
 -- The laws that callers' proofs cite, and those of this crate's own functions.
-pub mod Same
 pub mod Records
 pub mod Scan
 pub mod Tests

@@ -12,10 +12,11 @@ use lib.ListN.{length, getD}
 use Rattle.window.specs.Window.{bit}
 use Rattle.table.specs.declared.session.Record.{Record}
 use Rattle.table.specs.Record.{freed}
-use Rattle.table.specs.Table.{same, isUsed, isFree, holds}
+use Rattle.table.specs.Table.{isUsed, isFree, holds}
 use Rattle.table.specs.WellFormed.{traceless, blank, windowSound, sound, some, fitting, wellFormed, Sound, WellFormed}
 use Rattle.table.proofs.Records.{alike}
-use Rattle.table.proofs.Same.{same-equal}
+use Rattle.cells.specs.Runs.{same}
+use Rattle.cells.proofs.Equality.{same-equal}
 use Rattle.table.proofs.Tests.{both, refuted, holds-used, used-holds}
 use Rattle.table.proofs.Found.{some-passes, none-passes}
 

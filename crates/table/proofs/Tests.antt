@@ -6,8 +6,9 @@ use mathlib.Core.Bool.{Bool, true, false, false≢true, _&&_}
 use Prim.Native.Nat.{ℕ}
 use borrow.Author.Tests.{eqb-true, eq-eqb}
 use Rattle.table.specs.declared.session.Record.{Record}
-use Rattle.table.specs.Table.{same, holds}
-use Rattle.table.proofs.Same.{same-equal, same-self}
+use Rattle.table.specs.Table.{holds}
+use Rattle.cells.specs.Runs.{same}
+use Rattle.cells.proofs.Equality.{same-equal, same-self}
 
 pub both : (a b : Bool) → (a && b) ≡ true → (a ≡ true) × (b ≡ true)
 both true b e = (refl, e)

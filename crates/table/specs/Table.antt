@@ -7,7 +7,7 @@ use mathlib.Core.List.{List, [], _∷_}
 use mathlib.Core.Bool.{Bool, true, false, _&&_}
 use lib.ListN.{length, take, drop}
 use lib.Dec.{leb, eqb}
-use Rattle.cells.specs.Runs.{part}
+use Rattle.cells.specs.Runs.{part, same}
 use Rattle.table.specs.declared.session.Record.{Record}
 use Rattle.table.specs.declared.place.Place.{Place}
 use Rattle.table.specs.declared.place.Place.the-variants.{At, Nowhere}
@@ -41,13 +41,6 @@ orElse Nowhere other = other
 abbrev pub firstFrom : (Record → Bool) → ℕ → List Record → Place
 firstFrom test place [] = Nowhere
 firstFrom test place (r ∷ rs) = choose (test r) (At place) (firstFrom test (suc place) rs)
-
--- two byte runs are one
-unfoldable pub same : List ℕ → List ℕ → Bool
-same [] [] = true
-same [] (y ∷ ys) = false
-same (x ∷ xs) [] = false
-same (x ∷ xs) (y ∷ ys) = eqb x y && same xs ys
 
 abbrev pub isUsed : Record → Bool
 isUsed r = eqb (r .used) 1

@@ -7,10 +7,11 @@ use mathlib.Core.Logic.{_⊎_}
 use mathlib.Core.Bool.{Bool, true, false, not, cond, _&&_, _||_}
 use lib.ListN.{length, getD}
 use lib.Dec.{eqb}
+use Rattle.cells.specs.Runs.{same}
 use Rattle.window.specs.Window.{bit}
 use Rattle.table.specs.declared.session.Record.{Record}
 use Rattle.table.specs.Record.{freed}
-use Rattle.table.specs.Table.{isUsed, isFree, holds, same}
+use Rattle.table.specs.Table.{isUsed, isFree, holds}
 
 -- zero nonce and bits
 abbrev pub traceless : Record → Bool

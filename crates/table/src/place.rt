@@ -4,30 +4,13 @@ ghost use Prim.Native.Nat.{_*_, _<_, _≤_};
 ghost use lib.ListN.{length, drop};
 ghost use lib.Dec.{eqb};
 ghost use Rattle.table.specs.Record.{size};
-ghost use Rattle.table.specs.Table.{places, recordAt, records, firstFrom, same, holds, isFree, lapsed, found, taken, Placed};
+ghost use Rattle.table.specs.Table.{places, recordAt, records, firstFrom, holds, isFree, lapsed, found, taken, Placed};
 use super::session::SIZE;
 use window::time::Time;
 
 pub enum Place {
     At(usize),
     Nowhere,
-}
-
-// Whether two byte runs are one.
-pub fn equal(a: &[u8], b: &[u8]) -> bool
-    ensures { λ r. ⌜ r ≡ same (now (a .entry)) (now (b .entry)) ⌝ }
-{
-    if a.len() != b.len() {
-        return false;
-    }
-    let mut i = 0;
-    while i < a.len() {
-        if a[i] != b[i] {
-            return false;
-        }
-        i += 1;
-    }
-    true
 }
 
 // Whether a place has a used record with this IV.
@@ -39,7 +22,7 @@ fn has_iv(table: &[u8], place: usize, iv: &[u8]) -> bool
     if table[at] != 1 {
         return false;
     }
-    equal(&table[at + 1..at + 13], iv)
+    cells::same(&table[at + 1..at + 13], iv)
 }
 
 // The lowest place from `start` on that has a used record with this IV.

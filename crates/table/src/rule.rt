@@ -35,7 +35,7 @@ fn holds_zeros(session: Record) -> bool
     }
     let iv = session.iv;
     let zeros = [0u8; 12];
-    place::equal(&iv, &zeros)
+    cells::same(&iv, &zeros)
 }
 
 // Whether mark, nonce and bits fit each other.

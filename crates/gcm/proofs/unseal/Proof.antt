@@ -5,7 +5,8 @@ use mathlib.Core.List.{[]}
 use mathlib.Core.Path.{_≡_, sym, ap, _∙_}
 use borrow.Author.Needs.{needs}
 use borrow.Author.Tests.{not-true, not-false}
-use Rattle.gcm.specs.Gcm.{crypted, tagOf, equal, given, opened}
+use Rattle.gcm.specs.Gcm.{crypted, tagOf, given, opened}
+use Rattle.cells.specs.Runs.{same}
 use Rattle.gcm.specs.Code.{answer, left}
 use Rattle.gcm.proofs.Masking.{crypted-by}
 use Rattle.gcm.proofs.unseal.Statement.{statement}
@@ -20,8 +21,8 @@ returns c =
     let cipher = start .args .cipher .now in
     let tag = start .args .tag .now in
     let right = c .before .before .before .before .tag-of .ensures key (c .before .before .before .before .before .before .before .expand .ensures) in
-    let wrong : equal tag (tagOf key iv [] cipher) ≡ false =
-    sym (c .before .same .ensures ∙ ap (equal tag) right) ∙ not-true (c .before .same .result) (c .if1 .taken)
+    let wrong : same tag (tagOf key iv [] cipher) ≡ false =
+    sym (c .before .same .ensures ∙ ap (same tag) right) ∙ not-true (c .before .same .result) (c .if1 .taken)
     in
     (ap (λ (t : Bool). answer (given t (crypted key iv cipher))) (sym wrong), ap (λ (t : Bool). left (given t (crypted key iv cipher)) (start .args .out .now)) (sym wrong))
 
@@ -35,12 +36,12 @@ returns-2 c =
     let tag = start .args .tag .now in
     let expands = c .before .before .before .before .before .before .before .before .before .before .before .before .before .before .expand .ensures in
     let right = c .before .before .before .before .before .before .before .before .before .before .before .tag-of .ensures key expands in
-    let same : equal tag (tagOf key iv [] cipher) ≡ true =
-    sym (c .before .before .before .before .before .before .before .before .same .ensures ∙ ap (equal tag) right) ∙ not-false (c .before .before .before .before .before .before .before .before .same .result) (c .before .before .before .before .before .before .before .if1 .left)
+    let found : same tag (tagOf key iv [] cipher) ≡ true =
+    sym (c .before .before .before .before .before .before .before .before .same .ensures ∙ ap (same tag) right) ∙ not-false (c .before .before .before .before .before .before .before .before .same .result) (c .before .before .before .before .before .before .before .if1 .left)
     in (
-      ap (λ (t : Bool). answer (given t (crypted key iv cipher))) (sym same),
+      ap (λ (t : Bool). answer (given t (crypted key iv cipher))) (sym found),
       c .before .before .stream .ensures key expands ∙ crypted-by key iv cipher (c .before .before .before .before .before .pre-counter .ensures) (c .before .before .before .before .next .ensures)
-          ∙ ap (λ (t : Bool). left (given t (crypted key iv cipher)) (start .args .out .now)) (sym same),
+          ∙ ap (λ (t : Bool). left (given t (crypted key iv cipher)) (start .args .out .now)) (sym found),
     )
 
 pub unseal-spec : {M : Type 1} → statement M

@@ -7,7 +7,7 @@ use lib.ListN.{getD}
 use borrow.Author.Tests.{eq-eqb, ne-eqb}
 use borrow.Author.Needs.{needs}
 use Rattle.cells.specs.Runs.{part}
-use Rattle.table.specs.Table.{same}
+use Rattle.cells.specs.Runs.{same}
 use Rattle.table.proofs.Records.{used-at, iv-at}
 use Rattle.table.proofs.place.has_iv.Statement.{statement}
 use Rattle.table.proofs.place.has_iv.Tie as tie
@@ -23,7 +23,7 @@ returns-2 c =
     let start = c .before .before .before .before .before .before in
     let a = start .args in
     let long : 30 * a .place + 13 - (30 * a .place + 1) ≡ 12 = omega arith in
-    c .equal .ensures
+    c .same .ensures
     ∙ ap (λ (n : ℕ). same (part (a .table .now) (30 * a .place + 1) n) (a .iv .now)) long
     ∙ rw (used-at (a .table .now) (a .place) (start .pre), eq-eqb _ _ (c .before .before .if1 .left))
     (ap (λ (l : List ℕ). same l (a .iv .now)) (sym (iv-at (a .table .now) (a .place) (start .pre))))

@@ -22,7 +22,7 @@ returns-3 c =
 returns-4 : tie.Need-returns-4
 returns-4 c =
     let traced = c .before .before .before .before .before in
-    c .equal .ensures
+    c .same .ensures
     ∙ rw (
       eq-eqb _ _ (traced .before .before .before .if1 .left),
       eq-eqb _ _ (traced .before .if2 .left),
