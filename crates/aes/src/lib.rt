@@ -1,7 +1,7 @@
 // AES-256 (FIPS 197): the key schedule and the cipher of one block.
 ghost use mathlib.Core.Path.{_≡_};
 ghost use mathlib.Core.List.{[], _∷_};
-ghost use Prim.Native.Nat.{_+_, _-_, _*_, _/_, _≤_, _<_};
+ghost use Prim.Native.Nat.{_-_, _*_, _≤_, _<_};
 ghost use lib.ListN.{length};
 ghost use Rattle.cells.specs.Runs.{spliced};
 ghost use Rattle.aes.specs.Field.{xtimes, powerOfX};

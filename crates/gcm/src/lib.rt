@@ -1,7 +1,7 @@
 // AES-256-GCM (NIST SP 800-38D) with IVs of 96 bits, tags of 128 bits and no associated data.
 ghost use mathlib.Core.Path.{_≡_};
 ghost use mathlib.Core.List.{List, [], _++_};
-ghost use Prim.Native.Nat.{ℕ, _+_, _-_, _*_, _/_, _%_, _^_, _≤_, _<_, min};
+ghost use Prim.Native.Nat.{ℕ, _+_, _-_, _*_, _/_, _^_, _≤_, _<_, min};
 ghost use lib.Bits.{bitXor};
 ghost use lib.ListN.{length, replicate};
 ghost use Rattle.aes.specs.Cipher.{keyExpansion, cipher};

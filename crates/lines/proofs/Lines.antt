@@ -2,8 +2,8 @@
 -- Assumes nothing.
 use mathlib.Core.Path.{_≡_, refl, sym, ap, ap₂, subst, _∙_}
 use mathlib.Core.List.{List, [], _∷_, _++_, append-assoc}
-use mathlib.Core.Bool.{Bool, true, false, cond, _&&_, and-eq-true-iff}
-use mathlib.Core.Option.{Option, none, some}
+use mathlib.Core.Bool.{Bool, true, false, cond, and-eq-true-iff}
+use mathlib.Core.Option.{none, some}
 use Prim.Native.Nat.{ℕ, zero, suc, _+_, _-_, _≤_, _<_}
 use native.Mathlib.Omega.{arith}
 use borrow.Author.Tests.{eqb-true, eq-eqb, ltb-true, lt-ltb}
@@ -12,28 +12,17 @@ use lib.ListN.{length, take, drop, length-append, length-drop, take-append-drop}
 use lib.Seq.{take-append-seam, drop-append-seam}
 use Rattle.orders.specs.Text.{codes}
 use Rattle.orders.specs.Spans.{all, leading}
+use Rattle.cells.specs.Runs.{same}
+use Rattle.cells.proofs.Equality.{same-self, same-equal}
 use Rattle.orders.specs.Names.{hasByte, tokenByte, isToken}
 use Rattle.orders.proofs.Spans.{leading-append}
-use Rattle.lines.specs.Lines.{Line, colon, CR, LF, valueByte, goodLine, allGood, lineText, textOf, Lines, sameBytes, frontLine, startsLine, linesUpTo, linesIn, goodBlock, linesOf}
+use Rattle.lines.specs.Lines.{Line, colon, CR, LF, valueByte, goodLine, allGood, lineText, textOf, Lines, frontLine, startsLine, linesUpTo, linesIn, goodBlock, linesOf}
 
-pub bytes-refl : (xs : List ℕ) → sameBytes xs xs ≡ true
-unfolding sameBytes
-bytes-refl [] = refl
-bytes-refl (x ∷ xs) = and-eq-true-iff (eqb x x) (sameBytes xs xs) .1 (eq-eqb x x refl, bytes-refl xs)
-
-pub bytes-equal : (xs ys : List ℕ) → sameBytes xs ys ≡ true → xs ≡ ys
-unfolding sameBytes
-bytes-equal [] [] h = refl
-bytes-equal [] (y ∷ ys) h = cc
-bytes-equal (x ∷ xs) [] h = cc
-bytes-equal (x ∷ xs) (y ∷ ys) h =
-    let both = and-eq-true-iff (eqb x y) (sameBytes xs ys) .0 h in
-    ap₂ _∷_ (eqb-true x y (both .0)) (bytes-equal xs ys (both .1))
-
-bytes-prefix : (p xs ys : List ℕ) → sameBytes (p ++ xs) (p ++ ys) ≡ sameBytes xs ys
-unfolding sameBytes
-bytes-prefix [] xs ys = refl
-bytes-prefix (b ∷ p) xs ys = rw (eq-eqb b b refl) (bytes-prefix p xs ys)
+-- runs that begin alike
+same-prefix : (p xs ys : List ℕ) → same (p ++ xs) (p ++ ys) ≡ same xs ys
+unfolding same
+same-prefix [] xs ys = refl
+same-prefix (b ∷ p) xs ys = rw (eq-eqb b b refl) (same-prefix p xs ys)
 
 -- the parts of a good line
 pub good-name : (l : Line) → goodLine l ≡ true → (0 < length (l .name)) × (all tokenByte (l .name) ≡ true)
@@ -86,7 +75,7 @@ front-line l rest h =
 pub starts-line : (l : Line) (rest : List ℕ) → goodLine l ≡ true → startsLine (lineText l ++ rest) ≡ true
 unfolding startsLine
 starts-line l rest h =
-    rw (front-line l rest h, take-append-seam (lineText l) rest, h) (bytes-refl (lineText l))
+    rw (front-line l rest h, take-append-seam (lineText l) rest, h) (same-self (lineText l))
 
 -- a run that is found to begin with a line does
 pub started : (xs : List ℕ) → startsLine xs ≡ true
@@ -94,8 +83,8 @@ pub started : (xs : List ℕ) → startsLine xs ≡ true
 unfolding startsLine
 started xs h =
     let text = lineText (frontLine xs) in
-    let both = and-eq-true-iff (goodLine (frontLine xs)) (sameBytes (take (length text) xs) text) .0 h in
-    (both .0, sym (take-append-drop (length text) xs) ∙ ap (λ (l : List ℕ). l ++ drop (length text) xs) (bytes-equal (take (length text) xs) text (both .1)))
+    let both = and-eq-true-iff (goodLine (frontLine xs)) (same (take (length text) xs) text) .0 h in
+    (both .0, sym (take-append-drop (length text) xs) ∙ ap (λ (l : List ℕ). l ++ drop (length text) xs) (same-equal (take (length text) xs) text (both .1)))
 
 no-line-empty : startsLine [] ≡ false
 unfolding startsLine goodLine isToken frontLine leading
@@ -150,14 +139,14 @@ lines-stop xs h = up-to-stop (length xs) xs (go (startsLine xs) refl)
 -- the same of whether a block is lines
 pub good-none : goodBlock [] ≡ true
 unfolding goodBlock textOf
-good-none = rw lines-none (bytes-refl [])
+good-none = rw lines-none (same-self [])
 
 pub good-more : (l : Line) (rest : List ℕ) → goodLine l ≡ true → goodBlock (lineText l ++ rest) ≡ goodBlock rest
 unfolding goodBlock textOf
-good-more l rest h = rw (lines-more l rest h) (bytes-prefix (lineText l) (textOf (linesIn rest)) rest)
+good-more l rest h = rw (lines-more l rest h) (same-prefix (lineText l) (textOf (linesIn rest)) rest)
 
 pub good-stop : (xs : List ℕ) → 0 < length xs → ((l : Line) (rest : List ℕ) → goodLine l ≡ true → xs ≡ lineText l ++ rest → ⊥) → goodBlock xs ≡ false
-unfolding goodBlock textOf sameBytes
+unfolding goodBlock textOf same
 good-stop [] k h = absurd (omega arith)
 good-stop (x ∷ xs) k h = rw (lines-stop (x ∷ xs) h)
 
@@ -174,7 +163,7 @@ all-good (suc n) xs = go (startsLine xs) refl (all-good n (drop (length (lineTex
 
 pub good-lines : (block : List ℕ) → goodBlock block ≡ true → Lines block (linesIn block)
 unfolding goodBlock linesIn
-good-lines block h = record { text = sym (bytes-equal (textOf (linesIn block)) block h); good = all-good (length block) block }
+good-lines block h = record { text = sym (same-equal (textOf (linesIn block)) block h); good = all-good (length block) block }
 
 pub lines-text : (ls : List Line) → allGood ls ≡ true → linesIn (textOf ls) ≡ ls
 unfolding textOf allGood
@@ -189,7 +178,7 @@ lines-unique block ls h = ap linesIn (h .text) ∙ lines-text ls (h .good)
 
 pub lines-good : (block : List ℕ) (ls : List Line) → Lines block ls → goodBlock block ≡ true
 unfolding goodBlock
-lines-good block ls h = rw (lines-unique block ls h, ← (h .text)) (bytes-refl block)
+lines-good block ls h = rw (lines-unique block ls h, ← (h .text)) (same-self block)
 
 pub linesOf-lines : (block : List ℕ) (ls : List Line) → linesOf block ≡ some ls → Lines block ls
 unfolding linesOf

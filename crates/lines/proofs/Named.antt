@@ -1,10 +1,11 @@
 -- Laws of names and values in lines, one line at a time.
 -- Assumes nothing.
-use mathlib.Core.Path.{_≡_, refl, sym, ap, ap₂, _∙_}
+use mathlib.Core.Path.{_≡_, refl, sym, ap, _∙_}
 use mathlib.Core.List.{List, [], _∷_, _++_}
-use mathlib.Core.Bool.{Bool, true, false, cond, _||_, or-assoc}
+use mathlib.Core.Bool.{Bool, true, false, _||_, or-assoc}
 use mathlib.Core.Option.{none, some}
 use Prim.Native.Nat.{ℕ, suc, _+_, _≤_}
+use native.Mathlib.Omega.{arith}
 use lib.Dec.{ltb}
 use lib.ListN.{length, drop, drop-of-length-le}
 use Rattle.orders.specs.Names.{sameName}
@@ -37,11 +38,11 @@ module _ (l : Line) (ls : List Line) (name : List ℕ) where
 
   pub times-here : sameName (l .name) name ≡ true → timesNamed (l ∷ ls) name ≡ suc (timesNamed ls name)
   unfolding timesNamed
-  times-here h = rw h
+  times-here h = rw h (omega arith)
 
   pub times-later : sameName (l .name) name ≡ false → timesNamed (l ∷ ls) name ≡ timesNamed ls name
   unfolding timesNamed
-  times-later h = rw h
+  times-later h = rw h (omega arith)
 
 pub value-none : (name : List ℕ) → valueIn [] name ≡ none
 unfolding valueIn

@@ -1,12 +1,13 @@
 -- Header lines, of the head and set aside: document 01, 'Header lines and the signed text'.
 -- Assumes nothing.
-use Prim.Native.Nat.{ℕ, zero, suc, _+_}
+use Prim.Native.Nat.{ℕ, zero, suc}
 use mathlib.Core.Path.{_≡_}
 use mathlib.Core.List.{List, [], _∷_, _++_}
 use mathlib.Core.Bool.{Bool, true, false, cond, _&&_, _||_}
 use mathlib.Core.Option.{Option, none, some}
 use lib.ListN.{length, take, drop}
 use lib.Dec.{eqb}
+use Rattle.cells.specs.Runs.{same}
 use Rattle.orders.specs.Spans.{all, leading}
 use Rattle.orders.specs.Names.{between, tokenByte, isToken}
 
@@ -47,12 +48,6 @@ pub record Lines (block : List ℕ) (ls : List Line) : Type 0 where
   pub text : block ≡ textOf ls
   pub good : allGood ls ≡ true
 
-unfoldable pub sameBytes : List ℕ → List ℕ → Bool
-sameBytes [] [] = true
-sameBytes [] (y ∷ ys) = false
-sameBytes (x ∷ xs) [] = false
-sameBytes (x ∷ xs) (y ∷ ys) = eqb x y && sameBytes xs ys
-
 -- the line that a run begins with, if it begins with one: a token, a byte, and what may be in a value
 unfoldable pub frontLine : List ℕ → Line
 frontLine xs =
@@ -64,7 +59,7 @@ frontLine xs =
 unfoldable pub startsLine : List ℕ → Bool
 startsLine xs =
     let text = lineText (frontLine xs) in
-    goodLine (frontLine xs) && sameBytes (take (length text) xs) text
+    goodLine (frontLine xs) && same (take (length text) xs) text
 
 -- the good lines that a run begins with, at most n of them
 unfoldable pub linesUpTo : ℕ → List ℕ → List Line
@@ -77,7 +72,7 @@ linesIn block = linesUpTo (length block) block
 
 -- the block is lines, and nothing else
 unfoldable pub goodBlock : List ℕ → Bool
-goodBlock block = sameBytes (textOf (linesIn block)) block
+goodBlock block = same (textOf (linesIn block)) block
 
 -- the lines of a block, if it is lines
 unfoldable pub linesOf : List ℕ → Option (List Line)

@@ -1,9 +1,9 @@
 -- Names that stand twice, and covered values: document 01, number 7 and 'Header lines and the signed text'.
 -- Assumes nothing.
-use Prim.Native.Nat.{ℕ, suc, max, _≤_}
+use Prim.Native.Nat.{ℕ, _+_, max, _≤_}
 use mathlib.Core.Path.{_≡_}
 use mathlib.Core.List.{List, [], _∷_}
-use mathlib.Core.Bool.{Bool, true, false, cond, _||_}
+use mathlib.Core.Bool.{Bool, false, cond, _||_}
 use mathlib.Core.Option.{Option, none, some}
 use lib.ListN.{length}
 use lib.Dec.{eqb, ltb}
@@ -35,7 +35,7 @@ trimmed value = trimEnd (trimFront value)
 -- how many lines bear the name
 unfoldable pub timesNamed : List Line → List ℕ → ℕ
 timesNamed [] name = 0
-timesNamed (l ∷ ls) name = cond (sameName (l .name) name) (suc (timesNamed ls name)) (timesNamed ls name)
+timesNamed (l ∷ ls) name = cond (sameName (l .name) name) 1 0 + timesNamed ls name
 
 -- one of the names stands twice or more
 unfoldable pub repeated : List (List ℕ) → List Line → Bool

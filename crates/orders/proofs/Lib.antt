@@ -2,4 +2,5 @@
 pub mod Spans
 pub mod Same
 pub mod Walk
+pub mod Orders
 pub mod Tokens

@@ -2,19 +2,18 @@
 -- Assumes nothing.
 use mathlib.Core.Path.{_≡_, refl, sym, ap, ap₂, _∙_}
 use mathlib.Core.List.{List, [], _∷_, _++_}
-use mathlib.Core.Bool.{Bool, true, false, not, cond, _&&_, and-eq-true-iff}
-use Prim.Native.Nat.{ℕ, zero, suc, _+_, _-_, _*_, _/_, _%_, _^_, _≤_, _<_}
+use mathlib.Core.Bool.{Bool, true, false, not, cond}
+use Prim.Native.Nat.{ℕ, zero, suc, _+_, _-_, _/_, _%_, _^_, _≤_, _<_}
 use native.Mathlib.Nat.{pow-suc}
 use native.Mathlib.Omega.{arith}
-use borrow.Author.Tests.{le-leb, lt-leb, leb-true, eq-eqb}
-use lib.Dec.{leb, ltb, eqb, leb·suc-suc}
+use borrow.Author.Tests.{le-leb, lt-leb, eq-eqb}
+use lib.Dec.{eqb, leb·suc-suc}
 use lib.Pow.{pow-pos}
-use lib.ListN.{length, take, drop, length-drop}
-use lib.Seq.{drop-drop}
+use lib.ListN.{length, take, drop}
 use Rattle.orders.specs.Spans.{leading, Spans, cut}
 use Rattle.orders.specs.Names.{headerNames}
-use Rattle.orders.specs.Extra.{comma, ontoFirst, pieces, extraNames, goodNames, goodExtra}
-use Rattle.orders.specs.Orders.{chosen, coveredNames, longestSessionLife, ordersGood}
+use Rattle.orders.specs.Extra.{comma, ontoFirst, pieces, extraNames}
+use Rattle.orders.specs.Orders.{chosen, coveredNames}
 use Rattle.orders.specs.Walk.{noComma, namesFrom}
 
 pub names-start : (run : List ℕ) → namesFrom run 0 ≡ pieces run
@@ -96,19 +95,6 @@ pub extra-some : (run : List ℕ) → (length run ≡ 0 → ⊥) → extraNames 
 unfolding extraNames
 extra-some [] h = absurd (h refl)
 extra-some (b ∷ bs) h = refl
-
--- good extra names are at most eight
-pub few-names : (run : List ℕ) → goodExtra run ≡ true → length (extraNames run) ≤ 8
-unfolding goodExtra
-few-names run h =
-    let outer = and-eq-true-iff (leb (length run) 128 && leb (length (extraNames run)) 8) (goodNames (extraNames run)) .0 h in
-    leb-true _ _ (and-eq-true-iff (leb (length run) 128) (leb (length (extraNames run)) 8) .0 (outer .0) .1)
-
-pub good-extra : (mask : ℕ) (extra : List ℕ) (sessionLife : ℕ) → ordersGood mask extra sessionLife ≡ true → goodExtra extra ≡ true
-unfolding ordersGood
-good-extra mask extra sessionLife h =
-    let outer = and-eq-true-iff (ltb mask (2 ^ 56) && goodExtra extra) (leb sessionLife longestSessionLife) .0 h in
-    and-eq-true-iff (ltb mask (2 ^ 56)) (goodExtra extra) .0 (outer .0) .1
 
 -- the covered names, for a caller that goes through the table that `names` gives, and then through the extra names
 pub covered-names : (mask : ℕ) (extra table : List ℕ) → pieces table ≡ headerNames

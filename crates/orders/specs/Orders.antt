@@ -2,7 +2,7 @@
 -- Assumes nothing.
 use Prim.Native.Nat.{ℕ, _^_, _/_, _%_}
 use mathlib.Core.List.{List, [], _∷_, _++_}
-use mathlib.Core.Bool.{Bool, cond, _&&_}
+use mathlib.Core.Bool.{Bool, true, false, cond, _&&_}
 use lib.Dec.{leb, ltb, eqb}
 use Rattle.orders.specs.Names.{headerNames}
 use Rattle.orders.specs.Extra.{extraNames, goodExtra}
@@ -10,10 +10,15 @@ use Rattle.orders.specs.declared.Limits.{Limits}
 use Rattle.orders.specs.declared.Checked.{Checked}
 use Rattle.orders.specs.declared.Checked.the-variants.{Good, Bad}
 
+-- a name before others, if it is chosen
+abbrev pub chosenFirst : Bool → List ℕ → List (List ℕ) → List (List ℕ)
+chosenFirst true n ns = n ∷ ns
+chosenFirst false n ns = ns
+
 -- the names whose bits are set in a number, the lowest bit for the first name
 unfoldable pub chosen : ℕ → List (List ℕ) → List (List ℕ)
 chosen bits [] = []
-chosen bits (n ∷ ns) = cond (eqb (bits % 2) 1) (n ∷ chosen (bits / 2) ns) (chosen (bits / 2) ns)
+chosen bits (n ∷ ns) = chosenFirst (eqb (bits % 2) 1) n (chosen (bits / 2) ns)
 
 -- the names that orders cover: by rising bit from bit 1 on, bit 0 being no name, and then the extra ones in their order
 unfoldable pub coveredNames : ℕ → List ℕ → List (List ℕ)

@@ -1,7 +1,7 @@
 -- `covered` meets its contract: the set-aside lines are asked first, and the head only where the name is missing there.
 -- Assumes nothing.
 use borrow.Author.Needs.{needs}
-use mathlib.Core.Path.{_≡_, sym}
+use mathlib.Core.Path.{sym}
 use native.Mathlib.Omega.{arith}
 use Rattle.lines.specs.Places.{FirstNamed}
 use Rattle.lines.proofs.Cuts.{length-cut}

@@ -1,7 +1,7 @@
 -- `line_at` meets its contract: where a test fails no good line stands, and where all hold one does.
 -- Assumes nothing.
 use borrow.Author.Needs.{needs}
-use mathlib.Core.Path.{_≡_, sym, _∙_}
+use mathlib.Core.Path.{sym, _∙_}
 use native.Mathlib.Omega.{arith}
 use Rattle.lines.proofs.Cuts.{inside}
 use Rattle.lines.proofs.Places.{whole, named-at, colon-at, return-at, feed-at}

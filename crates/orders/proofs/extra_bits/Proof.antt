@@ -3,7 +3,8 @@
 use mathlib.Core.Path.{sym, ap, _∙_}
 use Rattle.orders.specs.Extra.{extraNames}
 use Rattle.orders.specs.Orders.{chosen}
-use Rattle.orders.proofs.Walk.{names-start, chosen-none, chosen-all, extra-none, extra-some, few-names}
+use Rattle.orders.proofs.Walk.{names-start, chosen-none, chosen-all, extra-none, extra-some}
+use Rattle.orders.proofs.Orders.{few-names}
 use Rattle.orders.proofs.extra_bits.Statement.{statement}
 use Rattle.orders.proofs.extra_bits.Tie as tie
 

@@ -4,7 +4,7 @@ use borrow.Author.Needs.{needs}
 use borrow.Author.Tests.{le-leb, lt-leb}
 use native.Mathlib.Omega.{arith}
 use lib.ListN.{length}
-use Rattle.orders.specs.Extra.{pieces, goodNames, goodExtra}
+use Rattle.orders.specs.Extra.{goodNames, goodExtra}
 use Rattle.orders.proofs.Walk.{extra-none, extra-some}
 use Rattle.orders.proofs.good_extra.Statement.{statement}
 use Rattle.orders.proofs.good_extra.Tie as tie

@@ -5,8 +5,8 @@ use borrow.Author.Tests.{eq-eqb, ne-eqb}
 use mathlib.Core.Path.{_≡_, refl, sym, _∙_}
 use Prim.Native.Nat.{_≤_, _-_}
 use native.Mathlib.Omega.{arith}
-use lib.ListN.{length, getD, drop}
-use Rattle.orders.specs.Names.{lower, sameName}
+use lib.ListN.{length, drop}
+use Rattle.orders.specs.Names.{sameName}
 use Rattle.orders.proofs.Same.{other-length, same-from, same-end}
 use Rattle.orders.proofs.same_name.Statement.{statement}
 use Rattle.orders.proofs.same_name.Tie as tie
