@@ -31,6 +31,42 @@ FIPS_180_2_MILLION = (1000000, 0x61,
                       "de0ff244877ea60a4cb0432ce577c31beb009c5c2c49aa2e4eadb217ad8cc09b")
 # RFC 4231, 4.6: case 5, whose digest is cut to 128 bits. Debian's file leaves it out.
 RFC_4231_CASE_5 = (b"\x0c" * 20, b"Test With Truncation", "415fad6271580a531d4179bc891d87a6")
+# FIPS 197, C.3, and SP 800-38A, F.1.5. Each: key, and pairs of block and answer.
+FIPS_197_C_3 = ("000102030405060708090a0b0c0d0e0f101112131415161718191a1b1c1d1e1f",
+                [("00112233445566778899aabbccddeeff", "8ea2b7ca516745bfeafc49904b496089")])
+SP_800_38A_F_1_5 = ("603deb1015ca71be2b73aef0857d77811f352c073b6108d72d9810a30914dff4",
+                    [("6bc1bee22e409f96e93d7e117393172a", "f3eed1bdb5d2a03c064b5a7e3db181f8"),
+                     ("ae2d8a571e03ac9c9eb76fac45af8e51", "591ccb10d410ed26dc5ba74a31362870"),
+                     ("30c81c46a35ce411e5fbc1191a0a52ef", "b6ed21b99ca6f4f9f153e7b1beafed1d"),
+                     ("f69f2445df4f9b17ad2b417be66c3710", "23304b7a39f9f3ff067d8d8f9e24ecc7")])
+# RFC 4648, 10, and document 01, proved cases 2 to 5. Each: bytes and text.
+RFC_4648_10 = [(b"", b""), (b"f", b"Zg=="), (b"fo", b"Zm8="), (b"foo", b"Zm9v"), (b"foob", b"Zm9vYg=="),
+               (b"fooba", b"Zm9vYmE="), (b"foobar", b"Zm9vYmFy")]
+DOCUMENT_01 = [((2736056).to_bytes(3, "big"), b"Kb+4"), (b"\x01\x04", b"AQQ="),
+               ((1505773123).to_bytes(4, "big"), b"WcBGQw=="), (b"\x03\x0d\x73\xef", b"Aw1z7w==")]
+# Texts that encode nothing, by the section of RFC 4648 that forbids each; document 01, "The X-S-Armor value", keeps to it.
+OUTSIDE = [bytes([c]) for c in b" \n\r-_:;\x00\x80\xff"]
+SPACES = [b" ", b"\t", b"\n", b"\r\n", b"    "]
+NOT_BASE64 = [
+    ("3.5: spare bits set, of the four in a last group of one byte",
+     [b"Zh==", b"Zi==", b"Zk==", b"Zo==", b"AB==", b"AP==", b"A/==", b"Zm9vYh=="]),
+    ("3.5: spare bits set, of the two in a last group of two bytes",
+     [b"Zm9=", b"Zm+=", b"Zm/=", b"AAB=", b"AAC=", b"AAD=", b"AA/=", b"Zm9vYmF="]),
+    ("3.2: padding missing", [b"Zg", b"Zg=", b"Zm8", b"Zm9vYg", b"Zm9vYg=", b"Zm9vYmE"]),
+    ("3.2: padding too long",
+     [b"====", b"A===", b"Zg===", b"Zm8==", b"Zm9v=", b"Zm9v==", b"Zm9v===", b"Zm9v====", b"Zm9vA==="]),
+    ("3.2: padding in the middle",
+     [b"AA==AA==", b"AAA=AAA=", b"Zg==Zm9v", b"Zm8=Zm9v", b"AA=A", b"Zm9vAA=AZm9v"]),
+    ("3.2: = in the first or second place",
+     [b"=AAA", b"A=AA", b"==AA", b"=AA=", b"A=A=", b"=A==", b"A==A", b"Zm9v=AAA", b"Zm9vA=A="]),
+    ("4: a length that is not a multiple of four", [b"Z", b"ZZ", b"ZZZ", b"Zm9vZ", b"Zm9vZm", b"Zm9vZm9"]),
+    ("3.3: a character outside the alphabet in each place, and before padding",
+     [b"A" * at + c + b"A" * (3 - at) for c in OUTSIDE for at in range(4)]
+     + [before + c + after for c in OUTSIDE for before, after in ((b"A", b"=="), (b"AA", b"="))]),
+    ("3.3: white space at either end, or between groups",
+     [space + b"Zm9v" for space in SPACES] + [b"Zm9v" + space for space in SPACES]
+     + [b"Zg==\n", b"Zg== ", b"Zm9v\nZm9v", b"Zm9v\r\nZm9v"]),
+]
 
 
 def shown(run):
@@ -42,8 +78,8 @@ def records(path):
     settings, record = {}, {}
     for line in path.read_text().splitlines() + [""]:
         line = line.strip()
-        if line.startswith("[") and "=" in line:
-            name, value = line[1:-1].split("=")
+        if line.startswith("["):
+            name, _, value = line[1:-1].partition("=")
             settings[name.strip()] = value.strip()
         elif line and not line.startswith("#"):
             name, _, value = line.partition("=")
@@ -108,11 +144,61 @@ def hmac():
         yield ("hmac", str(len(digest) // 2), shown(key), shown(text)), digest
 
 
+def aes():
+    for source, (key, blocks) in (("FIPS 197, C.3", FIPS_197_C_3), ("SP 800-38A, F.1.5", SP_800_38A_F_1_5)):
+        yield source
+        for block, answer in blocks:
+            yield ("aes", key, block), answer
+    for name in ("ECBGFSbox256.rsp", "ECBKeySbox256.rsp", "ECBVarTxt256.rsp", "ECBVarKey256.rsp", "ECBMMT256.rsp"):
+        yield f"NIST CAVS 11.1, {name}, what is to be encrypted, by blocks"
+        for r in records(NIST / "ciphers" / "AES" / "ECB" / name):
+            if "DECRYPT" in r:
+                continue
+            text, answer = r["PLAINTEXT"], r["CIPHERTEXT"]
+            for at in range(0, len(text), 32):
+                yield ("aes", r["KEY"], text[at:at + 32]), answer[at:at + 32]
+
+
+def gcm(name):
+    """The records of the sizes that the gate uses: an IV of 96 bits, a tag of 128, no associated data."""
+    for r in records(NIST / "ciphers" / "AES" / "GCM" / name):
+        if (r["IVlen"], r["Taglen"], r["AADlen"]) == ("96", "128", "0"):
+            yield r
+
+
+def seal():
+    yield "NIST CAVS 14.0, gcmEncryptExtIV256.rsp, all with an IV of 96 bits, a tag of 128 and no associated data"
+    for r in gcm("gcmEncryptExtIV256.rsp"):
+        yield ("seal", r["Key"], r["IV"], r["PT"] or "-"), (r["CT"] or "-") + " " + r["Tag"]
+
+
+def unseal():
+    yield "NIST CAVS 14.0, gcmDecrypt256.rsp, all with an IV of 96 bits, a tag of 128 and no associated data"
+    for r in gcm("gcmDecrypt256.rsp"):
+        yield ("open", r["Key"], r["IV"], r["CT"] or "-", r["Tag"]), "wrong" if "FAIL" in r else r["PT"] or "-"
+
+
+def base64():
+    for source, pairs in (("RFC 4648, 10", RFC_4648_10), ("document 01, proved cases 2 to 5", DOCUMENT_01)):
+        yield f"{source}: each run encoded, then its text, in hexadecimal, decoded"
+        for run, text in pairs:
+            yield ("encode", shown(run)), text.decode()
+            yield ("decode", shown(text)), shown(run)
+    for reason, texts in NOT_BASE64:
+        yield f"no encoding by RFC 4648, {reason}"
+        for text in texts:
+            yield ("decode", shown(text)), "bad"
+
+
 def main():
     writer = Writer()
     writer.file("sha512.txt", sha512())
     writer.file("monte.txt", monte())
     writer.file("hmac.txt", hmac())
+    writer.file("aes.txt", aes())
+    writer.file("seal.txt", seal())
+    writer.file("open.txt", unseal())
+    writer.file("base64.txt", base64())
     (CRATE / "stdout").write_text("\n".join(writer.stdout) + "\n")
 
 

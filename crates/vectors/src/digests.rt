@@ -2,15 +2,9 @@
 ghost use mathlib.Core.Path.{_≡_};
 ghost use Prim.Native.Nat.{_≤_, _<_};
 ghost use lib.ListN.{length};
+use crate::Ran;
 use sha2::Sha512;
 use words::Number;
-
-// What became of a line.
-pub enum Ran {
-    Vector,
-    Comment,
-    Malformed,
-}
 
 // whole MESSAGE
 pub fn whole(line: &[u8]) -> Ran {
@@ -168,4 +162,34 @@ fn monte_turn(three: &mut [u8])
         i += 1;
     }
     cells::put_at(three, 128, &digest);
+}
+
+// hmac SHOWN KEY TEXT: the first SHOWN bytes of the code
+pub fn hmac(line: &[u8]) -> Ran {
+    if words::words(line) != 4 {
+        return Ran::Malformed;
+    }
+    let Number::Value(shown) = words::value(words::word(line, 1)) else {
+        return Ran::Malformed;
+    };
+    if 64 < shown {
+        return Ran::Malformed;
+    }
+    let mut key = [0u8; 256];
+    let key_run = words::unhex(words::word(line, 2), &mut key);
+    if !key_run.good {
+        return Ran::Malformed;
+    }
+    let mut text = [0u8; 256];
+    let text_run = words::unhex(words::word(line, 3), &mut text);
+    if !text_run.good {
+        return Ran::Malformed;
+    }
+    let key_size = key_run.size;
+    let text_size = text_run.size;
+    let mut out = [0u8; 64];
+    primitives::prim_hmac_sha512(&key[..key_size], &text[..text_size], &mut out);
+    let n = shown as usize;
+    words::print_line(&out[..n]);
+    Ran::Vector
 }

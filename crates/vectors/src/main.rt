@@ -1,16 +1,28 @@
 // Published vectors: prints what our code computes for each line of the data files, and how many lines it ran.
 mod digests;
+mod sealing;
+mod texts;
 ghost use mathlib.Core.Path.{_≡_};
 ghost use Prim.Native.Nat.{_+_, _-_, _^_, _≤_, _<_};
 ghost use lib.ListN.{length};
 use libc::STDOUT_FILENO;
-use digests::Ran;
+
+// What became of a line.
+pub enum Ran {
+    Vector,
+    Comment,
+    Malformed,
+}
 
 fn main() {
     let mut room = io::large_buffer();
     file(b"sha512.txt", &mut room);
     file(b"monte.txt", &mut room);
     file(b"hmac.txt", &mut room);
+    file(b"aes.txt", &mut room);
+    file(b"seal.txt", &mut room);
+    file(b"open.txt", &mut room);
+    file(b"base64.txt", &mut room);
 }
 
 // Runs the vectors of one data file, which is read through room.
@@ -132,6 +144,29 @@ fn line(line: &[u8]) -> Ran {
     }
     if check::same(kind, b"monte") {
         return digests::monte(line);
+    }
+    if check::same(kind, b"hmac") {
+        return digests::hmac(line);
+    }
+    other_line(line)
+}
+
+fn other_line(line: &[u8]) -> Ran {
+    let kind = words::word(line, 0);
+    if check::same(kind, b"aes") {
+        return sealing::aes(line);
+    }
+    if check::same(kind, b"seal") {
+        return sealing::seal(line);
+    }
+    if check::same(kind, b"open") {
+        return sealing::open(line);
+    }
+    if check::same(kind, b"encode") {
+        return texts::encode(line);
+    }
+    if check::same(kind, b"decode") {
+        return texts::decode(line);
     }
     Ran::Malformed
 }
