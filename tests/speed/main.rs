@@ -1,4 +1,4 @@
-//! Times `prim_sha512` beside a plain Rust SHA-512, in turns within one run.
+//! Times `prim_sha512` beside a plain Rust SHA-512, in turns within one run, and sealing and opening a token's 118 bytes.
 mod plain;
 
 use std::hint::black_box;
@@ -6,7 +6,17 @@ use std::time::{Duration, Instant};
 
 extern "C" {
     fn prim_sha512(text: *const u8, text_len: usize, out: *mut u8, out_len: usize) -> u32;
+    #[rustfmt::skip]
+    fn prim_gcm_seal(key: *const u8, key_len: usize, iv: *const u8, iv_len: usize, text: *const u8, text_len: usize,
+                     out: *mut u8, out_len: usize, tag: *mut u8, tag_len: usize) -> u32;
+    #[rustfmt::skip]
+    fn prim_gcm_open(key: *const u8, key_len: usize, iv: *const u8, iv_len: usize, text: *const u8, text_len: usize,
+                     tag: *const u8, tag_len: usize, out: *mut u8, out_len: usize) -> u32;
 }
+
+const KEY: [u8; 32] = [1; 32];
+const IV: [u8; 12] = [2; 12];
+const TOKEN: usize = 118;
 
 fn ours(message: &[u8]) -> [u8; 64] {
     let mut digest = [0; 64];
@@ -15,26 +25,55 @@ fn ours(message: &[u8]) -> [u8; 64] {
     digest
 }
 
+#[rustfmt::skip]
+fn sealed(text: &[u8; TOKEN]) -> ([u8; TOKEN], [u8; 16]) {
+    let (mut out, mut tag) = ([0; TOKEN], [0; 16]);
+    let done = unsafe { prim_gcm_seal(KEY.as_ptr(), 32, IV.as_ptr(), 12, text.as_ptr(), TOKEN, out.as_mut_ptr(), TOKEN, tag.as_mut_ptr(), 16) };
+    assert_eq!(done, 0);
+    (out, tag)
+}
+
+#[rustfmt::skip]
+fn opened(text: &[u8; TOKEN], tag: &[u8; 16]) -> [u8; TOKEN] {
+    let mut out = [0; TOKEN];
+    let done = unsafe { prim_gcm_open(KEY.as_ptr(), 32, IV.as_ptr(), 12, text.as_ptr(), TOKEN, tag.as_ptr(), 16, out.as_mut_ptr(), TOKEN) };
+    assert_eq!(done, 0);
+    out
+}
+
 /// The time of one call, over enough calls to fill a twentieth of a second.
-fn time(message: &[u8], hash: fn(&[u8]) -> [u8; 64]) -> f64 {
+fn time<T>(call: impl Fn() -> T) -> f64 {
     let (mut calls, start) = (0u32, Instant::now());
     while start.elapsed() < Duration::from_millis(50) {
         for _ in 0..8 {
-            black_box(hash(black_box(message)));
+            black_box(call());
         }
         calls += 8;
     }
     start.elapsed().as_secs_f64() / f64::from(calls)
 }
 
+fn sealing() {
+    let text = [7; TOKEN];
+    let (cipher, tag) = sealed(&text);
+    assert_eq!(opened(&cipher, &tag), text);
+    let (mut best_seal, mut best_open) = (f64::MAX, f64::MAX);
+    for _ in 0..20 {
+        best_seal = best_seal.min(time(|| sealed(black_box(&text))));
+        best_open = best_open.min(time(|| opened(black_box(&cipher), &tag)));
+    }
+    println!("{TOKEN} bytes: sealed in {:.1} us, opened in {:.1} us", best_seal * 1e6, best_open * 1e6);
+}
+
 fn main() {
+    sealing();
     for size in [4096, 65536] {
         let message: Vec<u8> = (0..size).map(|i| (i * 7 % 251) as u8).collect();
         assert_eq!(ours(&message), plain::sha512(&message));
         let (mut best_ours, mut best_plain) = (f64::MAX, f64::MAX);
         for _ in 0..20 {
-            best_ours = best_ours.min(time(&message, ours));
-            best_plain = best_plain.min(time(&message, plain::sha512));
+            best_ours = best_ours.min(time(|| ours(black_box(&message))));
+            best_plain = best_plain.min(time(|| plain::sha512(black_box(&message))));
         }
         let rate = |seconds: f64| size as f64 / seconds / 1e6;
         println!(
