@@ -1,7 +1,7 @@
 -- Adding bit by bit: the same addition once more takes it back.
 -- Assumes nothing.
 use mathlib.Core.List.{List, [], _∷_, _++_}
-use mathlib.Core.Path.{_≡_, refl, sym, ap, ap₂, _∙_}
+use mathlib.Core.Path.{_≡_, refl, ap, ap₂, _∙_}
 use Prim.Native.Nat.{ℕ, zero, suc, _*_, _/_, _%_, _+_, _<_, _≤_}
 use native.Mathlib.Nat.{div-add-mod', mod-lt, le-of-suc-le-suc, not-suc-le-zero}
 use native.Mathlib.Omega.{arith}
@@ -29,10 +29,6 @@ xor-back =
     ∙ ap₂ (λ (q r : ℕ). q * 2 + r) (ap (λ (n : ℕ). bitXor n (b / 2)) (xor-shr a b 1) ∙ back (b / 2))
     (ap (λ (n : ℕ). differ n (b % 2)) (xor-mod a b 1) ∙ digit-back (a % 2) (b % 2) (mod-lt a (omega arith)) (mod-lt b (omega arith)))
     ∙ div-add-mod' a 2)
-
--- numbers whose sum is zero are the same
-pub xor-zero : (a b : ℕ) → bitXor a b ≡ 0 → a ≡ b
-xor-zero a b e = sym (xor-back a b) ∙ ap (λ (n : ℕ). bitXor n b) e
 
 pub length-added : (xs ys : List ℕ) → length xs ≤ length ys → length (added xs ys) ≡ length xs
 unfolding added

@@ -3,7 +3,7 @@
 use mathlib.Core.Path.{_≡_, refl, sym, ap, subst, _∙_}
 use mathlib.Core.List.{List, [], _∷_}
 use mathlib.Core.Logic.{_⊎_, inl, inr, ⊎-elim}
-use mathlib.Core.Bool.{Bool, true, false, false≢true, true≢false, not, cond, _&&_}
+use mathlib.Core.Bool.{Bool, true, false, true≢false, not, cond, _&&_}
 use Prim.Native.Nat.{ℕ, zero, suc, _<_}
 use native.Mathlib.Omega.{arith}
 use borrow.Author.Tests.{eqb-true, eqb-false, eq-eqb, ne-eqb, not-true}
@@ -12,10 +12,10 @@ use lib.ListN.{length, getD}
 use Rattle.window.specs.Window.{bit}
 use Rattle.table.specs.declared.session.Record.{Record}
 use Rattle.table.specs.Record.{freed}
+use Rattle.cells.specs.Runs.{same}
 use Rattle.table.specs.Table.{isUsed, isFree, holds}
 use Rattle.table.specs.WellFormed.{traceless, blank, windowSound, sound, some, fitting, wellFormed, Sound, WellFormed}
 use Rattle.table.proofs.Records.{alike}
-use Rattle.cells.specs.Runs.{same}
 use Rattle.cells.proofs.Equality.{same-equal}
 use Rattle.table.proofs.Tests.{both, refuted, holds-used, used-holds}
 use Rattle.table.proofs.Found.{some-passes, none-passes}

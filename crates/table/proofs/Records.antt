@@ -3,14 +3,14 @@
 use mathlib.Core.Path.{_≡_, refl, sym, ap, ap₂, _∙_}
 use mathlib.Core.List.{List, [], _∷_, _++_, append-assoc}
 use mathlib.Core.Bool.{Bool, true, false}
-use Prim.Native.Nat.{ℕ, zero, suc, _+_, _-_, _*_, _/_, _≤_, _<_, _^_}
+use Prim.Native.Nat.{ℕ, zero, suc, _+_, _-_, _*_, _/_, _≤_, _<_}
 use native.Mathlib.Nat.{zero-add, add-zero, suc-add}
 use native.Mathlib.Omega.{arith}
 use borrow.Author.Tests.{ltb-true, ltb-false}
 use lib.Dec.{lit<, ltb}
-use lib.ListN.{List·getD-eq-default, length, getD, take, drop, set, replicate, length-append, length-set, length-take, length-drop, take-append-drop}
+use lib.ListN.{List·getD-eq-default, length, getD, take, drop, set, replicate, length-append, length-take, length-drop, take-append-drop}
 use lib.Seq.{take-all, take-at, drop-at, take-add, take-append-le, drop-append-le, drop-drop, drop-cons, getD-at, getD-take, getD-drop}
-use Rattle.cells.specs.Runs.{spliced, fronted, part, Bytes}
+use Rattle.cells.specs.Runs.{spliced, part, Bytes}
 use Rattle.cells.specs.Numbers.{bytesOf, number}
 use Rattle.cells.proofs.Runs.{lent, joined, spliced-front, fronted-whole, length-spliced, length-part}
 use Rattle.cells.proofs.Numbers.{length-bytesOf, number-of, bytesOf-number}

@@ -1,6 +1,6 @@
 -- The records of new sessions and of sessions whose window took a step: they are sound, and their bytes can hold them.
 -- Assumes nothing.
-use mathlib.Core.Path.{_≡_, refl, sym, ap, _∙_}
+use mathlib.Core.Path.{_≡_, refl, ap}
 use mathlib.Core.List.{List}
 use mathlib.Core.Logic.{inl, inr, ⊎-elim}
 use mathlib.Core.Bool.{Bool, true, false}
@@ -8,7 +8,7 @@ use Prim.Native.Nat.{ℕ, _+_, _*_, _≤_, _<_, _^_}
 use native.Mathlib.Omega.{arith}
 use borrow.Author.Tests.{eqb-true}
 use lib.Dec.{lit<, eqb}
-use lib.ListN.{length, length-replicate}
+use lib.ListN.{length}
 use Rattle.cells.specs.Runs.{part, Bytes}
 use Rattle.cells.specs.Numbers.{number}
 use Rattle.cells.proofs.Runs.{length-part}
@@ -18,7 +18,7 @@ use Rattle.window.specs.Window.{fresh, stepOf}
 use Rattle.window.specs.History.{isAccepted}
 use Rattle.window.proofs.Steps.{accepted-any, accepted-lowest, bits-fit, highest-fits}
 use Rattle.table.specs.declared.session.Record.{Record}
-use Rattle.table.specs.Record.{size, Fits, freed, begun, mark, windowOf, withWindow, recordOf}
+use Rattle.table.specs.Record.{size, Fits, begun, mark, windowOf, withWindow, recordOf}
 use Rattle.table.specs.Table.{places, recordAt}
 use Rattle.table.specs.WellFormed.{Sound}
 use Rattle.table.proofs.Records.{alike, bytes-part}

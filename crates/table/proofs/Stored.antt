@@ -16,7 +16,7 @@ use Rattle.table.specs.Record.{freed}
 use Rattle.table.specs.Table.{holds, found}
 use Rattle.table.specs.WellFormed.{Sound, WellFormed}
 use Rattle.table.proofs.Tests.{refuted, holds-used, used-holds}
-use Rattle.table.proofs.Found.{None, scan-set, found-nowhere, nowhere-found, at-found}
+use Rattle.table.proofs.Found.{scan-set, found-nowhere, nowhere-found, at-found}
 use Rattle.table.proofs.Meaning.{freed-sound}
 
 equal-or-not : (i j : ℕ) → (i ≡ j) ⊎ (i ≡ j → ⊥)

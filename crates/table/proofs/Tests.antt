@@ -1,13 +1,13 @@
 -- What the tests of a record say.
 -- Assumes nothing.
-use mathlib.Core.Path.{_≡_, refl, sym, ap, _∙_}
+use mathlib.Core.Path.{_≡_, refl, ap, _∙_}
 use mathlib.Core.List.{List}
 use mathlib.Core.Bool.{Bool, true, false, false≢true, _&&_}
 use Prim.Native.Nat.{ℕ}
 use borrow.Author.Tests.{eqb-true, eq-eqb}
 use Rattle.table.specs.declared.session.Record.{Record}
-use Rattle.table.specs.Table.{holds}
 use Rattle.cells.specs.Runs.{same}
+use Rattle.table.specs.Table.{holds}
 use Rattle.cells.proofs.Equality.{same-equal, same-self}
 
 pub both : (a b : Bool) → (a && b) ≡ true → (a ≡ true) × (b ≡ true)

@@ -1,9 +1,7 @@
 // The places of the table that a call looks for.
 ghost use mathlib.Core.Path.{_≡_};
 ghost use Prim.Native.Nat.{_*_, _<_, _≤_};
-ghost use lib.ListN.{length, drop};
-ghost use lib.Dec.{eqb};
-ghost use Rattle.table.specs.Record.{size};
+ghost use lib.ListN.{drop};
 ghost use Rattle.table.specs.Table.{places, recordAt, records, firstFrom, holds, isFree, lapsed, found, taken, Placed};
 use super::session::SIZE;
 use window::time::Time;

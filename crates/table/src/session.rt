@@ -3,7 +3,7 @@ ghost use mathlib.Core.Path.{_≡_};
 ghost use mathlib.Core.List.{[], _∷_};
 ghost use Prim.Native.Nat.{_*_, _<_};
 ghost use lib.ListN.{length};
-ghost use Rattle.cells.specs.Runs.{spliced, part};
+ghost use Rattle.cells.specs.Runs.{spliced};
 ghost use Rattle.table.specs.Record.{size, recordOf, recordBytes, freed, begun, mark, windowOf, withWindow};
 ghost use Rattle.table.specs.Table.{places, recordAt};
 use window::Nonce;

@@ -8,7 +8,7 @@ use native.Mathlib.Omega.{arith}
 use borrow.Author.Tests.{leb-true, leb-false, eqb-true, eqb-false, eq-eqb, ne-eqb}
 use lib.Bits.{bitOr, or-shr, or-step, shifted-even}
 use lib.Dec.{lit<, eqb, leb}
-use lib.Pow.{shl-exact, pow-pos, pow-lt, pow-add, field, mod-mod-pow, shr-shr, shl-shr}
+use lib.Pow.{shl-exact, pow-lt, pow-add, field, mod-mod-pow, shr-shr, shl-shr}
 use Rattle.window.specs.Window.{bit, moved, marked}
 
 -- a one in a word of 64 bits, moved within it

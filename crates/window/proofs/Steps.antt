@@ -10,7 +10,7 @@ use lib.Dec.{lit<, ltb, leb, eqb}
 use lib.Pow.{pow-pos, pow-lt}
 use Rattle.window.specs.declared.Window.{Window}
 use Rattle.window.specs.declared.Stepped.{Stepped}
-use Rattle.window.specs.Window.{bit, moved, marked, accepted, refused, choose, above, below, stepOf}
+use Rattle.window.specs.Window.{bit, moved, marked, accepted, refused, choose, stepOf}
 use Rattle.window.specs.History.{isAccepted}
 use Rattle.window.proofs.Bits.{bit-moved, bit-marked}
 

@@ -6,7 +6,7 @@ use Prim.Native.Nat.{ℕ, zero, suc, _+_, _-_, _≤_, _<_, _^_}
 use native.Mathlib.Omega.{arith}
 use borrow.Author.Tests.{ltb-true, ltb-false, lt-ltb, le-ltb}
 use lib.Dec.{ltb}
-use lib.IntN.{ℤ, pos, negsuc, subℕ, _-ℤ_}
+use lib.IntN.{pos, negsuc, subℕ}
 use lib.Signed.{mag, ltZ}
 use mir.Syntax.{w64}
 use mir.Val.{SFits}

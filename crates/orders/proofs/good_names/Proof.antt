@@ -3,8 +3,10 @@
 use borrow.Author.Needs.{needs}
 use borrow.Author.Tests.{not-true, not-false}
 use mathlib.Core.Path.{_≡_, sym, ap, _∙_}
+use mathlib.Core.List.{_∷_}
 use Prim.Native.Nat.{_+_, _-_}
 use lib.ListN.{length}
+use Rattle.orders.specs.Spans.{cut}
 use Rattle.orders.specs.Extra.{pieces, goodNames}
 use Rattle.orders.specs.Walk.{namesFrom}
 use Rattle.orders.proofs.Walk.{names-start, names-first, names-past}
@@ -17,33 +19,40 @@ Inv-loop table extra at₀ at = goodNames (pieces extra) ≡ goodNames (namesFro
 abbrev μ-loop : tie.MeasureT-loop
 μ-loop table extra at₀ at = length extra + 1 - at
 
+first : (c : tie.After-name-end Inv-loop μ-loop)
+    → let extra = c .before .before .before .before .before .args .extra .now in
+    let at = c .before .before .loop .at in
+    let end = c .name-end .result in
+    namesFrom extra at ≡ cut extra at end ∷ namesFrom extra (end + 1)
+first c = names-first _ _ _ (search needs) (c .name-end .ensures)
+
 returns : tie.Need-returns Inv-loop μ-loop
 unfolding goodNames
 returns c =
-    let at = c .before .before .before .before .before .loop in
-    let ended = c .before .before .before .name-end in
+    let ended = c .before .before .before in
+    let allows = c .before .is-allowed in
     sym
-    (at .inv ∙ ap goodNames (names-first _ (at .at) (ended .result) (search needs) (ended .ensures))
-    ∙ simp (← (c .before .is-allowed .ensures), not-true (c .before .is-allowed .result) (c .if1 .taken)))
+    (ended .before .before .loop .inv ∙ ap goodNames (first ended)
+    ∙ simp (← (allows .ensures), not-true (allows .result) (c .if1 .taken)))
 
 returns-2 : tie.Need-returns-2 Inv-loop μ-loop
 unfolding goodNames
 returns-2 c =
-    let at = c .before .before .before .before .before .before .before .before .loop in
-    let ended = c .before .before .before .before .before .before .name-end in
-    let allows = c .before .before .before .before .is-allowed in
+    let tested = c .before .before .before in
+    let ended = tested .before .before .before in
+    let allows = tested .before .is-allowed in
     sym
-    (at .inv ∙ ap goodNames (names-first _ (at .at) (ended .result) (search needs) (ended .ensures))
-    ∙ simp (← (allows .ensures), not-false (allows .result) (c .before .before .before .if1 .left), ← (c .before .has-name .ensures), c .if2 .taken))
+    (ended .before .before .loop .inv ∙ ap goodNames (first ended)
+    ∙ simp (← (allows .ensures), not-false (allows .result) (tested .if1 .left), ← (c .before .has-name .ensures), c .if2 .taken))
 
 loop-again : tie.Need-loop-again Inv-loop μ-loop
 unfolding goodNames
 loop-again c =
-    let at = c .before .before .before .before .before .before .before .before .loop in
-    let ended = c .before .before .before .before .before .before .name-end in
-    let allows = c .before .before .before .before .is-allowed in
-    at .inv ∙ ap goodNames (names-first _ (at .at) (ended .result) (search needs) (ended .ensures))
-    ∙ simp (← (allows .ensures), not-false (allows .result) (c .before .before .before .if1 .left), ← (c .before .has-name .ensures), c .if2 .left)
+    let tested = c .before .before .before in
+    let ended = tested .before .before .before in
+    let allows = tested .before .is-allowed in
+    ended .before .before .loop .inv ∙ ap goodNames (first ended)
+    ∙ simp (← (allows .ensures), not-false (allows .result) (tested .if1 .left), ← (c .before .has-name .ensures), c .if2 .left)
 
 returns-3 : tie.Need-returns-3 Inv-loop μ-loop
 unfolding goodNames

@@ -3,9 +3,11 @@
 use borrow.Author.Needs.{needs}
 use borrow.Author.Tests.{eq-eqb, ne-eqb}
 use mathlib.Core.Path.{_≡_, refl, ap, _∙_}
+use mathlib.Core.List.{_∷_}
 use Prim.Native.Nat.{_+_, _-_, _≤_}
 use native.Mathlib.Omega.{arith}
 use lib.ListN.{length}
+use Rattle.orders.specs.Spans.{cut}
 use Rattle.orders.specs.Orders.{chosen}
 use Rattle.orders.specs.Walk.{namesFrom}
 use Rattle.orders.proofs.Walk.{names-first, names-past, chosen-set, chosen-clear, chosen-end}
@@ -18,28 +20,29 @@ Inv-loop run wanted at left₀ place₀ left place = (at ≤ place) × (chosen w
 abbrev μ-loop : tie.MeasureT-loop
 μ-loop run wanted at left₀ place₀ left place = length run + 1 - place
 
+first : (c : tie.After-name-end Inv-loop μ-loop)
+    → let run = c .before .before .before .before .args .run .now in
+    let place = c .before .before .loop .place in
+    let end = c .name-end .result in
+    namesFrom run place ≡ cut run place end ∷ namesFrom run (end + 1)
+first c = names-first _ _ _ (search needs) (c .name-end .ensures)
+
 returns : tie.Need-returns Inv-loop μ-loop
 returns c =
     let at = c .before .before .before .loop in
-    let run = c .before .before .before .before .before .args .run .now in
-    let ended = c .before .name-end in
+    let ends = c .before .name-end .ensures in
     record {
       from = at .inv .0;
-      ordered = omega (arith, ended .ensures .is);
-      within = ended .ensures .within;
-      names =
-          at .inv .1 ∙ ap (chosen (at .left)) (names-first run (at .place) (ended .result) (search needs) (ended .ensures))
-          ∙ chosen-set _ _ _ (eq-eqb _ _ (c .if1 .taken));
+      ordered = omega (arith, ends .is);
+      within = ends .within;
+      names = at .inv .1 ∙ ap (chosen (at .left)) (first (c .before)) ∙ chosen-set _ _ _ (eq-eqb _ _ (c .if1 .taken));
     }
 
 loop-again : tie.Need-loop-again Inv-loop μ-loop
 loop-again c =
-    let at = c .before .before .before .loop in
-    let run = c .before .before .before .before .before .args .run .now in
-    let ended = c .before .name-end in (
-      omega (arith, ended .ensures .is),
-      at .inv .1 ∙ ap (chosen (at .left)) (names-first run (at .place) (ended .result) (search needs) (ended .ensures))
-          ∙ chosen-clear _ _ _ (ne-eqb _ _ (c .if1 .left)),
+    let at = c .before .before .before .loop in (
+      omega (arith, c .before .name-end .ensures .is),
+      at .inv .1 ∙ ap (chosen (at .left)) (first (c .before)) ∙ chosen-clear _ _ _ (ne-eqb _ _ (c .if1 .left)),
     )
 
 returns-2 : tie.Need-returns-2 Inv-loop μ-loop

@@ -2,7 +2,6 @@
 use Prim.Native.Nat.{_-_}
 use mathlib.Core.Path.{sym, _∙_}
 use native.Mathlib.Omega.{arith}
-use borrow.Author.Needs.{needs}
 use Rattle.table.specs.Table.{lapsed}
 use Rattle.table.proofs.Scan.{Scanning, scan-begins, scan-stops, scan-goes, scan-ends}
 use Rattle.table.proofs.place.first_lapsed.Statement.{statement}

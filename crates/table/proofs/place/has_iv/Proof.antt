@@ -6,8 +6,7 @@ use native.Mathlib.Omega.{arith}
 use lib.ListN.{getD}
 use borrow.Author.Tests.{eq-eqb, ne-eqb}
 use borrow.Author.Needs.{needs}
-use Rattle.cells.specs.Runs.{part}
-use Rattle.cells.specs.Runs.{same}
+use Rattle.cells.specs.Runs.{part, same}
 use Rattle.table.proofs.Records.{used-at, iv-at}
 use Rattle.table.proofs.place.has_iv.Statement.{statement}
 use Rattle.table.proofs.place.has_iv.Tie as tie

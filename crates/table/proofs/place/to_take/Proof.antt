@@ -1,5 +1,5 @@
 -- `table::place::to_take` meets its contract.
-use mathlib.Core.Path.{sym, ap, _∙_}
+use mathlib.Core.Path.{_∙_}
 use borrow.Author.Needs.{needs}
 use Rattle.table.specs.Table.{taken}
 use Rattle.table.proofs.place.to_take.Statement.{statement}

@@ -1,5 +1,5 @@
 -- `table::rule::no_trace` meets its contract.
-use borrow.Author.Tests.{eq-eqb, ne-eqb, not-true, not-false}
+use borrow.Author.Tests.{eq-eqb, ne-eqb}
 use Rattle.table.proofs.rule.no_trace.Statement.{statement}
 use Rattle.table.proofs.rule.no_trace.Tie as tie
 

@@ -1,6 +1,6 @@
 -- `table::rule::record_sound` meets its contract.
 use mathlib.Core.Path.{_∙_}
-use borrow.Author.Tests.{eq-eqb, ne-eqb, not-true, not-false}
+use borrow.Author.Tests.{eq-eqb, ne-eqb}
 use borrow.Author.Needs.{needs}
 use Rattle.table.specs.WellFormed.{sound}
 use Rattle.table.proofs.rule.record_sound.Statement.{statement}

@@ -1,6 +1,6 @@
 -- `table::rule::window_sound` meets its contract.
 use mathlib.Core.Path.{sym, _∙_}
-use borrow.Author.Tests.{eq-eqb, ne-eqb, not-true, not-false}
+use borrow.Author.Tests.{eq-eqb, ne-eqb}
 use borrow.Author.Needs.{needs}
 use Rattle.table.proofs.Fitting.{lowest}
 use Rattle.table.proofs.rule.window_sound.Statement.{statement}

@@ -1,6 +1,6 @@
 -- `table::session::store` meets its contract.
 use Prim.Native.Nat.{_+_, _*_}
-use mathlib.Core.Path.{_≡_, ap, sym, _∙_}
+use mathlib.Core.Path.{_≡_}
 use native.Mathlib.Omega.{arith}
 use lib.ListN.{length}
 use borrow.Author.Needs.{needs}

@@ -1,5 +1,4 @@
 -- `window::time::age` meets its contract: both casts keep their number, and the difference fits.
-use Prim.Native.Nat.{_<_, _^_}
 use native.Mathlib.Omega.{arith}
 use mir.Syntax.{w64}
 use mir.ValLaws.{toZ-pos, toZ-ofZ}
