@@ -10,7 +10,7 @@ use lib.Dec.{eqb}
 use lib.ListN.{length, getD}
 use borrow.Author.Tests.{eqb-true}
 use Rattle.base64.specs.Alphabet.{counted, alphabet, character, pickPlace, placeIn, sixBits}
-use Rattle.base64.proofs.Tables.{listed, entry}
+use Rattle.base64.proofs.Listed.{listed, entry}
 
 within-more : (t : Bool) {k n : ℕ} → k ≤ n → pickPlace t k ≤ suc n
 within-more true h = omega arith

@@ -34,7 +34,6 @@ data Text : List ℕ → Type 0 where
   _then_ : {c : ℕ} {cs : List ℕ} → Written c → Text cs → Text (c ∷ cs)
 
 infixr 5 _then_
-
 at-index : {cs : List ℕ} → Text cs → (i : ℕ) → i < length cs → Written (getD cs i 0)
 at-index none i h = absurd (not-suc-le-zero h)
 at-index (w then ws) zero h = w

@@ -95,7 +95,7 @@ encoded-reads (a ∷ []) h =
     let o : 0 < 256 = omega arith in
     let spare = group-spare-one a (h 0) in
     let e : joined (sixBits (first n)) (sixBits (second n)) 0 0 ≡ n =
-            joined-same (six (n / 262144)) (six (n / 4096)) (sym (spare .1)) (sym (spare .2)) ∙ group-joined a 0 0 (h 0) o o in
+    joined-same (six (n / 262144)) (six (n / 4096)) (sym (spare .1)) (sym (spare .2)) ∙ group-joined a 0 0 (h 0) o o in
     subst (λ (l : List ℕ). Reads (encoded (a ∷ [])) l) (ap (take 1) (three-group a 0 0 _ e (h 0) o o))
     (some-one (below (n / 262144)) (below (n / 4096)) (rw (six (n / 4096)) (spare .0)) refl refl)
 encoded-reads (a ∷ b ∷ []) h =
@@ -103,13 +103,13 @@ encoded-reads (a ∷ b ∷ []) h =
     let o : 0 < 256 = omega arith in
     let spare = group-spare-two a b (h 0) (h 1) in
     let e : joined (sixBits (first n)) (sixBits (second n)) (sixBits (third n)) 0 ≡ n =
-            joined-same (six (n / 262144)) (six (n / 4096)) (six (n / 64)) (sym (spare .1)) ∙ group-joined a b 0 (h 0) (h 1) o in
+    joined-same (six (n / 262144)) (six (n / 4096)) (six (n / 64)) (sym (spare .1)) ∙ group-joined a b 0 (h 0) (h 1) o in
     subst (λ (l : List ℕ). Reads (encoded (a ∷ b ∷ [])) l) (ap (take 2) (three-group a b 0 _ e (h 0) (h 1) o))
     (some-two (below (n / 262144)) (below (n / 4096)) (below (n / 64)) (rw (six (n / 64)) (spare .0)) refl)
 encoded-reads (a ∷ b ∷ c ∷ rest) h =
     let n = group a b c in
     let e : joined (sixBits (first n)) (sixBits (second n)) (sixBits (third n)) (sixBits (fourth n)) ≡ n =
-            joined-same (six (n / 262144)) (six (n / 4096)) (six (n / 64)) (six n) ∙ group-joined a b c (h 0) (h 1) (h 2) in
+    joined-same (six (n / 262144)) (six (n / 4096)) (six (n / 64)) (six n) ∙ group-joined a b c (h 0) (h 1) (h 2) in
     subst (λ (l : List ℕ). Reads (encoded (a ∷ b ∷ c ∷ rest)) l)
     (ap (λ (l : List ℕ). l ++ rest) (three-group a b c _ e (h 0) (h 1) (h 2)))
     (more

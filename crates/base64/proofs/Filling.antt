@@ -32,8 +32,8 @@ pub grown : (before all piece rest out : List ℕ) (i : ℕ) → out ≡ spliced
 grown before all piece rest out i e d hi h =
     let size : length (take i all) ≡ i = length-take-le i all hi in
     let longer : take (i + length piece) all ≡ take i all ++ piece =
-            take-add i (length piece) all
-            ∙ ap (λ (l : List ℕ). take i all ++ l) (ap (take (length piece)) d ∙ take-append-seam piece rest) in
+    take-add i (length piece) all
+    ∙ ap (λ (l : List ℕ). take i all ++ l) (ap (take (length piece)) d ∙ take-append-seam piece rest) in
     ap (λ (l : List ℕ). spliced l i piece) e
     ∙ Runs.joined before (take i all) piece 0 i (omega arith) (omega arith)
     ∙ ap (spliced before 0) (sym longer)
@@ -81,10 +81,11 @@ module _ (text all : List ℕ) (at i : ℕ) (e : decoded (drop at text) ≡ byte
       → (at + 4 ≤ length text) × (drop i all ≡ threeAt text at ++ drop (i + 3) all) × (decoded (drop (at + 4) text) ≡ bytes (drop (i + 3) all))
   three-left h =
       let r = three-read (reads (drop at text) (drop i all) e) (omega (arith, length-drop i all)) in
-      let same : threeAt (drop at text) 0 ≡ threeAt text at = simp (getD-drop, add-zero) in
-      (omega (arith, r .0, length-drop at text),
-      r .1 ∙ ap (λ (l : List ℕ). l ++ drop 3 (drop i all)) same ∙ ap (λ (l : List ℕ). threeAt text at ++ l) (drop-drop 3 i all),
-      ap decoded (sym (drop-drop 4 at text)) ∙ read (r .2) ∙ ap bytes (drop-drop 3 i all))
+      let same : threeAt (drop at text) 0 ≡ threeAt text at = simp (getD-drop, add-zero) in (
+        omega (arith, r .0, length-drop at text),
+        r .1 ∙ ap (λ (l : List ℕ). l ++ drop 3 (drop i all)) same ∙ ap (λ (l : List ℕ). threeAt text at ++ l) (drop-drop 3 i all),
+        ap decoded (sym (drop-drop 4 at text)) ∙ read (r .2) ∙ ap bytes (drop-drop 3 i all),
+      )
 
   pub two-left : i + 2 ≡ length all → (at + 4 ≤ length text) × (drop i all ≡ twoAt text at)
   two-left h =

@@ -1,5 +1,5 @@
 -- The laws that callers' proofs cite, and those of this crate's own functions.
-pub mod Tables
+pub mod Listed
 pub mod Alphabet
 pub mod Groups
 pub mod Reading

@@ -159,12 +159,13 @@ read none = refl
 read (some-one {p = p} {q = q} {r = r} {s = s} hp hq h er es) =
     simp (not-full p q r s es, eq-eqb s pad es, eq-eqb r pad er, coded-is p hp, coded-is q hq, eq-eqb (sixBits q % 16) 0 h)
 read (some-two {p = p} {q = q} {r = r} {s = s} hp hq hr h es) =
-    simp
-    (not-full p q r s es,
-    eq-eqb s pad es,
-    ne-eqb r pad (coded-not-pad r (coded-is r hr)),
-    coded-is p hp,
-    coded-is q hq,
-    coded-is r hr,
-    eq-eqb (sixBits r % 4) 0 h)
+    simp (
+      not-full p q r s es,
+      eq-eqb s pad es,
+      ne-eqb r pad (coded-not-pad r (coded-is r hr)),
+      coded-is p hp,
+      coded-is q hq,
+      coded-is r hr,
+      eq-eqb (sixBits r % 4) 0 h,
+    )
 read (more {p = p} {q = q} {r = r} {s = s} hp hq hr hs l) = simp (full-is p q r s hp hq hr hs, read l)

@@ -26,11 +26,12 @@ groupThen xs at rest = getD xs at 0 ∷ getD xs (at + 1) 0 ∷ getD xs (at + 2) 
 
 pub four : (xs : List ℕ) (at : ℕ) → at + 4 ≤ length xs → drop at xs ≡ groupThen xs at (drop (at + 4) xs)
 four xs at h =
-    rw
-    (next xs at (at + 1) (omega arith) refl,
-    next xs (at + 1) (at + 2) (omega arith) (omega arith),
-    next xs (at + 2) (at + 3) (omega arith) (omega arith),
-    next xs (at + 3) (at + 4) (omega arith) (omega arith))
+    rw (
+      next xs at (at + 1) (omega arith) refl,
+      next xs (at + 1) (at + 2) (omega arith) (omega arith),
+      next xs (at + 2) (at + 3) (omega arith) (omega arith),
+      next xs (at + 3) (at + 4) (omega arith) (omega arith),
+    )
 
 sizeOf-before : (n : ℕ) (d : Decoding) → sizeOf (before (three n) d) ≡ plus 3 (sizeOf d)
 sizeOf-before n nothing = refl

@@ -4,7 +4,6 @@ ghost use mathlib.Core.List.{[], _∷_};
 ghost use Prim.Native.Nat.{_+_, _*_, _/_, _≤_, _<_};
 ghost use lib.ListN.{length};
 ghost use Rattle.cells.specs.Runs.{spliced, fronted};
-ghost use Rattle.base64.specs.Alphabet;
 ghost use Rattle.base64.specs.Alphabet.{sixBits};
 ghost use Rattle.base64.specs.Encoding;
 ghost use Rattle.base64.specs.Encoding.{encoded};
@@ -12,34 +11,10 @@ ghost use Rattle.base64.specs.Decoding;
 ghost use Rattle.base64.specs.Decoding.{decoded};
 ghost use Rattle.base64.specs.Answers.{sizeOf, measured, outcome, decodedInto};
 ghost use Rattle.base64.specs.Steps.{content, oneAt, twoAt, threeAt, FullBefore};
+use tables::character;
+use tables::six_bits;
 
-// The characters by their six-bit values.
-const ALPHABET: [u8; 64] = [
-    65, 66, 67, 68, 69, 70, 71, 72, 73, 74, 75, 76, 77, 78, 79, 80,
-    81, 82, 83, 84, 85, 86, 87, 88, 89, 90, 97, 98, 99, 100, 101, 102,
-    103, 104, 105, 106, 107, 108, 109, 110, 111, 112, 113, 114, 115, 116, 117, 118,
-    119, 120, 121, 122, 48, 49, 50, 51, 52, 53, 54, 55, 56, 57, 43, 47,
-];
-
-// The six-bit values by their characters, and 64 for a byte that is none.
-const REVERSE: [u8; 256] = [
-    64, 64, 64, 64, 64, 64, 64, 64, 64, 64, 64, 64, 64, 64, 64, 64,
-    64, 64, 64, 64, 64, 64, 64, 64, 64, 64, 64, 64, 64, 64, 64, 64,
-    64, 64, 64, 64, 64, 64, 64, 64, 64, 64, 64, 62, 64, 64, 64, 63,
-    52, 53, 54, 55, 56, 57, 58, 59, 60, 61, 64, 64, 64, 64, 64, 64,
-    64, 0, 1, 2, 3, 4, 5, 6, 7, 8, 9, 10, 11, 12, 13, 14,
-    15, 16, 17, 18, 19, 20, 21, 22, 23, 24, 25, 64, 64, 64, 64, 64,
-    64, 26, 27, 28, 29, 30, 31, 32, 33, 34, 35, 36, 37, 38, 39, 40,
-    41, 42, 43, 44, 45, 46, 47, 48, 49, 50, 51, 64, 64, 64, 64, 64,
-    64, 64, 64, 64, 64, 64, 64, 64, 64, 64, 64, 64, 64, 64, 64, 64,
-    64, 64, 64, 64, 64, 64, 64, 64, 64, 64, 64, 64, 64, 64, 64, 64,
-    64, 64, 64, 64, 64, 64, 64, 64, 64, 64, 64, 64, 64, 64, 64, 64,
-    64, 64, 64, 64, 64, 64, 64, 64, 64, 64, 64, 64, 64, 64, 64, 64,
-    64, 64, 64, 64, 64, 64, 64, 64, 64, 64, 64, 64, 64, 64, 64, 64,
-    64, 64, 64, 64, 64, 64, 64, 64, 64, 64, 64, 64, 64, 64, 64, 64,
-    64, 64, 64, 64, 64, 64, 64, 64, 64, 64, 64, 64, 64, 64, 64, 64,
-    64, 64, 64, 64, 64, 64, 64, 64, 64, 64, 64, 64, 64, 64, 64, 64,
-];
+mod tables;
 
 // How many bytes a text encodes.
 pub enum Measured {
@@ -52,19 +27,6 @@ pub enum Decoded {
     Bytes(usize),
     Bad,
     TooLong,
-}
-
-fn character(v: u32) -> u8
-    requires { ⌜ v < 64 ⌝ }
-    ensures { λ r. ⌜ r ≡ Alphabet.character v ⌝ }
-{
-    ALPHABET[v as usize]
-}
-
-fn six_bits(c: u8) -> u32
-    ensures { λ r. ⌜ (r ≡ sixBits c) × (r ≤ 64) ⌝ }
-{
-    REVERSE[c as usize] as u32
 }
 
 // Whether all four bytes of a group are characters.
@@ -139,10 +101,10 @@ fn two(p: u8, q: u8, r: u8) -> Measured
 fn ending(p: u8, q: u8, r: u8, s: u8) -> Measured
     ensures { λ m. ⌜ m ≡ sizeOf (Decoding.ending p q r s) ⌝ }
 {
-    if s != 61 {
+    if s != b'=' {
         return Measured::Bad;
     }
-    if r == 61 {
+    if r == b'=' {
         return one(p, q);
     }
     two(p, q, r)
@@ -197,7 +159,12 @@ fn put_two(text: &[u8], at: usize, out: &mut [u8], i: usize)
     requires { ⌜ (at + 4 ≤ length (now text)) × (i + 2 ≤ length (now out)) ⌝ }
     ensures { λ _. ⌜ now (out .exit) ≡ spliced (now (out .entry)) i (twoAt (now (text .entry)) at) ⌝ }
 {
-    let n = joined(six_bits(text[at]), six_bits(text[at + 1]), six_bits(text[at + 2]), 0);
+    let n = joined(
+        six_bits(text[at]),
+        six_bits(text[at + 1]),
+        six_bits(text[at + 2]),
+        0,
+    );
     out[i] = (n / 65536 % 256) as u8;
     out[i + 1] = (n / 256 % 256) as u8;
 }
@@ -284,7 +251,7 @@ fn encode_two(a: u8, b: u8, out: &mut [u8], at: usize)
     let p = character(n / 262144 % 64);
     let q = character(n / 4096 % 64);
     let r = character(n / 64 % 64);
-    put(out, at, p, q, r, 61);
+    put(out, at, p, q, r, b'=');
 }
 
 fn encode_one(a: u8, out: &mut [u8], at: usize)
@@ -294,7 +261,7 @@ fn encode_one(a: u8, out: &mut [u8], at: usize)
     let n = group(a, 0, 0);
     let p = character(n / 262144 % 64);
     let q = character(n / 4096 % 64);
-    put(out, at, p, q, 61, 61);
+    put(out, at, p, q, b'=', b'=');
 }
 
 // The text of a byte run, at the front of the buffer, and its length.

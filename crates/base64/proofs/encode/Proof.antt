@@ -36,14 +36,15 @@ loop-again c =
     let size = length-encoded (a .bytes .now) in
     let piece = encoded (getD (a .bytes .now) (w .i) 0 ∷ getD (a .bytes .now) (w .i + 1) 0 ∷ getD (a .bytes .now) (w .i + 2) 0 ∷ []) in
     let rest = encoded (drop (w .i + 3) (a .bytes .now)) in
-    let split = w .inv .5 ∙ encoded-three (a .bytes .now) (w .i) (omega arith) in
-    (omega arith,
-    omega arith,
-    omega arith,
-    c .before .before .encode-three .kept .1 .1 .1 .0 ∙ w .inv .3,
-    c .before .before .encode-three .ensures
-    ∙ grown (a .out .now) all piece rest (w .out) (w .at) (w .inv .4) split (omega arith) (omega arith),
-    passed all piece rest (w .at) split)
+    let split = w .inv .5 ∙ encoded-three (a .bytes .now) (w .i) (omega arith) in (
+      omega arith,
+      omega arith,
+      omega arith,
+      c .before .before .encode-three .kept .1 .1 .1 .0 ∙ w .inv .3,
+      c .before .before .encode-three .ensures
+          ∙ grown (a .out .now) all piece rest (w .out) (w .at) (w .inv .4) split (omega arith) (omega arith),
+      passed all piece rest (w .at) split,
+    )
 
 returns : tie.Need-returns Inv-loop μ-loop
 unfolding encoded
@@ -52,12 +53,13 @@ returns c =
     let w = c .before .before .before .before .before .before .before .before .loop in
     let all = encoded (a .bytes .now) in
     let size = length-encoded (a .bytes .now) in
-    let piece = encoded (getD (a .bytes .now) (w .i) 0 ∷ getD (a .bytes .now) (w .i + 1) 0 ∷ []) in
-    (omega arith,
-    finished (a .out .now) all _ (w .at + 4)
-    (c .before .before .encode-two .ensures
-    ∙ grown (a .out .now) all piece [] (w .out) (w .at) (w .inv .4) (w .inv .5 ∙ encoded-two (a .bytes .now) (w .i) (omega arith) ∙ sym (append-nil piece)) (omega arith) (omega arith))
-    (omega arith))
+    let piece = encoded (getD (a .bytes .now) (w .i) 0 ∷ getD (a .bytes .now) (w .i + 1) 0 ∷ []) in (
+      omega arith,
+      finished (a .out .now) all _ (w .at + 4)
+          (c .before .before .encode-two .ensures
+          ∙ grown (a .out .now) all piece [] (w .out) (w .at) (w .inv .4) (w .inv .5 ∙ encoded-two (a .bytes .now) (w .i) (omega arith) ∙ sym (append-nil piece)) (omega arith) (omega arith))
+          (omega arith),
+    )
 
 returns-2 : tie.Need-returns-2 Inv-loop μ-loop
 unfolding encoded
@@ -66,12 +68,13 @@ returns-2 c =
     let w = c .before .before .before .before .before .before .before .before .loop in
     let all = encoded (a .bytes .now) in
     let size = length-encoded (a .bytes .now) in
-    let piece = encoded (getD (a .bytes .now) (w .i) 0 ∷ []) in
-    (omega arith,
-    finished (a .out .now) all _ (w .at + 4)
-    (c .before .before .encode-one .ensures
-    ∙ grown (a .out .now) all piece [] (w .out) (w .at) (w .inv .4) (w .inv .5 ∙ encoded-one (a .bytes .now) (w .i) (omega arith) ∙ sym (append-nil piece)) (omega arith) (omega arith))
-    (omega arith))
+    let piece = encoded (getD (a .bytes .now) (w .i) 0 ∷ []) in (
+      omega arith,
+      finished (a .out .now) all _ (w .at + 4)
+          (c .before .before .encode-one .ensures
+          ∙ grown (a .out .now) all piece [] (w .out) (w .at) (w .inv .4) (w .inv .5 ∙ encoded-one (a .bytes .now) (w .i) (omega arith) ∙ sym (append-nil piece)) (omega arith) (omega arith))
+          (omega arith),
+    )
 
 returns-3 : tie.Need-returns-3 Inv-loop μ-loop
 returns-3 c =

@@ -47,12 +47,13 @@ loop-again c =
     let w = c .before .before .before .before .before .loop in
     let all = content (decoded (a .args .text .now)) in
     let size = known (a .args .text .now) (a .args .n) (a .pre .0) .1 in
-    let left = three-left (a .args .text .now) all (w .at) (w .i) (w .inv .3) (omega arith) in
-    (omega arith,
-    c .before .before .put-three .kept .1 .1 .0 ∙ w .inv .1,
-    c .before .before .put-three .ensures
-    ∙ grown (a .args .out .now) all (threeAt (a .args .text .now) (w .at)) (drop (w .i + 3) all) (w .out) (w .i) (w .inv .2) (left .1) (omega arith) (omega arith),
-    left .2)
+    let left = three-left (a .args .text .now) all (w .at) (w .i) (w .inv .3) (omega arith) in (
+      omega arith,
+      c .before .before .put-three .kept .1 .1 .0 ∙ w .inv .1,
+      c .before .before .put-three .ensures
+          ∙ grown (a .args .out .now) all (threeAt (a .args .text .now) (w .at)) (drop (w .i + 3) all) (w .out) (w .i) (w .inv .2) (left .1) (omega arith) (omega arith),
+      left .2,
+    )
 
 put-two-requires : tie.Need-put-two-requires Inv-loop μ-loop
 put-two-requires c κs =

@@ -24,21 +24,23 @@ loop-holds c = (omega arith, refl, sym (plus-zero _))
 returns : tie.Need-returns Inv-loop μ-loop
 returns c =
     let w = c .before .before .before .before .before .before .before .loop in
-    record
-      { within = w .inv .0;
-        whole = w .inv .1;
-        sizes = w .inv .2;
-        stops = λ _. sym (c .before .full .ensures) ∙ not-true _ (c .if1 .taken) }
+    record {
+      within = w .inv .0;
+      whole = w .inv .1;
+      sizes = w .inv .2;
+      stops = λ _. sym (c .before .full .ensures) ∙ not-true _ (c .if1 .taken);
+    }
 
 loop-again : tie.Need-loop-again Inv-loop μ-loop
 loop-again c =
     let text = c .before .before .before .before .before .before .before .before .before .args .text .now in
     let w = c .before .before .before .before .before .before .before .loop in
-    let full = sym (c .before .full .ensures) ∙ not-false _ (c .if1 .left) in
-    (omega arith,
-    omega arith,
-    w .inv .2 ∙ ap (plus (w .at / 4 * 3)) (full-step text (w .at) (omega arith) full)
-    ∙ plus-plus (w .at / 4 * 3) 3 ((w .at + 4) / 4 * 3) (measured (drop (w .at + 4) text)) (omega arith))
+    let full = sym (c .before .full .ensures) ∙ not-false _ (c .if1 .left) in (
+      omega arith,
+      omega arith,
+      w .inv .2 ∙ ap (plus (w .at / 4 * 3)) (full-step text (w .at) (omega arith) full)
+          ∙ plus-plus (w .at / 4 * 3) 3 ((w .at + 4) / 4 * 3) (measured (drop (w .at + 4) text)) (omega arith),
+    )
 
 returns-2 : tie.Need-returns-2 Inv-loop μ-loop
 returns-2 c =

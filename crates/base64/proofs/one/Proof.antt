@@ -18,29 +18,32 @@ returns-2 : tie.Need-returns-2
 unfolding one
 returns-2 c =
     let first = c .before .before in
-    simp
-    (coded-by _ _ (first .before .six-bits .ensures .0) (first .if1 .left),
-    uncoded-by _ _ (c .before .six-bits2 .ensures .0) (c .if2 .taken))
+    simp (
+      coded-by _ _ (first .before .six-bits .ensures .0) (first .if1 .left),
+      uncoded-by _ _ (c .before .six-bits2 .ensures .0) (c .if2 .taken),
+    )
 
 returns-3 : tie.Need-returns-3
 unfolding one
 returns-3 c =
     let first = c .before .before .before in
     let second = c .before in
-    simp
-    (coded-by _ _ (first .before .six-bits .ensures .0) (first .if1 .left),
-    coded-by _ _ (second .before .six-bits2 .ensures .0) (second .if2 .left),
-    ap (λ (v : ℕ). eqb (v % 16) 0) (sym (second .before .six-bits2 .ensures .0)) ∙ ne-eqb _ 0 (c .if3 .taken))
+    simp (
+      coded-by _ _ (first .before .six-bits .ensures .0) (first .if1 .left),
+      coded-by _ _ (second .before .six-bits2 .ensures .0) (second .if2 .left),
+      ap (λ (v : ℕ). eqb (v % 16) 0) (sym (second .before .six-bits2 .ensures .0)) ∙ ne-eqb _ 0 (c .if3 .taken),
+    )
 
 returns-4 : tie.Need-returns-4
 unfolding one
 returns-4 c =
     let first = c .before .before .before in
     let second = c .before in
-    simp
-    (coded-by _ _ (first .before .six-bits .ensures .0) (first .if1 .left),
-    coded-by _ _ (second .before .six-bits2 .ensures .0) (second .if2 .left),
-    ap (λ (v : ℕ). eqb (v % 16) 0) (sym (second .before .six-bits2 .ensures .0)) ∙ eq-eqb _ 0 (c .if3 .left))
+    simp (
+      coded-by _ _ (first .before .six-bits .ensures .0) (first .if1 .left),
+      coded-by _ _ (second .before .six-bits2 .ensures .0) (second .if2 .left),
+      ap (λ (v : ℕ). eqb (v % 16) 0) (sym (second .before .six-bits2 .ensures .0)) ∙ eq-eqb _ 0 (c .if3 .left),
+    )
 
 pub one-spec : {M : Type 1} → statement M
 one-spec =

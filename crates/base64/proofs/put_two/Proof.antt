@@ -16,12 +16,12 @@ returns c =
     let a = c .before .before .before .before .before .before .before .before .before in
     let n = c .joined .result in
     let e =
-            c .joined .ensures
-            ∙ joined-same
-            (c .before .before .before .before .before .six-bits .ensures .0)
-            (c .before .before .before .six-bits2 .ensures .0)
-            (c .before .six-bits3 .ensures .0)
-            refl in
+    c .joined .ensures
+    ∙ joined-same
+    (c .before .before .before .before .before .six-bits .ensures .0)
+    (c .before .before .before .six-bits2 .ensures .0)
+    (c .before .six-bits3 .ensures .0)
+    refl in
     rw (← e) (simp towards-suc (stored (a .args .out .now) (take 2 (three n)) (a .args .i) (a .pre .1)))
 
 pub put-two-spec : {M : Type 1} → statement M

@@ -18,19 +18,21 @@ returns-2 : tie.Need-returns-2
 unfolding two
 returns-2 c =
     let first = c .before .before in
-    simp
-    (coded-by _ _ (first .before .six-bits .ensures .0) (first .if1 .left),
-    uncoded-by _ _ (c .before .six-bits2 .ensures .0) (c .if2 .taken))
+    simp (
+      coded-by _ _ (first .before .six-bits .ensures .0) (first .if1 .left),
+      uncoded-by _ _ (c .before .six-bits2 .ensures .0) (c .if2 .taken),
+    )
 
 returns-3 : tie.Need-returns-3
 unfolding two
 returns-3 c =
     let first = c .before .before .before .before in
     let second = c .before .before in
-    simp
-    (coded-by _ _ (first .before .six-bits .ensures .0) (first .if1 .left),
-    coded-by _ _ (second .before .six-bits2 .ensures .0) (second .if2 .left),
-    uncoded-by _ _ (c .before .six-bits3 .ensures .0) (c .if3 .taken))
+    simp (
+      coded-by _ _ (first .before .six-bits .ensures .0) (first .if1 .left),
+      coded-by _ _ (second .before .six-bits2 .ensures .0) (second .if2 .left),
+      uncoded-by _ _ (c .before .six-bits3 .ensures .0) (c .if3 .taken),
+    )
 
 returns-4 : tie.Need-returns-4
 unfolding two
@@ -38,11 +40,12 @@ returns-4 c =
     let first = c .before .before .before .before .before in
     let second = c .before .before .before in
     let third = c .before in
-    simp
-    (coded-by _ _ (first .before .six-bits .ensures .0) (first .if1 .left),
-    coded-by _ _ (second .before .six-bits2 .ensures .0) (second .if2 .left),
-    coded-by _ _ (third .before .six-bits3 .ensures .0) (third .if3 .left),
-    ap (λ (v : ℕ). eqb (v % 4) 0) (sym (third .before .six-bits3 .ensures .0)) ∙ ne-eqb _ 0 (c .if4 .taken))
+    simp (
+      coded-by _ _ (first .before .six-bits .ensures .0) (first .if1 .left),
+      coded-by _ _ (second .before .six-bits2 .ensures .0) (second .if2 .left),
+      coded-by _ _ (third .before .six-bits3 .ensures .0) (third .if3 .left),
+      ap (λ (v : ℕ). eqb (v % 4) 0) (sym (third .before .six-bits3 .ensures .0)) ∙ ne-eqb _ 0 (c .if4 .taken),
+    )
 
 returns-5 : tie.Need-returns-5
 unfolding two
@@ -50,11 +53,12 @@ returns-5 c =
     let first = c .before .before .before .before .before in
     let second = c .before .before .before in
     let third = c .before in
-    simp
-    (coded-by _ _ (first .before .six-bits .ensures .0) (first .if1 .left),
-    coded-by _ _ (second .before .six-bits2 .ensures .0) (second .if2 .left),
-    coded-by _ _ (third .before .six-bits3 .ensures .0) (third .if3 .left),
-    ap (λ (v : ℕ). eqb (v % 4) 0) (sym (third .before .six-bits3 .ensures .0)) ∙ eq-eqb _ 0 (c .if4 .left))
+    simp (
+      coded-by _ _ (first .before .six-bits .ensures .0) (first .if1 .left),
+      coded-by _ _ (second .before .six-bits2 .ensures .0) (second .if2 .left),
+      coded-by _ _ (third .before .six-bits3 .ensures .0) (third .if3 .left),
+      ap (λ (v : ℕ). eqb (v % 4) 0) (sym (third .before .six-bits3 .ensures .0)) ∙ eq-eqb _ 0 (c .if4 .left),
+    )
 
 pub two-spec : {M : Type 1} → statement M
 two-spec =
