@@ -71,7 +71,13 @@ fn sizes_fit(key: usize, iv: usize, text: usize, tag: usize, out: usize) -> bool
 
 // AES-256-GCM with no associated data: the sealed text into out, which is as long as text, and the tag's 16 bytes.
 #[no_mangle]
-pub extern "C" fn prim_gcm_seal(key: &[u8], iv: &[u8], text: &[u8], out: &mut [u8], tag: &mut [u8]) -> u32
+pub extern "C" fn prim_gcm_seal(
+    key: &[u8],
+    iv: &[u8],
+    text: &[u8],
+    out: &mut [u8],
+    tag: &mut [u8],
+) -> u32
     ensures { λ r. ⌜ sealAnswer r (now (out .exit)) (now (tag .exit)) ≡ sealCall (now (key .entry)) (now (iv .entry)) (now (text .entry)) (now (out .entry)) (now (tag .entry)) ⌝ }
 {
     if !sizes_fit(key.len(), iv.len(), text.len(), tag.len(), out.len()) {
@@ -83,7 +89,13 @@ pub extern "C" fn prim_gcm_seal(key: &[u8], iv: &[u8], text: &[u8], out: &mut [u
 
 // The text of a sealed one into out, which is as long; 2 where the tag is wrong, with every byte as it was.
 #[no_mangle]
-pub extern "C" fn prim_gcm_open(key: &[u8], iv: &[u8], text: &[u8], tag: &[u8], out: &mut [u8]) -> u32
+pub extern "C" fn prim_gcm_open(
+    key: &[u8],
+    iv: &[u8],
+    text: &[u8],
+    tag: &[u8],
+    out: &mut [u8],
+) -> u32
     ensures { λ r. ⌜ answer r (now (out .exit)) ≡ openCall (now (key .entry)) (now (iv .entry)) (now (text .entry)) (now (tag .entry)) (now (out .entry)) ⌝ }
 {
     if !sizes_fit(key.len(), iv.len(), text.len(), tag.len(), out.len()) {
