@@ -44,7 +44,7 @@ RFC_4648_10 = [(b"", b""), (b"f", b"Zg=="), (b"fo", b"Zm8="), (b"foo", b"Zm9v"),
                (b"fooba", b"Zm9vYmE="), (b"foobar", b"Zm9vYmFy")]
 DOCUMENT_01 = [((2736056).to_bytes(3, "big"), b"Kb+4"), (b"\x01\x04", b"AQQ="),
                ((1505773123).to_bytes(4, "big"), b"WcBGQw=="), (b"\x03\x0d\x73\xef", b"Aw1z7w==")]
-# Texts that encode nothing, by the section of RFC 4648 that forbids each; document 01, "The X-S-Armor value", keeps to it.
+# Texts that encode nothing, by the section of RFC 4648 that forbids each, as document 01, "The X-S-Armor value", does.
 OUTSIDE = [bytes([c]) for c in b" \n\r-_:;\x00\x80\xff"]
 SPACES = [b" ", b"\t", b"\n", b"\r\n", b"    "]
 NOT_BASE64 = [

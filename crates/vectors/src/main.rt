@@ -2,6 +2,7 @@
 mod digests;
 mod sealing;
 mod texts;
+
 ghost use mathlib.Core.Path.{_≡_};
 ghost use Prim.Native.Nat.{_+_, _-_, _^_, _≤_, _<_};
 ghost use lib.ListN.{length};
@@ -128,6 +129,7 @@ fn counted(count: u64, ran: Ran) -> u64
     }
 }
 
+// Runs one line by its kind.
 fn line(line: &[u8]) -> Ran {
     let kind = words::word(line, 0);
     if check::same(kind, b"#") {
@@ -151,6 +153,7 @@ fn line(line: &[u8]) -> Ran {
     other_line(line)
 }
 
+// The kinds that compute no digest.
 fn other_line(line: &[u8]) -> Ran {
     let kind = words::word(line, 0);
     if check::same(kind, b"aes") {

@@ -1,6 +1,4 @@
 // AES-256 and AES-256-GCM: each function runs the line of its kind.
-ghost use Prim.Native.Nat.{_≤_};
-ghost use lib.ListN.{length};
 use crate::Ran;
 use libc::STDOUT_FILENO;
 
@@ -48,20 +46,19 @@ pub fn seal(line: &[u8]) -> Ran {
         return Ran::Malformed;
     }
     let n = run.size;
-    print_sealed(&key, &iv, &text[..n]);
-    Ran::Vector
+    let mut out = [0u8; 256];
+    print_sealed(&key, &iv, &text[..n], &mut out[..n])
 }
 
-fn print_sealed(key: &[u8], iv: &[u8], text: &[u8])
-    requires { ⌜ length (now text) ≤ 256 ⌝ }
-{
-    let n = text.len();
-    let mut out = [0u8; 256];
+fn print_sealed(key: &[u8], iv: &[u8], text: &[u8], out: &mut [u8]) -> Ran {
     let mut tag = [0u8; 16];
-    primitives::prim_gcm_seal(key, iv, text, &mut out[..n], &mut tag);
-    words::print(&out[..n]);
+    if primitives::prim_gcm_seal(key, iv, text, out, &mut tag) != 0 {
+        return Ran::Malformed;
+    }
+    words::print(out);
     io::write_all(STDOUT_FILENO, b" ");
     words::print_line(&tag);
+    Ran::Vector
 }
 
 // open KEY IV CIPHER TAG: the text, or that the tag is wrong
@@ -87,19 +84,17 @@ pub fn open(line: &[u8]) -> Ran {
         return Ran::Malformed;
     }
     let n = run.size;
-    print_opened(&key, &iv, &cipher[..n], &tag);
-    Ran::Vector
+    let mut out = [0u8; 256];
+    print_opened(&key, &iv, &cipher[..n], &tag, &mut out[..n])
 }
 
-fn print_opened(key: &[u8], iv: &[u8], cipher: &[u8], tag: &[u8])
-    requires { ⌜ length (now cipher) ≤ 256 ⌝ }
-{
-    let n = cipher.len();
-    let mut out = [0u8; 256];
-    let answer = primitives::prim_gcm_open(key, iv, cipher, tag, &mut out[..n]);
-    if answer == 2 {
-        io::write_all(STDOUT_FILENO, b"wrong\n");
-        return;
+fn print_opened(key: &[u8], iv: &[u8], cipher: &[u8], tag: &[u8], out: &mut [u8]) -> Ran {
+    match primitives::prim_gcm_open(key, iv, cipher, tag, out) {
+        0 => words::print_line(out),
+        2 => {
+            io::write_all(STDOUT_FILENO, b"wrong\n");
+        }
+        _ => return Ran::Malformed,
     }
-    words::print_line(&out[..n]);
+    Ran::Vector
 }

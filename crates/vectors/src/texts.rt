@@ -1,8 +1,8 @@
 // Base64: each function runs the line of its kind.
 ghost use Prim.Native.Nat.{_≤_};
 ghost use lib.ListN.{length};
-use base64::Decoded;
 use crate::Ran;
+use base64::Decoded;
 use libc::STDOUT_FILENO;
 
 // encode RUN: its text

@@ -1,52 +1,31 @@
+-- `print_encoded` is safe: the text of 48 bytes has 64 characters.
+-- Assumes nothing.
 use borrow.Author.Needs.{needs}
+use mathlib.Core.Path.{_≡_, sym}
+use native.Mathlib.Omega.{arith}
+use lib.ListN.{length}
+use lib.Seq.{length-take-le}
+use Rattle.base64.proofs.Encoded.{length-encoded}
 use Rattle.vectors.proofs.texts.print_encoded.Statement.{statement}
 use Rattle.vectors.proofs.texts.print_encoded.Tie as tie
-use Rattle.vectors.proofs.texts.print_encoded.Reads as reads
-use Rattle.vectors.proofs.texts.print_encoded.Lts as lts
-use Rattle.base64.proofs.encode.Reads as encode-reads
-use Rattle.io.proofs.write_all.Reads as write-all-reads
 
--- src/texts.rt:27:35
-slice-aggregate-encode : tie.Need-slice-aggregate-encode
-slice-aggregate-encode c = search needs
-
--- src/texts.rt:27:9
-encode-requires : tie.Need-encode-requires
-encode-requires c κs = search needs
-
--- src/texts.rt:28:34
 array-share-prefix-text : tie.Need-array-share-prefix-text
-array-share-prefix-text c = ?
+array-share-prefix-text c =
+    let size : length (c .before .encode .last .1 .0) ≡ 64 = search needs in
+    omega (arith, rw length-encoded at (c .before .encode .ensures .0))
 
--- src/texts.rt:28:34
 slice-aggregate-write-all : tie.Need-slice-aggregate-write-all
-slice-aggregate-write-all c = ?
-
--- src/texts.rt:28:5
-write-all-requires : tie.Need-write-all-requires
-write-all-requires c κs = search needs
-
--- src/texts.rt:29:34
-slice-aggregate-write-all-2 : tie.Need-slice-aggregate-write-all-2
-slice-aggregate-write-all-2 c = search needs
-
--- src/texts.rt:29:5
-write-all-requires-2 : tie.Need-write-all-requires-2
-write-all-requires-2 c κs = search needs
-
--- src/texts.rt:23:1
-returns : tie.Need-returns
-returns c = search needs
+slice-aggregate-write-all c = sym (length-take-le _ _ (array-share-prefix-text (c .before)))
 
 pub print-encoded-spec : {M : Type 1} → statement M
 print-encoded-spec =
     tie.close
     (tie.spec
-    slice-aggregate-encode
-    encode-requires
+    (λ c. search needs)
+    (λ c κs. search needs)
     array-share-prefix-text
     slice-aggregate-write-all
-    write-all-requires
-    slice-aggregate-write-all-2
-    write-all-requires-2
-    returns)
+    (λ c κs. search needs)
+    (λ c. search needs)
+    (λ c κs. search needs)
+    (λ c. search needs))
