@@ -1,13 +1,13 @@
 -- A text decodes to a run of bytes exactly if it is that run's encoding.
 -- Assumes nothing.
-use mathlib.Core.Path.{_≡_, refl, sym, ap, ap₂, subst, _∙_}
+use mathlib.Core.Path.{_≡_, refl, sym, ap, subst, _∙_}
 use mathlib.Core.Logic.{_↔_}
 use mathlib.Core.List.{List, [], _∷_, _++_}
-use Prim.Native.Nat.{ℕ, zero, suc, _+_, _*_, _/_, _%_, _<_, _≤_}
+use Prim.Native.Nat.{ℕ, zero, suc, _+_, _/_, _%_, _<_}
 use native.Mathlib.Omega.{arith}
-use lib.ListN.{length, getD, take}
+use lib.ListN.{take}
 use Rattle.cells.specs.Runs.{Bytes}
-use Rattle.base64.specs.Alphabet.{character, sixBits, pad}
+use Rattle.base64.specs.Alphabet.{character, sixBits}
 use Rattle.base64.specs.Encoding.{group, first, second, third, fourth, encoded}
 use Rattle.base64.specs.Decoding.{bytes, joined, three, decoded}
 use Rattle.base64.proofs.Alphabet.{character-sixBits, sixBits-character}

@@ -1,10 +1,10 @@
 -- What one step of the code passes over in a text.
 -- Assumes nothing.
-use mathlib.Core.Path.{_≡_, refl, sym, ap, subst, _∙_}
+use mathlib.Core.Path.{_≡_, refl, sym, ap, _∙_}
 use mathlib.Core.Bool.{Bool, true, false}
-use mathlib.Core.List.{List, [], _∷_, _++_}
-use Prim.Native.Nat.{ℕ, zero, suc, _+_, _-_, _*_, _/_, _%_, _<_, _≤_}
-use native.Mathlib.Nat.{add-zero, add-assoc, not-suc-le-zero}
+use mathlib.Core.List.{List, [], _∷_}
+use Prim.Native.Nat.{ℕ, _+_, _-_, _%_, _<_, _≤_}
+use native.Mathlib.Nat.{not-suc-le-zero}
 use native.Mathlib.Numerals.{add-one}
 use native.Mathlib.Decide.{decLe}
 use native.Mathlib.Omega.{arith}
@@ -13,9 +13,9 @@ use lib.ListN.{length, getD, drop, length-drop, drop-of-length-le}
 use lib.Seq.{drop-cons}
 use Rattle.base64.specs.declared.Measured.{Measured}
 use Rattle.base64.specs.Alphabet.{sixBits, pad}
-use Rattle.base64.specs.Decoding.{Decoding, nothing, bytes, pick, both, coded, before, last, joined, full, three, one, two, ending, decoded}
+use Rattle.base64.specs.Decoding.{Decoding, nothing, bytes, pick, both, coded, before, three, one, two, ending, decoded}
 use Rattle.base64.specs.Answers.{sizeOf, measured}
-use Rattle.base64.specs.Steps.{plus, fullAt, FullBefore}
+use Rattle.base64.specs.Steps.{plus, fullAt}
 
 pub next : (xs : List ℕ) (k m : ℕ) → k < length xs → m ≡ k + 1 → drop k xs ≡ getD xs k 0 ∷ drop m xs
 next xs k m h e = drop-cons xs k 0 h ∙ ap (λ (n : ℕ). getD xs k 0 ∷ drop n xs) (sym (e ∙ add-one k))

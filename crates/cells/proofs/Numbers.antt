@@ -7,7 +7,7 @@ use native.Mathlib.Nat.{zero-add, suc-add, add-assoc, mul-assoc, add-mul, mod-lt
 use native.Mathlib.Omega.{arith}
 use lib.Arith.{digits-lt}
 use lib.Pow.{pow-pos, pow-add, mod-pow-add, high, shr-shr}
-use lib.ListN.{length, getD, length-append}
+use lib.ListN.{length, length-append}
 use Rattle.cells.specs.Runs.{Bytes}
 use Rattle.cells.specs.Numbers.{bytesOf, number}
 

@@ -11,7 +11,6 @@ use lib.ListN.{length}
 use Rattle.orders.specs.Extra.{extraNames, goodNames, goodExtra}
 use Rattle.orders.specs.Orders.{longestSessionLife, ordersGood, limitsOf, checkedOrders}
 use Rattle.orders.specs.declared.Limits.{Limits}
-use Rattle.orders.specs.declared.Checked.{Checked}
 use Rattle.orders.specs.declared.Checked.the-variants.{Good, Bad}
 
 -- good extra names are at most 128 bytes and at most eight

@@ -1,6 +1,6 @@
 -- `base64::decode` meets its contract: measured first, so that a buffer is written only where all fits in.
 -- Assumes nothing.
-use mathlib.Core.Path.{_≡_, sym, ap, _∙_}
+use mathlib.Core.Path.{sym, ap, _∙_}
 use native.Mathlib.Omega.{arith}
 use borrow.Author.Needs.{needs}
 use Rattle.base64.specs.declared.Decoded.{Decoded}

@@ -1,13 +1,13 @@
 -- `base64::full_before` meets its contract. The loop's invariant: the groups before at are full.
 -- Assumes nothing.
 use mathlib.Core.Path.{_≡_, refl, sym, ap, _∙_}
-use Prim.Native.Nat.{ℕ, _+_, _-_, _*_, _/_, _%_, _≤_}
+use Prim.Native.Nat.{_+_, _-_, _*_, _/_, _%_, _≤_}
 use native.Mathlib.Omega.{arith}
 use borrow.Author.Needs.{needs}
 use borrow.Author.Tests.{not-true, not-false}
 use lib.ListN.{length, drop}
 use Rattle.base64.specs.Answers.{measured}
-use Rattle.base64.specs.Steps.{plus, FullBefore}
+use Rattle.base64.specs.Steps.{plus}
 use Rattle.base64.proofs.Steps.{plus-zero, plus-plus, full-step}
 use Rattle.base64.proofs.full_before.Statement.{statement}
 use Rattle.base64.proofs.full_before.Tie as tie

@@ -1,13 +1,12 @@
 -- `base64::measure` meets its contract: the sizes of the full groups and of what follows them.
 -- Assumes nothing.
-use mathlib.Core.Path.{_≡_, refl, sym, ap, _∙_}
-use Prim.Native.Nat.{ℕ, _+_, _-_, _*_, _/_, _≤_, _<_}
+use mathlib.Core.Path.{_≡_, sym, ap, _∙_}
+use Prim.Native.Nat.{_+_, _-_, _*_, _/_, _≤_, _<_}
 use native.Mathlib.Nat.{add-zero}
 use native.Mathlib.Omega.{arith}
 use borrow.Author.Needs.{needs}
-use lib.ListN.{length, drop}
+use lib.ListN.{length}
 use Rattle.base64.specs.declared.Measured.{Measured}
-use Rattle.base64.specs.Answers.{measured}
 use Rattle.base64.specs.Steps.{plus}
 use Rattle.base64.proofs.Steps.{all-full, ends, stuck, ending-size}
 use Rattle.base64.proofs.measure.Statement.{statement}

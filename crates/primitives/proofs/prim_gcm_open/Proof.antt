@@ -2,13 +2,10 @@
 -- Assumes nothing.
 use borrow.Author.Needs.{needs}
 use borrow.Author.Tests.{not-true, not-false}
-use mathlib.Core.Path.{_≡_, sym, _∙_}
-use mathlib.Core.Bool.{true, false}
+use mathlib.Core.Path.{sym, _∙_}
 use mathlib.Core.List.{[]}
 use Rattle.gcm.specs.Gcm.{opened}
-use native.Mathlib.Omega.{arith}
-use lib.ListN.{length}
-use Rattle.primitives.specs.Sealing.{sizesFit, openCall}
+use Rattle.primitives.specs.Sealing.{openCall}
 use Rattle.primitives.proofs.Sealing.{fit, opened-text, opened-wrong}
 use Rattle.primitives.proofs.prim_gcm_open.Statement.{statement}
 use Rattle.primitives.proofs.prim_gcm_open.Tie as tie

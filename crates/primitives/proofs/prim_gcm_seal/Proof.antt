@@ -2,11 +2,8 @@
 -- Assumes nothing.
 use borrow.Author.Needs.{needs}
 use borrow.Author.Tests.{not-true, not-false}
-use mathlib.Core.Path.{_≡_, sym, ap₂, _∙_}
-use mathlib.Core.Bool.{true, false}
-use native.Mathlib.Omega.{arith}
-use lib.ListN.{length}
-use Rattle.primitives.specs.Sealing.{sizesFit, sealAnswer, sealCall}
+use mathlib.Core.Path.{sym, ap₂, _∙_}
+use Rattle.primitives.specs.Sealing.{sealAnswer, sealCall}
 use Rattle.primitives.proofs.Sealing.{fit}
 use Rattle.primitives.proofs.prim_gcm_seal.Statement.{statement}
 use Rattle.primitives.proofs.prim_gcm_seal.Tie as tie

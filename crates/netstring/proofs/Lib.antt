@@ -1,0 +1,6 @@
+-- The laws that callers' proofs cite, and those of this crate's own functions.
+pub mod Numerals
+pub mod Determined
+pub mod Laid
+pub mod Scanned
+pub mod Parts
