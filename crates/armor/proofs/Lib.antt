@@ -1,0 +1,12 @@
+-- The laws that callers' proofs cite, and those of this crate's own functions.
+pub mod Numerals
+pub mod Pieces
+pub mod Keys
+pub mod Value
+pub mod Scan
+pub mod Fields
+pub mod Texts
+pub mod Requests
+pub mod Cases
+pub mod Readings
+pub mod Carried

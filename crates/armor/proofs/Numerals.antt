@@ -1,0 +1,292 @@
+-- A number and its bytes, and a mask and its bytes, determine each other.
+-- Assumes nothing.
+use mathlib.Core.Path.{_≡_, refl, sym, ap, ap₂, _∙_}
+use mathlib.Core.Bool.{Bool, true, false, cond, not, _&&_}
+use mathlib.Core.List.{List, [], _∷_, _++_}
+use Prim.Native.Nat.{ℕ, zero, suc, _+_, _*_, _/_, _%_, _^_, _-_, _<_, _≤_}
+use native.Mathlib.Nat.{div-eq-of-lt, zero-div, zero-mul, zero-add, le-div-iff-mul-le, div-lt-iff-lt-mul, mod-eq-of-lt, one-mul, lt-of-lt-of-le, sub-self}
+use native.Mathlib.Numerals.{add-one}
+use native.Mathlib.Omega.{arith}
+use lib.Dec.{eqb, leb, lit<}
+use lib.Pow.{pow-pos, pow-add, pow-mono}
+use lib.ListN.{length, getD, take, drop, set, replicate, length-take}
+use lib.Seq.{take-all, take-suc, take-at}
+use borrow.Author.Tests.{eqb-true, leb-true, le-leb, eq-eqb, ne-eqb}
+use Rattle.cells.specs.Runs.{Bytes, spliced}
+use Rattle.cells.specs.Numbers.{bytesOf, number}
+use Rattle.cells.proofs.Numbers.{length-bytesOf, bytes-bytesOf, bytes-rest, number-below, number-of, bytesOf-number, bytesOf-append, number-append}
+use Rattle.cells.proofs.Runs.{spliced-front, fronted-whole}
+use Rattle.armor.specs.Numerals.{shortest, plain, numberBytes, isNumeral, isNumber, maskBytes, isMask, maskOf}
+
+plain-by : (b c : ℕ) (bs : List ℕ) (t : Bool) → eqb b 0 ≡ t → plain (shortest (c ∷ bs)) ≡ true
+    → plain (cond t (shortest (c ∷ bs)) (b ∷ c ∷ bs)) ≡ true
+unfolding plain
+plain-by b c bs true e h = h
+plain-by b c bs false e h = ap not e
+
+plain-shortest : (bs : List ℕ) → plain (shortest bs) ≡ true
+unfolding shortest plain
+plain-shortest [] = refl
+plain-shortest (b ∷ []) = refl
+plain-shortest (b ∷ c ∷ bs) = plain-by b c bs (eqb b 0) refl (plain-shortest (c ∷ bs))
+
+number-by : (b c : ℕ) (bs : List ℕ) (t : Bool) → eqb b 0 ≡ t → number (shortest (c ∷ bs)) ≡ number (c ∷ bs)
+    → number (cond t (shortest (c ∷ bs)) (b ∷ c ∷ bs)) ≡ number (b ∷ c ∷ bs)
+unfolding number
+number-by b c bs true e h =
+    h ∙ sym (ap (λ (x : ℕ). x * 2 ^ (8 * length (c ∷ bs)) + number (c ∷ bs)) (eqb-true b 0 e) ∙ rw (zero-mul, zero-add))
+number-by b c bs false e h = refl
+
+number-shortest : (bs : List ℕ) → number (shortest bs) ≡ number bs
+unfolding shortest
+number-shortest [] = refl
+number-shortest (b ∷ []) = refl
+number-shortest (b ∷ c ∷ bs) = number-by b c bs (eqb b 0) refl (number-shortest (c ∷ bs))
+
+length-by : (b c : ℕ) (bs : List ℕ) (t : Bool) → (1 ≤ length (shortest (c ∷ bs))) × (length (shortest (c ∷ bs)) ≤ length (c ∷ bs))
+    → (1 ≤ length (cond t (shortest (c ∷ bs)) (b ∷ c ∷ bs))) × (length (cond t (shortest (c ∷ bs)) (b ∷ c ∷ bs)) ≤ length (b ∷ c ∷ bs))
+length-by b c bs true h = (h .0, omega arith)
+length-by b c bs false h = (omega arith, omega arith)
+
+length-shortest : (b : ℕ) (bs : List ℕ) → (1 ≤ length (shortest (b ∷ bs))) × (length (shortest (b ∷ bs)) ≤ length (b ∷ bs))
+unfolding shortest
+length-shortest b [] = (omega arith, omega arith)
+length-shortest b (c ∷ bs) = length-by b c bs (eqb b 0) (length-shortest c bs)
+
+bytes-by : (b c : ℕ) (bs : List ℕ) (t : Bool) → Bytes (shortest (c ∷ bs)) → Bytes (b ∷ c ∷ bs) → Bytes (cond t (shortest (c ∷ bs)) (b ∷ c ∷ bs))
+bytes-by b c bs true p q = p
+bytes-by b c bs false p q = q
+
+bytes-shortest : (bs : List ℕ) → Bytes bs → Bytes (shortest bs)
+unfolding shortest
+bytes-shortest [] h = h
+bytes-shortest (b ∷ []) h = h
+bytes-shortest (b ∷ c ∷ bs) h = bytes-by b c bs (eqb b 0) (bytes-shortest (c ∷ bs) (bytes-rest b (c ∷ bs) h)) h
+
+plain-same : (b c : ℕ) (bs : List ℕ) (t : Bool) → not t ≡ true → cond t (shortest (c ∷ bs)) (b ∷ c ∷ bs) ≡ b ∷ c ∷ bs
+plain-same b c bs true h = let z : true ≡ false = sym h in ap (λ (t : Bool). cond t (shortest (c ∷ bs)) (b ∷ c ∷ bs)) z
+plain-same b c bs false h = refl
+
+shortest-plain : (bs : List ℕ) → plain bs ≡ true → shortest bs ≡ bs
+unfolding shortest plain
+shortest-plain [] h = refl
+shortest-plain (b ∷ []) h = refl
+shortest-plain (b ∷ c ∷ bs) h = plain-same b c bs (eqb b 0) h
+
+-- leading zero bytes make no difference
+shortest-zeros : (k b : ℕ) (bs : List ℕ) → shortest (replicate k 0 ++ b ∷ bs) ≡ shortest (b ∷ bs)
+unfolding shortest
+shortest-zeros zero b bs = refl
+shortest-zeros (suc zero) b bs = refl
+shortest-zeros (suc (suc k)) b bs = shortest-zeros (suc k) b bs
+
+bytesOf-zero : (k : ℕ) → bytesOf k 0 ≡ replicate k 0
+unfolding bytesOf
+bytesOf-zero zero = refl
+bytesOf-zero (suc k) = ap₂ _∷_ (ap (λ (q : ℕ). q % 256) (zero-div (2 ^ (8 * k))) ∙ refl) (bytesOf-zero k)
+
+-- a number that fits k + 1 bytes is given by these
+fitting : (j k n : ℕ) → j + suc k ≡ 8 → n < 2 ^ (8 * suc k) → numberBytes n ≡ shortest (bytesOf (suc k) n)
+unfolding numberBytes bytesOf
+fitting j k n e h =
+    ap (λ (i : ℕ). shortest (bytesOf i n)) (sym e)
+    ∙ ap shortest (bytesOf-append j (suc k) n ∙ ap (λ (q : ℕ). bytesOf j q ++ bytesOf (suc k) n) (div-eq-of-lt h))
+    ∙ ap (λ (z : List ℕ). shortest (z ++ bytesOf (suc k) n)) (bytesOf-zero j)
+    ∙ shortest-zeros j _ (bytesOf k n)
+
+first-byte : (k n : ℕ) → 2 ^ (8 * suc k) ≤ n → n < 2 ^ (8 * suc (suc k)) → plain (bytesOf (suc (suc k)) n) ≡ true
+unfolding plain bytesOf
+first-byte k n low high =
+    let p = 2 ^ (8 * suc k) in
+    let one : 1 ≤ n / p = le-div-iff-mul-le {k = p} {x = 1} {y = n} (pow-pos (8 * suc k)) .1 (rw one-mul low) in
+    let split : 2 ^ (8 * suc (suc k)) ≡ 256 * p = ap (λ (e : ℕ). 2 ^ e) (omega arith) ∙ pow-add 2 8 (8 * suc k) in
+    let byte : n / p < 256 = div-lt-iff-lt-mul {k = p} {x = n} {y = 256} (pow-pos (8 * suc k)) .1 (rw split at high) in
+    ap not (ne-eqb (n / p % 256) 0 (λ e. omega (arith, mod-eq-of-lt byte)))
+
+-- a number of k + 1 bytes, of which the first is not zero
+pub sized-bytes : (j k n : ℕ) → j + suc k ≡ 8 → plain (bytesOf (suc k) n) ≡ true → n < 2 ^ (8 * suc k) → numberBytes n ≡ bytesOf (suc k) n
+sized-bytes j k n e p h = fitting j k n e h ∙ shortest-plain (bytesOf (suc k) n) p
+
+-- one byte
+pub one-byte : (n : ℕ) → n < 256 → numberBytes n ≡ bytesOf 1 n
+unfolding plain bytesOf
+one-byte n h = sized-bytes 7 0 n refl refl h
+
+-- k + 2 bytes
+pub more-bytes : (j k n : ℕ) → j + suc (suc k) ≡ 8 → 2 ^ (8 * suc k) ≤ n → n < 2 ^ (8 * suc (suc k)) → numberBytes n ≡ bytesOf (suc (suc k)) n
+more-bytes j k n e low high = sized-bytes j (suc k) n e (first-byte k n low high) high
+
+pub number-numberBytes : (n : ℕ) → n < 2 ^ 64 → number (numberBytes n) ≡ n
+unfolding numberBytes
+number-numberBytes n h = number-shortest (bytesOf 8 n) ∙ number-of 8 n h
+
+pub bytes-numberBytes : (n : ℕ) → Bytes (numberBytes n)
+unfolding numberBytes
+bytes-numberBytes n = bytes-shortest (bytesOf 8 n) (bytes-bytesOf 8 n)
+
+-- a run's shortest form stands at its end
+suffix-by : (b c : ℕ) (bs : List ℕ) (t : Bool) → drop (length (c ∷ bs) - length (shortest (c ∷ bs))) (c ∷ bs) ≡ shortest (c ∷ bs)
+    → drop (length (b ∷ c ∷ bs) - length (cond t (shortest (c ∷ bs)) (b ∷ c ∷ bs))) (b ∷ c ∷ bs) ≡ cond t (shortest (c ∷ bs)) (b ∷ c ∷ bs)
+suffix-by b c bs true h =
+    let e : length (b ∷ c ∷ bs) - length (shortest (c ∷ bs)) ≡ suc (length (c ∷ bs) - length (shortest (c ∷ bs))) = omega (arith, length-shortest c bs .1) in
+    ap (λ (i : ℕ). drop i (b ∷ c ∷ bs)) e ∙ h
+suffix-by b c bs false h = ap (λ (i : ℕ). drop i (b ∷ c ∷ bs)) (sub-self (length (b ∷ c ∷ bs)))
+
+suffix : (bs : List ℕ) → drop (length bs - length (shortest bs)) bs ≡ shortest bs
+unfolding shortest
+suffix [] = refl
+suffix (b ∷ []) = refl
+suffix (b ∷ c ∷ bs) = suffix-by b c bs (eqb b 0) (suffix (c ∷ bs))
+
+pub length-numberBytes : (n : ℕ) → (1 ≤ length (numberBytes n)) × (length (numberBytes n) ≤ 8)
+unfolding numberBytes bytesOf
+length-numberBytes n = length-shortest (n / 2 ^ (8 * 7) % 256) (bytesOf 7 n)
+
+-- a number's bytes, cut from eight of them
+pub cut-bytes : (n k : ℕ) {eight : List ℕ} → eight ≡ spliced (replicate 8 0) 0 (bytesOf 8 n) → k ≡ length (numberBytes n)
+    → take (8 - (8 - k)) (drop (8 - k) eight) ≡ numberBytes n
+unfolding numberBytes bytesOf
+cut-bytes n k p q =
+    let whole = p ∙ spliced-front (replicate 8 0) (bytesOf 8 n) ∙ fronted-whole (bytesOf 8 n) (replicate 8 0) refl in
+    let few : k ≤ 8 = omega (arith, length-numberBytes n .1) in
+    let same : length (numberBytes n) ≡ 8 - (8 - k) = omega arith in
+    ap (λ (l : List ℕ). take (8 - (8 - k)) (drop (8 - k) l)) whole
+    ∙ ap (λ (j : ℕ). take (8 - (8 - k)) (drop (8 - j) (bytesOf 8 n))) q
+    ∙ ap (take (8 - (8 - k))) (suffix (bytesOf 8 n))
+    ∙ take-all (8 - (8 - k)) (numberBytes n) (omega arith)
+
+-- two tests in a row
+pub both : (a b : Bool) → (a && b) ≡ true → (a ≡ true) × (b ≡ true)
+both true b h = (refl, h)
+both false b h = absurd (let z : _≡_ {A = ℕ} 0 1 = cc in omega arith)
+
+pub at-once : {a b : Bool} → a ≡ true → b ≡ true → (a && b) ≡ true
+at-once p q = simp (p, q)
+
+bytes-take : (i : ℕ) (bs : List ℕ) → Bytes bs → Bytes (take i bs)
+bytes-take zero bs h k = lit< tt
+bytes-take (suc i) [] h k = h k
+bytes-take (suc i) (b ∷ bs) h zero = h 0
+bytes-take (suc i) (b ∷ bs) h (suc k) = bytes-take i bs (bytes-rest b bs h) k
+
+-- what `isNumeral` says
+pub numeral-parts : (k : ℕ) (bs : List ℕ) → isNumeral k bs ≡ true → (1 ≤ length bs) × (length bs ≤ k) × (plain bs ≡ true)
+unfolding isNumeral
+numeral-parts k bs t =
+    let low = both (leb 1 (length bs)) (leb (length bs) k && plain bs) t in
+    let high = both (leb (length bs) k) (plain bs) (low .1) in
+    (leb-true 1 (length bs) (low .0), leb-true (length bs) k (high .0), high .1)
+
+pub numeral-whole : (k : ℕ) (bs : List ℕ) → 1 ≤ length bs → length bs ≤ k → plain bs ≡ true → isNumeral k bs ≡ true
+unfolding isNumeral
+numeral-whole k bs low high p = at-once (le-leb 1 (length bs) low) (at-once (le-leb (length bs) k high) p)
+
+-- the bytes of a number that fits k + 1 of them
+pub numeral : (j k n : ℕ) → j + suc k ≡ 8 → n < 2 ^ (8 * suc k) → isNumeral (suc k) (numberBytes n) ≡ true
+unfolding bytesOf
+numeral j k n e h =
+    let l = length-shortest (n / 2 ^ (8 * k) % 256) (bytesOf k n) in
+    let all : length (bytesOf k n) ≡ k = length-bytesOf k n in
+    rw (fitting j k n e h) (numeral-whole (suc k) (shortest (bytesOf (suc k) n)) (l .0) (omega arith) (plain-shortest (bytesOf (suc k) n)))
+
+numeral-number-by : (j b : ℕ) (bs : List ℕ) → j + suc (length bs) ≡ 8 → Bytes (b ∷ bs) → plain (b ∷ bs) ≡ true
+    → numberBytes (number (b ∷ bs)) ≡ b ∷ bs
+numeral-number-by j b bs e h p =
+    fitting j (length bs) (number (b ∷ bs)) e (number-below (b ∷ bs) h)
+    ∙ ap shortest (bytesOf-number (b ∷ bs) h)
+    ∙ shortest-plain (b ∷ bs) p
+
+-- a run that is the bytes of a number is those of its number
+pub numeral-number : (k : ℕ) (bs : List ℕ) → k ≤ 8 → Bytes bs → isNumeral k bs ≡ true → numberBytes (number bs) ≡ bs
+numeral-number k [] w h t = absurd (let p = numeral-parts k [] t in omega (arith, p .0))
+numeral-number k (b ∷ bs) w h t =
+    let p = numeral-parts k (b ∷ bs) t in
+    let fits : length (b ∷ bs) ≤ k = p .1 in
+    numeral-number-by (8 - suc (length bs)) b bs (omega arith) h (p .2)
+
+-- numbers of 1 to 4 bytes
+pub number-is : (n : ℕ) → n < 2 ^ 32 → isNumber (numberBytes n) ≡ true
+unfolding isNumber
+number-is n h = numeral 4 3 n refl h
+
+pub numberBytes-number : (bs : List ℕ) → Bytes bs → isNumber bs ≡ true → numberBytes (number bs) ≡ bs
+unfolding isNumber
+numberBytes-number bs h t = numeral-number 4 bs (omega arith) h t
+
+pub number-fits : (k : ℕ) (bs : List ℕ) → Bytes bs → isNumeral k bs ≡ true → number bs < 2 ^ (8 * k)
+number-fits k bs h t =
+    let p = numeral-parts k bs t in
+    let more : 8 * length bs ≤ 8 * k = omega (arith, p .1) in
+    lt-of-lt-of-le (number-below bs h) (pow-mono more)
+
+-- no two numbers have the same bytes, and no two runs the same number
+pub numberBytes-injective : (m n : ℕ) → m < 2 ^ 64 → n < 2 ^ 64 → numberBytes m ≡ numberBytes n → m ≡ n
+numberBytes-injective m n hm hn e = sym (number-numberBytes m hm) ∙ ap number e ∙ number-numberBytes n hn
+
+pub number-injective : (bs cs : List ℕ) → Bytes bs → Bytes cs → isNumber bs ≡ true → isNumber cs ≡ true → number bs ≡ number cs → bs ≡ cs
+number-injective bs cs hb hc tb tc e = sym (numberBytes-number bs hb tb) ∙ ap numberBytes e ∙ numberBytes-number cs hc tc
+
+-- masks
+pub mask-is : (m : ℕ) → m < 2 ^ 64 → isMask (maskBytes m) ≡ true
+unfolding maskBytes isMask
+mask-is m h = at-once (eq-eqb (length (numberBytes m)) (length (numberBytes m)) refl) (numeral 0 7 m refl h)
+
+pub maskOf-maskBytes : (m : ℕ) → m < 2 ^ 64 → maskOf (maskBytes m) ≡ m
+unfolding maskBytes maskOf
+maskOf-maskBytes m h = number-numberBytes m h
+
+-- what `isMask` says
+pub mask-parts : (n : ℕ) (bs : List ℕ) → isMask (n ∷ bs) ≡ true → (n ≡ length bs) × (isNumeral 8 bs ≡ true)
+unfolding isMask
+mask-parts n bs t = let p = both (eqb n (length bs)) (isNumeral 8 bs) t in (eqb-true n (length bs) (p .0), p .1)
+
+pub maskBytes-maskOf : (bs : List ℕ) → Bytes bs → isMask bs ≡ true → maskBytes (maskOf bs) ≡ bs
+unfolding maskOf maskBytes isMask
+maskBytes-maskOf [] h t = absurd (let z : _≡_ {A = ℕ} 0 1 = cc in omega arith)
+maskBytes-maskOf (n ∷ bs) h t =
+    let p = mask-parts n bs t in
+    let e : numberBytes (number bs) ≡ bs = numeral-number 8 bs (omega arith) (bytes-rest n bs h) (p .1) in
+    ap₂ _∷_ (ap length e ∙ sym (p .0)) e
+
+pub mask-fits : (bs : List ℕ) → Bytes bs → isMask bs ≡ true → maskOf bs < 2 ^ 64
+unfolding maskOf
+mask-fits [] h t = pow-pos 64
+mask-fits (n ∷ bs) h t = number-fits 8 bs (bytes-rest n bs h) (mask-parts n bs t .1)
+
+pub maskBytes-injective : (l m : ℕ) → l < 2 ^ 64 → m < 2 ^ 64 → maskBytes l ≡ maskBytes m → l ≡ m
+maskBytes-injective l m hl hm e = sym (maskOf-maskBytes l hl) ∙ ap maskOf e ∙ maskOf-maskBytes m hm
+
+pub maskOf-injective : (bs cs : List ℕ) → Bytes bs → Bytes cs → isMask bs ≡ true → isMask cs ≡ true → maskOf bs ≡ maskOf cs → bs ≡ cs
+maskOf-injective bs cs hb hc tb tc e = sym (maskBytes-maskOf bs hb tb) ∙ ap maskBytes e ∙ maskBytes-maskOf cs hc tc
+
+-- a number with one byte more
+pub number-more : (bs : List ℕ) (i : ℕ) → i < length bs → number (take (i + 1) bs) ≡ number (take i bs) * 256 + getD bs i 0
+unfolding number
+number-more bs i h =
+    ap (λ (j : ℕ). number (take j bs)) (add-one i)
+    ∙ ap number (take-suc bs i 0 h)
+    ∙ number-append (take i bs) (getD bs i 0 ∷ [])
+    ∙ omega arith
+
+-- the number of up to eight bytes, and of fewer
+pub number-room : (bs : List ℕ) (i : ℕ) → Bytes bs → length bs ≤ 8 → i ≤ length bs → number (take i bs) < 2 ^ 64
+number-room bs i h few e =
+    let more : 8 * length (take i bs) ≤ 64 = omega (arith, length-take i bs) in
+    lt-of-lt-of-le (number-below (take i bs) (bytes-take i bs h)) (pow-mono more)
+
+pub length-number : (n : ℕ) → n < 2 ^ 32 → length (numberBytes n) ≤ 4
+length-number n h = numeral-parts 4 (numberBytes n) (numeral 4 3 n refl h) .1
+
+-- bytes put at the front of a run, and after its first byte
+pub front : (k : ℕ) (ys xs : List ℕ) {l : List ℕ} → k ≡ length ys → l ≡ spliced xs 0 ys → take k l ≡ ys
+unfolding spliced
+front k ys xs e p = ap (take k) p ∙ take-at ys (drop (length ys) xs) k (sym e)
+
+pub mask-front : (k m x : ℕ) (xs : List ℕ) {l : List ℕ} → k ≡ length (numberBytes m) → l ≡ spliced (x ∷ xs) 1 (numberBytes m)
+    → take (k + 1) (set l 0 k) ≡ maskBytes m
+unfolding spliced maskBytes
+mask-front k m x xs e p =
+    let ys = numberBytes m in
+    ap (λ (l : List ℕ). take (k + 1) (set l 0 k)) p
+    ∙ ap (λ (j : ℕ). take j (k ∷ (ys ++ drop (length ys) xs))) (add-one k)
+    ∙ ap₂ _∷_ e (take-at ys (drop (length ys) xs) k (sym e))

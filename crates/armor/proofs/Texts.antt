@@ -1,0 +1,212 @@
+-- What measuring or decoding a text says of the rules that it keeps.
+-- Assumes nothing.
+use mathlib.Core.Path.{_≡_, refl, sym, ap, _∙_}
+use mathlib.Core.Bool.{Bool, true, false, _&&_, and-false}
+use mathlib.Core.List.{List, [], _∷_}
+use Prim.Native.Nat.{ℕ, _-_, _<_, _≤_}
+use native.Mathlib.Omega.{arith}
+use lib.Dec.{eqb, leb}
+use lib.ListN.{length, getD, take, drop}
+use lib.Seq.{take-at}
+use borrow.Author.Tests.{leb-true, leb-false, le-leb, lt-leb, eq-eqb, ne-eqb}
+use Rattle.cells.specs.Runs.{fronted}
+use Rattle.cells.specs.Numbers
+use Rattle.cells.proofs.Runs.{length-fronted}
+use Rattle.base64.specs.declared.Measured.{Measured}
+use Rattle.base64.specs.declared.Decoded.{Decoded}
+use Rattle.base64.specs.Decoding.{Decoding, nothing, bytes, decoded}
+use Rattle.base64.specs.Answers.{sizeOf, measured, Outcome, outcome, pickOutcome, into, decodedInto}
+use Rattle.armor.specs.Numerals.{plain, isNumeral, isNumber, isMask, maskOf}
+use Rattle.armor.specs.Keys.{Rule, number, mask, sized, free, obeys}
+use Rattle.armor.specs.Scan.{decodedObeys, textObeys}
+use Rattle.armor.proofs.Numerals.{both, numeral-parts, mask-parts}
+
+-- by its size
+measured-by : (rule : Rule) (d : Decoding) → sizeOf d ≡ Measured.Bad → decodedObeys rule d ≡ false
+measured-by rule nothing e = refl
+measured-by rule (bytes bs) e = absurd (let z : _≡_ {A = ℕ} 0 1 = cc in omega arith)
+
+pub measured-bad : (rule : Rule) (text : List ℕ) → measured text ≡ Measured.Bad → textObeys rule text ≡ false
+unfolding measured textObeys
+measured-bad rule text e = measured-by rule (decoded text) e
+
+sized-by : (d : Decoding) (n low high : ℕ) → sizeOf d ≡ Measured.Bytes n → decodedObeys (sized low high) d ≡ (leb 1 n && (leb low n && leb n high))
+unfolding obeys
+sized-by nothing n low high e = absurd (let z : _≡_ {A = ℕ} 0 1 = cc in omega arith)
+sized-by (bytes bs) n low high e =
+    let size : length bs ≡ n = cc in
+    ap (λ (k : ℕ). leb 1 k && (leb low k && leb k high)) size
+
+pub measured-sized : (text : List ℕ) (n low high : ℕ) → measured text ≡ Measured.Bytes n
+    → textObeys (sized low high) text ≡ (leb 1 n && (leb low n && leb n high))
+unfolding measured textObeys
+measured-sized text n low high e = sized-by (decoded text) n low high e
+
+free-by : (d : Decoding) (n : ℕ) → sizeOf d ≡ Measured.Bytes n → decodedObeys free d ≡ (leb 1 n && true)
+unfolding obeys
+free-by nothing n e = absurd (let z : _≡_ {A = ℕ} 0 1 = cc in omega arith)
+free-by (bytes bs) n e =
+    let size : length bs ≡ n = cc in
+    ap (λ (k : ℕ). leb 1 k && true) size
+
+pub measured-free : (text : List ℕ) (n : ℕ) → measured text ≡ Measured.Bytes n → textObeys free text ≡ (leb 1 n && true)
+unfolding measured textObeys
+measured-free text n e = free-by (decoded text) n e
+
+-- a text that was decoded into a buffer
+pub record Filled (text out left : List ℕ) (n : ℕ) : Type 0 where
+  pub run : List ℕ
+  pub is : decoded text ≡ bytes run
+  pub size : n ≡ length run
+  pub fits : length run ≤ length out
+  pub front : left ≡ fronted run out
+
+filled-by : (text out left : List ℕ) (n : ℕ) (bs : List ℕ) (t : Bool) → decoded text ≡ bytes bs → leb (length bs) (length out) ≡ t
+    → outcome (Decoded.Bytes n) left ≡ pickOutcome t (outcome (Decoded.Bytes (length bs)) (fronted bs out)) (outcome Decoded.TooLong out)
+    → Filled text out left n
+filled-by text out left n bs true d t e =
+    let answer : Decoded.Bytes n ≡ Decoded.Bytes (length bs) = ap (λ (o : Outcome). o .answer) e in
+    record {
+      run = bs;
+      is = d;
+      size = cc;
+      fits = leb-true (length bs) (length out) t;
+      front = ap (λ (o : Outcome). o .out) e;
+    }
+filled-by text out left n bs false d t e =
+    let answer : Decoded.Bytes n ≡ Decoded.TooLong = ap (λ (o : Outcome). o .answer) e in
+    absurd (let z : _≡_ {A = ℕ} 0 1 = cc in omega arith)
+
+filled-from : (text out left : List ℕ) (n : ℕ) (d : Decoding) → decoded text ≡ d → outcome (Decoded.Bytes n) left ≡ into d out → Filled text out left n
+filled-from text out left n nothing p e =
+    let answer : Decoded.Bytes n ≡ Decoded.Bad = ap (λ (o : Outcome). o .answer) e in
+    absurd (let z : _≡_ {A = ℕ} 0 1 = cc in omega arith)
+filled-from text out left n (bytes bs) p e = filled-by text out left n bs (leb (length bs) (length out)) p refl e
+
+pub filled : (text out left : List ℕ) (n : ℕ) (r : Decoded) → r ≡ Decoded.Bytes n → outcome r left ≡ decodedInto text out → Filled text out left n
+unfolding decodedInto
+filled text out left n r p e =
+    filled-from text out left n (decoded text) refl (ap (λ (d : Decoded). outcome d left) (sym p) ∙ e)
+
+-- a text that was not decoded does not keep a rule by which its bytes would fit the buffer
+unfilled-by : (rule : Rule) (out left bs : List ℕ) (r : Decoded) (t : Bool) → ((b : List ℕ) → obeys rule b ≡ true → length b ≤ length out)
+    → ((n : ℕ) → r ≡ Decoded.Bytes n → ⊥) → leb (length bs) (length out) ≡ t
+    → outcome r left ≡ pickOutcome t (outcome (Decoded.Bytes (length bs)) (fronted bs out)) (outcome Decoded.TooLong out)
+    → (u : Bool) → obeys rule bs ≡ u → u ≡ false
+unfilled-by rule out left bs r true room not t e u o = absurd (not (length bs) (ap (λ (o : Outcome). o .answer) e))
+unfilled-by rule out left bs r false room not t e true o = absurd (omega (arith, room bs o, leb-false (length bs) (length out) t))
+unfilled-by rule out left bs r false room not t e false o = refl
+
+unfilled-from : (rule : Rule) (out left : List ℕ) (r : Decoded) (d : Decoding) → ((b : List ℕ) → obeys rule b ≡ true → length b ≤ length out)
+    → ((n : ℕ) → r ≡ Decoded.Bytes n → ⊥) → outcome r left ≡ into d out → decodedObeys rule d ≡ false
+unfilled-from rule out left r nothing room not e = refl
+unfilled-from rule out left r (bytes bs) room not e =
+    ap (λ (t : Bool). leb 1 (length bs) && t) (unfilled-by rule out left bs r (leb (length bs) (length out)) room not refl e (obeys rule bs) refl)
+    ∙ and-false (leb 1 (length bs))
+
+pub unfilled : (rule : Rule) (text out left : List ℕ) (r : Decoded) → ((b : List ℕ) → obeys rule b ≡ true → length b ≤ length out)
+    → ((n : ℕ) → r ≡ Decoded.Bytes n → ⊥) → outcome r left ≡ decodedInto text out → textObeys rule text ≡ false
+unfolding decodedInto textObeys
+unfilled rule text out left r room not e = unfilled-from rule out left r (decoded text) room not e
+
+-- how many bytes a rule allows
+pub number-room : (b : List ℕ) → obeys number b ≡ true → length b ≤ 4
+unfolding obeys isNumber
+number-room b e = numeral-parts 4 b e .1
+
+pub mask-room : (b : List ℕ) → obeys mask b ≡ true → length b ≤ 9
+unfolding obeys isMask
+mask-room [] e = omega arith
+mask-room (n ∷ bs) e = omega (arith, numeral-parts 8 bs (mask-parts n bs e .1) .1)
+
+pub sized-room : (low high : ℕ) (b : List ℕ) → obeys (sized low high) b ≡ true → (low ≤ length b) × (length b ≤ high)
+unfolding obeys
+sized-room low high b e =
+    let p = both (leb low (length b)) (leb (length b) high) e in
+    (leb-true low (length b) (p .0), leb-true (length b) high (p .1))
+
+-- bytes at the front of a buffer
+pub front-taken : (run out : List ℕ) (n : ℕ) {left : List ℕ} → left ≡ fronted run out → n ≡ length run → take n left ≡ run
+unfolding fronted
+front-taken run out n e s = ap (take n) e ∙ take-at run (drop (length run) out) n (sym s)
+
+pub obeys-run : (rule : Rule) (text run : List ℕ) → decoded text ≡ bytes run → textObeys rule text ≡ (leb 1 (length run) && obeys rule run)
+unfolding textObeys
+obeys-run rule text run e = ap (decodedObeys rule) e
+
+pub number-none : (run : List ℕ) (n : ℕ) → n ≡ length run → n ≡ 0 → (leb 1 (length run) && obeys number run) ≡ false
+number-none run n s z = simp (lt-leb 1 (length run) (omega arith))
+
+pub number-plain : (run : List ℕ) (n : ℕ) → n ≡ length run → (n ≡ 0 → ⊥) → length run ≤ 4 → (leb 1 (length run) && obeys number run) ≡ plain run
+unfolding obeys isNumber isNumeral
+number-plain run n s more few =
+    let one : 1 ≤ length run = omega arith in
+    simp (le-leb 1 (length run) one, le-leb (length run) 4 few)
+
+-- masks: a length byte first
+pub mask-few : (run : List ℕ) (n : ℕ) → n ≡ length run → n < 2 → (leb 1 (length run) && obeys mask run) ≡ false
+unfolding obeys isMask isNumeral
+mask-few [] n s few = refl
+mask-few (b ∷ []) n s few = and-false (eqb b 0)
+mask-few (b ∷ c ∷ bs) n s few = absurd (omega arith)
+
+pub mask-wrong : (run out : List ℕ) (n : ℕ) {left : List ℕ} → left ≡ fronted run out → n ≡ length run → 2 ≤ n → (getD left 0 0 ≡ n - 1 → ⊥)
+    → (leb 1 (length run) && obeys mask run) ≡ false
+unfolding obeys isMask fronted
+mask-wrong [] out n e s more wrong = refl
+mask-wrong (b ∷ bs) out n {left} e s more wrong =
+    let first : getD left 0 0 ≡ b = ap (λ (l : List ℕ). getD l 0 0) e in
+    simp (ne-eqb b (length bs) (λ p. wrong (omega arith)), and-false)
+
+pub mask-plain : (run out : List ℕ) (n : ℕ) {left : List ℕ} → left ≡ fronted run out → n ≡ length run → 2 ≤ n → length run ≤ 9 → getD left 0 0 ≡ n - 1
+    → (leb 1 (length run) && obeys mask run) ≡ plain (take (n - 1) (drop 1 left))
+unfolding obeys isMask isNumeral fronted
+mask-plain [] out n e s more few right = absurd (omega arith)
+mask-plain (b ∷ bs) out n {left} e s more few right =
+    let first : getD left 0 0 ≡ b = ap (λ (l : List ℕ). getD l 0 0) e in
+    let one : 1 ≤ length bs = omega arith in
+    let eight : length bs ≤ 8 = omega arith in
+    let head : b ≡ length bs = omega arith in
+    simp (le-leb 1 (length (b ∷ bs)) (omega arith), eq-eqb b (length bs) head, le-leb 1 (length bs) one, le-leb (length bs) 8 eight)
+    (sym (ap plain (ap (λ (l : List ℕ). take (n - 1) (drop 1 l)) e ∙ take-at bs (drop (length (b ∷ bs)) out) (n - 1) (omega arith))))
+
+-- a text whose bytes fit is decoded
+pub decoded-fits : (text out left bs : List ℕ) (r : Decoded) → outcome r left ≡ decodedInto text out → decoded text ≡ bytes bs → length bs ≤ length out
+    → (r ≡ Decoded.Bytes (length bs)) × (left ≡ fronted bs out)
+unfolding decodedInto
+decoded-fits text out left bs r e d few =
+    let whole : outcome r left ≡ outcome (Decoded.Bytes (length bs)) (fronted bs out) =
+    e
+    ∙ ap (λ (x : Decoding). into x out) d
+    ∙ ap (λ (t : Bool). pickOutcome t (outcome (Decoded.Bytes (length bs)) (fronted bs out)) (outcome Decoded.TooLong out)) (le-leb (length bs) (length out) few)
+    in
+    (ap (λ (o : Outcome). o .answer) whole, ap (λ (o : Outcome). o .out) whole)
+
+pub bytes-same : {r : Decoded} {m n : ℕ} → r ≡ Decoded.Bytes m → r ≡ Decoded.Bytes n → n ≡ m
+bytes-same p q = cc
+
+pub filled-within : {text out left : List ℕ} {n : ℕ} → Filled text out left n → n ≤ length left
+filled-within {out = out} f = omega (arith, f .size, f .fits, ap length (f .front), length-fronted (f .run) out (f .fits))
+
+-- sizes that were measured
+pub sized-short : (n low high : ℕ) → n < low → (leb 1 n && (leb low n && leb n high)) ≡ false
+sized-short n low high h = simp (lt-leb low n h, and-false)
+
+pub sized-long : (n low high : ℕ) → 1 ≤ low → low ≤ n → (leb 1 n && (leb low n && leb n high)) ≡ leb n high
+sized-long n low high one h =
+    let more : 1 ≤ n = omega arith in
+    simp (le-leb 1 n more, le-leb low n h)
+
+-- a mask's bytes after its length byte
+pub mask-some : (bs : List ℕ) → isMask bs ≡ true → 2 ≤ length bs
+unfolding isMask
+mask-some [] e = absurd (let z : _≡_ {A = ℕ} 0 1 = cc in omega arith)
+mask-some (b ∷ bs) e = omega (arith, numeral-parts 8 bs (mask-parts b bs e .1) .0)
+
+pub mask-taken : (bs out : List ℕ) (n : ℕ) {left : List ℕ} → 1 ≤ length bs → left ≡ fronted bs out → n ≡ length bs
+    → Numbers.number (take (n - 1) (drop 1 left)) ≡ maskOf bs
+unfolding maskOf fronted
+mask-taken [] out n one e s = absurd (omega arith)
+mask-taken (b ∷ bs) out n one e s =
+    ap Numbers.number
+    (ap (λ (l : List ℕ). take (n - 1) (drop 1 l)) e ∙ take-at bs (drop (length (b ∷ bs)) out) (n - 1) (omega arith))

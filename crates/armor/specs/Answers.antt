@@ -1,0 +1,70 @@
+-- What reading a value comes to: document 01, The numbers a call returns.
+-- Assumes nothing.
+use mathlib.Core.Path.{_≡_}
+use mathlib.Core.Bool.{cond}
+use mathlib.Core.List.{List}
+use mathlib.Core.Option.{Option, none, some}
+use Prim.Native.Nat.{ℕ, _-_, _≤_}
+use lib.Dec.{eqb}
+use lib.ListN.{length, take}
+use Rattle.cells.specs.Runs.{part}
+use Rattle.cells.specs.Numbers.{number}
+use Rattle.base64.specs.Encoding.{encoded}
+use Rattle.armor.specs.declared.Answer.{Answer}
+use Rattle.armor.specs.declared.Request.{Request}
+use Rattle.armor.specs.declared.RequestRead.{RequestRead}
+use Rattle.armor.specs.declared.SetupRead.{SetupRead}
+use Rattle.armor.specs.Numerals.{maskOf}
+use Rattle.armor.specs.Keys.{nameT, nameLt, nameN, nameH, nameAh, nameR, nameS, nameC, nameIv, nameTag, nameEah}
+use Rattle.armor.specs.Value.{Field, grammar, carried}
+use Rattle.armor.specs.Fields.{times, the, requestFields, setupFields}
+
+-- document 01's numbers
+abbrev pub answerNumber : Answer → ℕ
+answerNumber Answer.Good = 0
+answerNumber Answer.Grammar = 4
+answerNumber Answer.Fields = 5
+
+abbrev pub setupNumber : SetupRead → ℕ
+setupNumber (SetupRead.Mask m) = 0
+setupNumber SetupRead.Grammar = 4
+setupNumber SetupRead.Fields = 5
+
+abbrev pub requestFrom : Option (List Field) → Answer
+requestFrom none = Answer.Grammar
+requestFrom (some fs) = cond (requestFields fs) Answer.Good Answer.Fields
+
+-- a request: 4 where the value breaks its grammar, 5 where its set of fields is wrong
+unfoldable pub requestAnswer : List ℕ → Answer
+requestAnswer v = requestFrom (grammar v)
+
+abbrev pub setupFrom : Option (List Field) → SetupRead
+setupFrom none = SetupRead.Grammar
+setupFrom (some fs) = cond (setupFields fs) (SetupRead.Mask (maskOf (the nameR fs))) SetupRead.Fields
+
+-- a setup: the client's mask, or the same two numbers
+unfoldable pub setupAnswer : List ℕ → SetupRead
+setupAnswer v = setupFrom (grammar v)
+
+-- a request holds what its fields do
+pub record Holds (v : List ℕ) (fs : List Field) (q : Request) : Type 0 where
+  pub token : take (q .«s_len») (q .s) ≡ the nameS fs
+  pub token-size : q .«s_len» ≡ length (the nameS fs)
+  pub token-fits : q .«s_len» ≤ 118
+  pub signature : q .c ≡ the nameC fs
+  pub vector : q .iv ≡ the nameIv fs
+  pub tag : q .tag ≡ the nameTag fs
+  pub time : q .t ≡ number (the nameT fs)
+  pub last-time : q .lt ≡ number (the nameLt fs)
+  pub with-nonce : q .«with_n» ≡ eqb (times nameN fs) 1
+  pub nonce : q .n ≡ number (the nameN fs)
+  pub hash : q .h ≡ maskOf (the nameH fs)
+  pub coverage : q .ah ≡ maskOf (the nameAh fs)
+  pub with-extra : q .«with_eah» ≡ eqb (times nameEah fs) 1
+  pub extra-in-order : q .«eah_start» ≤ q .«eah_end»
+  pub extra-within : q .«eah_end» ≤ length v
+  pub extra : part v (q .«eah_start») (q .«eah_end» - q .«eah_start») ≡ encoded (the nameEah fs)
+
+pub record ReadsRequest (v : List ℕ) (r : RequestRead) : Type 0 where
+  pub is : r .answer ≡ requestAnswer v
+  pub holds : r .answer ≡ Answer.Good → Holds v (carried v) (r .request)
