@@ -1,29 +1,28 @@
 -- What a good value carries: bytes that are those of its numbers and masks, of the lengths that document 01 asks.
 -- Assumes nothing.
-use mathlib.Core.Path.{_≡_, refl, sym, ap, subst, _∙_}
+use mathlib.Core.Path.{_≡_, refl, sym, ap, _∙_}
 use mathlib.Core.Bool.{Bool, true, false, cond}
 use mathlib.Core.List.{List, [], _∷_}
 use mathlib.Core.Option.{Option, none, some}
-use Prim.Native.Nat.{ℕ, _<_, _≤_}
+use Prim.Native.Nat.{ℕ, _≤_}
 use native.Mathlib.Omega.{arith}
 use lib.Dec.{lit<}
 use lib.ListN.{length, getD}
-use Rattle.cells.specs.Runs.{Bytes}
+use Rattle.cells.specs.Runs.{Bytes, same}
 use Rattle.cells.specs.Numbers.{number}
 use Rattle.armor.specs.declared.Answer.{Answer}
-use Rattle.armor.specs.Numerals.{isNumber, numberBytes, isMask, maskBytes, maskOf}
-use Rattle.armor.specs.Keys.{Rule, mask, sized, obeys, keys, same, placeOf, keyNumber, ruleAt, nameT, nameLt, nameN, nameH, nameAh, nameR, nameS, nameC, nameIv, nameTag, nameEah}
+use Rattle.armor.specs.Numerals.{numberBytes, maskBytes, maskOf}
+use Rattle.armor.specs.Keys.{mask, obeys, keys, placeOf, keyNumber, ruleAt, nameT, nameLt, nameN, nameH, nameAh, nameS, nameC, nameIv, nameTag, nameEah}
 use Rattle.armor.specs.Keys
 use Rattle.armor.specs.Value.{Field, AllFormed, fieldsOf, allGood, goodOnly, grammar, carried}
-use Rattle.armor.specs.Fields.{contents, times, the, nonceBit, requestFields, setupFields}
+use Rattle.armor.specs.Fields.{contents, times, the, nonceBit, requestFields}
 use Rattle.armor.specs.Answers.{requestFrom, requestAnswer}
-use Rattle.armor.proofs.Numerals.{both, numberBytes-number, maskBytes-maskOf}
-use Rattle.armor.proofs.Keys.{nameAt}
+use Rattle.armor.proofs.Numerals.{numberBytes-number, maskBytes-maskOf}
 use Rattle.armor.proofs.Value.{fields-exactly}
 use Rattle.armor.proofs.Fields.{grammar-good, obeyed-once}
 use Rattle.armor.proofs.Texts.{sized-room}
 use Rattle.armor.proofs.Scan.{carried-is}
-use Rattle.armor.proofs.Requests.{Required, once-times, request-parts}
+use Rattle.armor.proofs.Requests.{Required, request-parts}
 
 -- what a key holds are bytes
 first-bytes : (b : List ℕ) (cs : List (List ℕ)) (t : Bool) → Bytes b → Bytes (getD cs 0 []) → Bytes (getD (cond t (b ∷ cs) cs) 0 [])

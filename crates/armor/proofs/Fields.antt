@@ -11,7 +11,8 @@ use lib.ListN.{length, getD}
 use borrow.Author.Tests.{eqb-true, eqb-false, eq-eqb, ne-eqb, leb-true, leb-false, le-leb, lt-leb}
 use Rattle.base64.specs.Decoding.{bytes}
 use Rattle.armor.specs.declared.Seen.{Seen}
-use Rattle.armor.specs.Keys.{obeys, keys, same, placeOf, keyNumber, ruleAt, ruleOf, nameR, nameEah}
+use Rattle.armor.specs.Keys.{obeys, keys, placeOf, keyNumber, ruleAt, ruleOf, nameR, nameEah}
+use Rattle.cells.specs.Runs.{same}
 use Rattle.armor.specs.Value.{Field, fieldGood, allGood, goodOnly, grammar, fieldsOf}
 use Rattle.armor.specs.Fields.{contents, times, the, once, among, only, requestNames, required, setupFields}
 use Rattle.armor.specs.Scan.{contentsAt, Notes, held, contentOf, Placed, fourOnce, countsGood}
@@ -19,19 +20,12 @@ use Rattle.armor.proofs.Numerals.{both}
 use Rattle.armor.proofs.Keys.{nameAt, keyNumber-within, by-number}
 
 -- counts that stop at two
-pub count-one : (c n : ℕ) → c ≡ min 2 n → eqb c 1 ≡ eqb n 1
-count-one c n e = by (eqb n 1) refl
+pub count-bit : (c n b : ℕ) → c ≡ min 2 n → b < 2 → eqb c b ≡ eqb n b
+count-bit c n b e h = by (eqb n b) refl
   where
-    by : (t : Bool) → eqb n 1 ≡ t → eqb c 1 ≡ t
-    by true p = let q : n ≡ 1 = eqb-true n 1 p in eq-eqb c 1 (omega arith)
-    by false p = let q : n ≡ 1 → ⊥ = eqb-false n 1 p in ne-eqb c 1 (λ r. q (omega arith))
-
-pub count-none : (c n : ℕ) → c ≡ min 2 n → eqb c 0 ≡ eqb n 0
-count-none c n e = by (eqb n 0) refl
-  where
-    by : (t : Bool) → eqb n 0 ≡ t → eqb c 0 ≡ t
-    by true p = let q : n ≡ 0 = eqb-true n 0 p in eq-eqb c 0 (omega arith)
-    by false p = let q : n ≡ 0 → ⊥ = eqb-false n 0 p in ne-eqb c 0 (λ r. q (omega arith))
+    by : (t : Bool) → eqb n b ≡ t → eqb c b ≡ t
+    by true p = let q : n ≡ b = eqb-true n b p in eq-eqb c b (omega arith)
+    by false p = let q : n ≡ b → ⊥ = eqb-false n b p in ne-eqb c b (λ r. q (omega arith))
 
 pub count-few : (c n : ℕ) → c ≡ min 2 n → leb c 1 ≡ leb n 1
 count-few c n e = by (leb n 1) refl
@@ -39,13 +33,6 @@ count-few c n e = by (leb n 1) refl
     by : (t : Bool) → leb n 1 ≡ t → leb c 1 ≡ t
     by true p = let q : n ≤ 1 = leb-true n 1 p in le-leb c 1 (omega arith)
     by false p = let q : 1 < n = leb-false n 1 p in lt-leb c 1 (omega arith)
-
-pub count-bit : (c n b : ℕ) → c ≡ min 2 n → b < 2 → eqb c b ≡ eqb n b
-count-bit c n b e h = by (eqb n b) refl
-  where
-    by : (t : Bool) → eqb n b ≡ t → eqb c b ≡ t
-    by true p = let q : n ≡ b = eqb-true n b p in eq-eqb c b (omega arith)
-    by false p = let q : n ≡ b → ⊥ = eqb-false n b p in ne-eqb c b (λ r. q (omega arith))
 
 -- contents by a key's name and by its number
 pub contents-number : (k : ℕ) (fs : List Field) → k < 11 → keyNumber (nameAt k) ≡ k → contents (nameAt k) fs ≡ contentsAt k fs
@@ -112,7 +99,7 @@ module _ (v : List ℕ) (seen : Seen) (fs : List Field) (h : Notes v seen fs) (k
 
   pub once-counted : eqb (getD (seen .count) k 0) 1 ≡ once (nameAt k) fs
   unfolding once
-  once-counted = count-one (getD (seen .count) k 0) (times (nameAt k) fs) counted
+  once-counted = count-bit (getD (seen .count) k 0) (times (nameAt k) fs) 1 counted (lit< tt)
 
   module _ (one : times (nameAt k) fs ≡ 1) where
     pub content-is : contentOf v seen k ≡ the (nameAt k) fs
@@ -192,8 +179,8 @@ module _ (v : List ℕ) (seen : Seen) (fs : List Field) (h : Notes v seen fs) wh
       let count = seen .count in
       let one : (k : ℕ) → k < 11 → keyNumber (nameAt k) ≡ k → eqb (getD count k 0) 1 ≡ once (nameAt k) fs = once-counted v seen fs h in
       let e = count-few (getD count 10 0) (times nameEah fs) (counted v seen fs h 10 (lit< tt) refl) in
-      let r = count-none (getD count 5 0) (length (contentsAt 5 fs)) (h .kept 5 (lit< tt) .counted) in
-      let o = count-none (getD count 11 0) (length (contentsAt 11 fs)) (h .kept 11 (lit< tt) .counted) in
+      let r = count-bit (getD count 5 0) (length (contentsAt 5 fs)) 0 (h .kept 5 (lit< tt) .counted) (lit< tt) in
+      let o = count-bit (getD count 11 0) (length (contentsAt 11 fs)) 0 (h .kept 11 (lit< tt) .counted) (lit< tt) in
       simp (
         one 6 (lit< tt) refl,
         one 7 (lit< tt) refl,
@@ -212,7 +199,7 @@ module _ (v : List ℕ) (seen : Seen) (fs : List Field) (h : Notes v seen fs) wh
   -- the counts of a setup
   pub setup-counts : (eqb (seen .total) 1 && eqb (getD (seen .count) 5 0) 1) ≡ setupFields fs
   unfolding setupFields keys same placeOf keyNumber
-  setup-counts = ap₂ _&&_ (count-one (seen .total) (length fs) (h .total)) (once-counted v seen fs h 5 (lit< tt) refl)
+  setup-counts = ap₂ _&&_ (count-bit (seen .total) (length fs) 1 (h .total) (lit< tt)) (once-counted v seen fs h 5 (lit< tt) refl)
 
   pub setup-one : getD (seen .count) 5 0 ≡ 1 → times nameR fs ≡ 1
   unfolding keys same placeOf keyNumber

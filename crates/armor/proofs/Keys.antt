@@ -9,25 +9,13 @@ use native.Mathlib.Omega.{arith}
 use lib.Dec.{eqb}
 use lib.ListN.{length, getD}
 use borrow.Author.Tests.{eqb-true, eq-eqb, ne-eqb}
-use Rattle.armor.specs.Keys.{number, mask, free, Key, key, keys, same, placeOf, keyNumber, ruleAt}
+use Rattle.armor.specs.Keys.{number, mask, free, Key, key, keys, placeOf, keyNumber, ruleAt}
+use Rattle.cells.specs.Runs.{same}
+use Rattle.cells.proofs.Equality.{same-self, same-equal}
 use Rattle.armor.proofs.Numerals.{both, at-once}
 
 abbrev pub nameAt : ℕ → List ℕ
 nameAt k = getD keys k (key [] free) .name
-
-same-self : (x : List ℕ) → same x x ≡ true
-unfolding same
-same-self [] = refl
-same-self (a ∷ x) = at-once (same-self x) (eq-eqb a a refl)
-
-pub same-equal : (x y : List ℕ) → same x y ≡ true → x ≡ y
-unfolding same
-same-equal [] [] e = refl
-same-equal [] (b ∷ y) e = absurd (let z : _≡_ {A = ℕ} 0 1 = cc in omega arith)
-same-equal (a ∷ x) [] e = absurd (let z : _≡_ {A = ℕ} 0 1 = cc in omega arith)
-same-equal (a ∷ x) (b ∷ y) e =
-    let p = both (same x y) (eqb a b) e in
-    ap₂ _∷_ (eqb-true a b (p .1)) (same-equal x y (p .0))
 
 within-by : (t : Bool) {m n : ℕ} → m ≤ n → cond t 0 (suc m) ≤ suc n
 within-by true h = omega arith

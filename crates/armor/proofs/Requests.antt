@@ -9,7 +9,7 @@ use native.Mathlib.Omega.{arith}
 use lib.Dec.{eqb, leb, lit<}
 use lib.ListN.{length, getD, replicate, length-replicate}
 use borrow.Author.Tests.{eqb-true, eqb-false, eq-eqb, ne-eqb, leb-true}
-use Rattle.cells.specs.Runs.{fronted}
+use Rattle.cells.specs.Runs.{fronted, same}
 use Rattle.cells.proofs.Runs.{fronted-whole}
 use Rattle.base64.specs.Encoding.{encoded}
 use Rattle.base64.specs.Decoding.{bytes, decoded}
@@ -19,7 +19,7 @@ use Rattle.armor.specs.declared.Extra.{Extra}
 use Rattle.armor.specs.declared.Answer.{Answer}
 use Rattle.armor.specs.declared.SetupRead.{SetupRead}
 use Rattle.armor.specs.Numerals.{maskOf}
-use Rattle.armor.specs.Keys.{Rule, number, mask, sized, obeys, keys, same, placeOf, keyNumber, ruleAt, nameT, nameLt, nameN, nameH, nameAh, nameR, nameS, nameC, nameIv, nameTag, nameEah}
+use Rattle.armor.specs.Keys.{Rule, number, mask, sized, obeys, keys, placeOf, keyNumber, ruleAt, nameT, nameLt, nameN, nameH, nameAh, nameR, nameS, nameC, nameIv, nameTag, nameEah}
 use Rattle.armor.specs.Value.{Field, allGood, grammar, carried}
 use Rattle.armor.specs.Fields.{contents, times, the, once, only, requestNames, required, nonceBit, requestFields, setupFields}
 use Rattle.armor.specs.Answers.{requestFrom, requestAnswer, setupFrom, setupAnswer}
@@ -27,7 +27,7 @@ use Rattle.armor.specs.Scan.{between, Notes, contentOf, Placed, Ready, c
 use Rattle.armor.proofs.Numerals.{both}
 use Rattle.armor.proofs.Keys.{nameAt}
 use Rattle.armor.proofs.Texts.{number-room, mask-room, sized-room}
-use Rattle.armor.proofs.Fields.{count-one, count-bit, counted, content-is, there, obeyed-once, counts-are}
+use Rattle.armor.proofs.Fields.{count-bit, counted, content-is, there, obeyed-once, counts-are}
 
 pub once-times : (name : List ℕ) (fs : List Field) → once name fs ≡ true → times name fs ≡ 1
 unfolding once
@@ -211,7 +211,7 @@ module _ (v : List ℕ) (seen : Seen) (fs : List Field) (h : Notes v seen fs) wh
 
   pub nonce-carried : eqb (getD (seen .count) 2 0) 1 ≡ eqb (times nameN fs) 1
   unfolding keys same placeOf keyNumber
-  nonce-carried = count-one (getD (seen .count) 2 0) (times nameN fs) (counted v seen fs h 2 (lit< tt) refl)
+  nonce-carried = count-bit (getD (seen .count) 2 0) (times nameN fs) 1 (counted v seen fs h 2 (lit< tt) refl) (lit< tt)
 
   -- where the text of eah is
   extra-by : (t : Bool) → eqb (getD (seen .count) 10 0) 1 ≡ t → times nameEah fs ≤ 1 → Extras v fs (cond t (record { carried = true; start = getD (seen .start) 10 0; end = getD (seen .end) 10 0 }) (record { carried = false; start = 0; end = 0 }))

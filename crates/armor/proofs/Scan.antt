@@ -16,7 +16,7 @@ use Rattle.base64.specs.Decoding.{Decoding, nothing, bytes, decoded}
 use Rattle.armor.specs.declared.Seen.{Seen}
 use Rattle.armor.specs.declared.Piece.{Piece}
 use Rattle.armor.specs.Pieces.{colon, semicolon, upTo, after, pieces}
-use Rattle.armor.specs.Keys.{Rule, obeys, keyNumber, ruleOf}
+use Rattle.armor.specs.Keys.{Rule, obeys, keyNumber, ruleAt, ruleOf}
 use Rattle.armor.specs.Value.{Field, fieldFrom, fieldOf, withField, fieldsIn, fieldsOf, fieldGood, allGood, goodOnly, grammar, carried}
 use Rattle.armor.specs.Scan.{decodedObeys, textObeys, pieceGood, pieceAnswer, contentsAt, between, Kept, Notes, held, noneSeen, notedIn}
 use Rattle.armor.proofs.Numerals.{both}
@@ -370,10 +370,28 @@ unfolding pieceAnswer
 unanswered p e = unanswered-by (keyNumber (upTo colon p)) (length (upTo colon p) + 1) (pieceGood p) e
 
 -- the text of a piece
-pub text-is : (p : List ℕ) (start : ℕ) → start ≡ length (upTo colon p) + 1 → take (length p - start) (drop start p) ≡ after colon p
+text-is : (p : List ℕ) (start : ℕ) → start ≡ length (upTo colon p) + 1 → take (length p - start) (drop start p) ≡ after colon p
 text-is p start e =
     let next : start ≡ suc (length (upTo colon p)) = e ∙ add-one (length (upTo colon p)) in
     take-all (length p - start) (drop start p) (omega (arith, length-drop start p)) ∙ ap (λ (i : ℕ). drop i p) next ∙ dropped-after colon p
+
+-- a piece as the code reads it: cut at its first colon, the key by its number
+pub record Cut (p : List ℕ) (at key : ℕ) (good : Bool) : Type 0 where
+  pub key-is : key ≡ keyNumber (upTo colon p)
+  pub start-is : at + 1 ≡ length (upTo colon p) + 1
+  pub good-is : good ≡ textObeys (ruleOf (upTo colon p)) (after colon p)
+
+pub cut : (p : List ℕ) (at key : ℕ) (good : Bool) → at ≡ length (upTo colon p) → key ≡ keyNumber (take at p)
+    → good ≡ textObeys (ruleAt key) (take (length p - (at + 1)) (drop (at + 1) p)) → Cut p at key good
+unfolding ruleOf
+cut p at key good e k g =
+    let key-is : key ≡ keyNumber (upTo colon p) = k ∙ ap keyNumber (ap (λ (i : ℕ). take i p) e ∙ taken-upTo colon p) in
+    let start-is : at + 1 ≡ length (upTo colon p) + 1 = ap (λ (i : ℕ). i + 1) e in
+    record {
+      key-is = key-is;
+      start-is = start-is;
+      good-is = g ∙ ap₂ (λ (i : ℕ) (t : List ℕ). textObeys (ruleAt i) t) key-is (text-is p (at + 1) start-is);
+    }
 
 -- a value without pieces
 pub nothing-read : (v : List ℕ) → length v ≡ 0 → grammar v ≡ none

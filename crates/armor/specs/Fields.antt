@@ -6,7 +6,8 @@ use Prim.Native.Nat.{ℕ, _%_}
 use lib.Dec.{eqb, leb}
 use lib.ListN.{length, getD}
 use Rattle.armor.specs.Numerals.{maskOf}
-use Rattle.armor.specs.Keys.{same, nameT, nameLt, nameN, nameH, nameAh, nameR, nameS, nameC, nameIv, nameTag, nameEah}
+use Rattle.armor.specs.Keys.{nameT, nameLt, nameN, nameH, nameAh, nameR, nameS, nameC, nameIv, nameTag, nameEah}
+use Rattle.cells.specs.Runs.{same}
 use Rattle.armor.specs.Value.{Field}
 
 -- what the fields with a key hold, in order

@@ -5,6 +5,7 @@ use mathlib.Core.List.{List, [], _∷_}
 use Prim.Native.Nat.{ℕ, suc}
 use lib.Dec.{eqb, leb}
 use lib.ListN.{length, getD}
+use Rattle.cells.specs.Runs.{same}
 use Rattle.armor.specs.Numerals.{isNumber, isMask}
 
 pub data Rule : Type 0 where
@@ -75,13 +76,6 @@ keys =
     ∷ key nameTag (sized 16 16)
     ∷ key nameEah free
     ∷ []
-
--- whether two runs are the same, byte for byte
-unfoldable pub same : List ℕ → List ℕ → Bool
-same [] [] = true
-same [] (y ∷ ys) = false
-same (x ∷ xs) [] = false
-same (x ∷ xs) (y ∷ ys) = same xs ys && eqb x y
 
 -- the place of a name in a list of keys, which is the list's length where the name is not in it
 unfoldable pub placeOf : List Key → List ℕ → ℕ

@@ -19,16 +19,16 @@ unfolding same
 same-equal [] [] e = refl
 same-equal [] (y ∷ ys) e = absurd (false≢true e)
 same-equal (x ∷ xs) [] e = absurd (false≢true e)
-same-equal (x ∷ xs) (y ∷ ys) e = by (eqb x y) refl (same-equal xs ys) e
+same-equal (x ∷ xs) (y ∷ ys) e = by (same xs ys) refl (same-equal xs ys) e
   where
-    by : (t : Bool) → eqb x y ≡ t → (same xs ys ≡ true → xs ≡ ys) → (t && same xs ys) ≡ true → x ∷ xs ≡ y ∷ ys
-    by true p rest f = ap₂ _∷_ (eqb-true x y p) (rest f)
+    by : (t : Bool) → same xs ys ≡ t → (same xs ys ≡ true → xs ≡ ys) → (t && eqb x y) ≡ true → x ∷ xs ≡ y ∷ ys
+    by true p rest f = ap₂ _∷_ (eqb-true x y f) (rest p)
     by false p rest f = absurd (false≢true f)
 
 pub same-self : (xs : List ℕ) → same xs xs ≡ true
 unfolding same
 same-self [] = refl
-same-self (x ∷ xs) = rw (eq-eqb x x refl) (same-self xs)
+same-self (x ∷ xs) = rw (same-self xs) (eq-eqb x x refl)
 
 pub same-not : (xs ys : List ℕ) → (xs ≡ ys → ⊥) → same xs ys ≡ false
 same-not xs ys differ = by (same xs ys) refl
@@ -70,23 +70,25 @@ xor-zero x y =
     (λ q. omega (arith, xor-add-and x y, and-le-l x y, and-le-r x y))
     (λ q. ap (λ (n : ℕ). bitXor n y) q ∙ xor-self y)
 
-and-assoc : (a b c : Bool) → (a && (b && c)) ≡ ((a && b) && c)
-and-assoc true b c = refl
-and-assoc false b c = refl
+and-comm : (a b : Bool) → (a && b) ≡ (b && a)
+and-comm true true = refl
+and-comm true false = refl
+and-comm false true = refl
+and-comm false false = refl
 
-and-true : (a : Bool) → a ≡ (a && true)
-and-true true = refl
-and-true false = refl
+and-swap : (a b c : Bool) → ((a && b) && c) ≡ ((a && c) && b)
+and-swap true b c = and-comm b c
+and-swap false b c = refl
 
 one-more : (xs ys : List ℕ) (i : ℕ) → i < length xs → i < length ys
     → (same (take i xs) (take i ys) && eqb (getD xs i 0) (getD ys i 0)) ≡ same (take (suc i) xs) (take (suc i) ys)
 unfolding same
 one-more [] ys i h k = absurd (not-suc-le-zero h)
 one-more (x ∷ xs) [] i h k = absurd (not-suc-le-zero k)
-one-more (x ∷ xs) (y ∷ ys) zero h k = and-true (eqb x y)
+one-more (x ∷ xs) (y ∷ ys) zero h k = refl
 one-more (x ∷ xs) (y ∷ ys) (suc i) h k =
-    sym (and-assoc (eqb x y) (same (take i xs) (take i ys)) (eqb (getD xs i 0) (getD ys i 0)))
-    ∙ ap (λ (t : Bool). eqb x y && t) (one-more xs ys i (le-of-suc-le-suc h) (le-of-suc-le-suc k))
+    and-swap (same (take i xs) (take i ys)) (eqb x y) (eqb (getD xs i 0) (getD ys i 0))
+    ∙ ap (λ (t : Bool). t && eqb x y) (one-more xs ys i (le-of-suc-le-suc h) (le-of-suc-le-suc k))
 
 -- a turn of the loop that gathers the differences, and its end
 pub compared-more : (xs ys : List ℕ) (i d : ℕ) → i < length xs → i < length ys → eqb d 0 ≡ same (take i xs) (take i ys)

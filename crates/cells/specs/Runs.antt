@@ -22,9 +22,9 @@ part xs at n = take n (drop at xs)
 abbrev pub Bytes : List ℕ → Type 0
 Bytes xs = (i : ℕ) → getD xs i 0 < 256
 
--- two runs are the same
+-- two runs are the same; runs of different lengths are told apart without a look at their bytes
 unfoldable pub same : List ℕ → List ℕ → Bool
 same [] [] = true
 same [] (y ∷ ys) = false
 same (x ∷ xs) [] = false
-same (x ∷ xs) (y ∷ ys) = eqb x y && same xs ys
+same (x ∷ xs) (y ∷ ys) = same xs ys && eqb x y

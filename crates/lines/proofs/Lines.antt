@@ -2,7 +2,7 @@
 -- Assumes nothing.
 use mathlib.Core.Path.{_≡_, refl, sym, ap, subst, _∙_}
 use mathlib.Core.List.{List, [], _∷_, _++_, append-assoc}
-use mathlib.Core.Bool.{Bool, true, false, cond, and-eq-true-iff}
+use mathlib.Core.Bool.{Bool, true, false, cond, and-true, and-eq-true-iff}
 use mathlib.Core.Option.{none, some}
 use Prim.Native.Nat.{ℕ, zero, suc, _+_, _-_, _≤_, _<_}
 use native.Mathlib.Omega.{arith}
@@ -22,7 +22,7 @@ use Rattle.lines.specs.Lines.{Line, colon, CR, LF, valueByte, goodLine, 
 same-prefix : (p xs ys : List ℕ) → same (p ++ xs) (p ++ ys) ≡ same xs ys
 unfolding same
 same-prefix [] xs ys = refl
-same-prefix (b ∷ p) xs ys = rw (eq-eqb b b refl) (same-prefix p xs ys)
+same-prefix (b ∷ p) xs ys = rw (eq-eqb b b refl) (and-true (same (p ++ xs) (p ++ ys)) ∙ same-prefix p xs ys)
 
 -- the parts of a good line
 pub good-name : (l : Line) → goodLine l ≡ true → (0 < length (l .name)) × (all tokenByte (l .name) ≡ true)

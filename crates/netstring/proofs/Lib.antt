@@ -4,3 +4,4 @@ pub mod Determined
 pub mod Laid
 pub mod Scanned
 pub mod Parts
+pub mod Examples

@@ -5,7 +5,7 @@ use mathlib.Core.Bool.{Bool, _&&_}
 use lib.Dec.{eqb}
 use borrow.Author.Needs.{needs}
 use borrow.Author.Tests.{not-true, not-false}
-use Rattle.armor.specs.Keys.{same}
+use Rattle.cells.specs.Runs.{same}
 use Rattle.armor.proofs.is_three.Statement.{statement}
 use Rattle.armor.proofs.is_three.Tie as tie
 

@@ -1,7 +1,7 @@
 -- `is_two` meets its contract.
 -- Assumes nothing.
 use borrow.Author.Tests.{eq-eqb, ne-eqb}
-use Rattle.armor.specs.Keys.{same}
+use Rattle.cells.specs.Runs.{same}
 use Rattle.armor.proofs.is_two.Statement.{statement}
 use Rattle.armor.proofs.is_two.Tie as tie
 

@@ -6,7 +6,8 @@ use Prim.Native.Nat.{ℕ}
 use native.Mathlib.Omega.{arith}
 use lib.ListN.{length, getD}
 use borrow.Author.Needs.{needs}
-use Rattle.armor.specs.Keys.{keys, same, placeOf, keyNumber}
+use Rattle.armor.specs.Keys.{keys, placeOf, keyNumber}
+use Rattle.cells.specs.Runs.{same}
 use Rattle.armor.proofs.key_number.Statement.{statement}
 use Rattle.armor.proofs.key_number.Tie as tie
 

@@ -4,7 +4,8 @@ use mathlib.Core.Path.{sym, ap}
 use mathlib.Core.List.{[], _∷_}
 use Prim.Native.Nat.{ℕ}
 use borrow.Author.Tests.{ne-eqb}
-use Rattle.armor.specs.Keys.{keys, same, placeOf, keyNumber}
+use Rattle.armor.specs.Keys.{keys, placeOf, keyNumber}
+use Rattle.cells.specs.Runs.{same}
 use Rattle.armor.proofs.one_letter.Statement.{statement}
 use Rattle.armor.proofs.one_letter.Tie as tie
 

@@ -1,20 +1,14 @@
 -- `read_piece` meets its contract.
 -- Assumes nothing.
-use mathlib.Core.Path.{_≡_, sym, ap, ap₂, _∙_}
-use mathlib.Core.List.{List}
-use Prim.Native.Nat.{ℕ, _+_}
+use mathlib.Core.Path.{sym, ap₂, _∙_}
 use native.Mathlib.Omega.{arith}
 use lib.ListN.{take}
 use lib.Seq.{length-take-le}
 use borrow.Author.Needs.{needs}
 use borrow.Author.Tests.{not-true, not-false}
 use Rattle.armor.specs.declared.Piece.{Piece}
-use Rattle.armor.specs.Pieces.{colon, upTo}
-use Rattle.armor.specs.Keys.{keyNumber, ruleAt, ruleOf}
-use Rattle.armor.specs.Scan.{textObeys}
-use Rattle.armor.proofs.Pieces.{taken-upTo}
 use Rattle.armor.proofs.Keys.{keyNumber-within}
-use Rattle.armor.proofs.Scan.{answer-no-key, answer-no-colon, answer-bad, answer-good, text-is}
+use Rattle.armor.proofs.Scan.{answer-no-key, answer-no-colon, answer-bad, answer-good, cut}
 use Rattle.armor.proofs.read_piece.Statement.{statement}
 use Rattle.armor.proofs.read_piece.Tie as tie
 
@@ -31,31 +25,23 @@ is-good-requires : tie.Need-is-good-requires
 is-good-requires c κs = omega (arith, c .before .key-number .ensures, keyNumber-within (take (c .before .before .before .before .before .find .result) (c .before .before .before .before .before .before .before .args .text .now)))
 
 returns-3 : tie.Need-returns-3
-unfolding ruleOf
 returns-3 c =
-    let args = c .before .before .before .before .before .before .before .before .before .args in
+    let p = c .before .before .before .before .before .before .before .before .before .args .text .now in
     let find = c .before .before .before .before .before .before .before .find in
     let number = c .before .before .before .key-number in
-    let key-is : number .result ≡ keyNumber (upTo colon (args .text .now)) =
-    number .ensures ∙ ap keyNumber (ap (λ (i : ℕ). take i (args .text .now)) (find .ensures) ∙ taken-upTo colon (args .text .now))
-    in
-    let text = text-is (args .text .now) (find .result + 1) (ap (λ (i : ℕ). i + 1) (find .ensures)) in
-    let obeyed = c .before .is-good .ensures ∙ ap₂ (λ (k : ℕ) (t : List ℕ). textObeys (ruleAt k) t) key-is text in
-    sym (answer-bad (args .text .now) (sym obeyed ∙ not-true (c .before .is-good .result) (c .if3 .taken)))
+    let good = c .before .is-good in
+    let is = cut p (find .result) (number .result) (good .result) (find .ensures) (number .ensures) (good .ensures) in
+    sym (answer-bad p (sym (is .good-is) ∙ not-true (good .result) (c .if3 .taken)))
 
 returns-4 : tie.Need-returns-4
-unfolding ruleOf
 returns-4 c =
-    let args = c .before .before .before .before .before .before .before .before .before .args in
+    let p = c .before .before .before .before .before .before .before .before .before .args .text .now in
     let find = c .before .before .before .before .before .before .before .find in
     let number = c .before .before .before .key-number in
-    let key-is : number .result ≡ keyNumber (upTo colon (args .text .now)) =
-    number .ensures ∙ ap keyNumber (ap (λ (i : ℕ). take i (args .text .now)) (find .ensures) ∙ taken-upTo colon (args .text .now))
-    in
-    let text = text-is (args .text .now) (find .result + 1) (ap (λ (i : ℕ). i + 1) (find .ensures)) in
-    let obeyed = c .before .is-good .ensures ∙ ap₂ (λ (k : ℕ) (t : List ℕ). textObeys (ruleAt k) t) key-is text in
-    ap₂ Piece.Field key-is (ap (λ (i : ℕ). i + 1) (find .ensures))
-    ∙ sym (answer-good (args .text .now) (omega (arith, find .ensures, c .before .before .before .before .before .before .if1 .left)) (sym obeyed ∙ not-false (c .before .is-good .result) (c .if3 .left)))
+    let good = c .before .is-good in
+    let is = cut p (find .result) (number .result) (good .result) (find .ensures) (number .ensures) (good .ensures) in
+    ap₂ Piece.Field (is .key-is) (is .start-is)
+    ∙ sym (answer-good p (omega (arith, find .ensures, c .before .before .before .before .before .before .if1 .left)) (sym (is .good-is) ∙ not-false (good .result) (c .if3 .left)))
 
 pub read-piece-spec : {M : Type 1} → statement M
 read-piece-spec =

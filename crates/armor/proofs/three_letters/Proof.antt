@@ -2,7 +2,8 @@
 -- Assumes nothing.
 use mathlib.Core.Path.{sym, _∙_}
 use borrow.Author.Needs.{needs}
-use Rattle.armor.specs.Keys.{keys, same, placeOf, keyNumber}
+use Rattle.armor.specs.Keys.{keys, placeOf, keyNumber}
+use Rattle.cells.specs.Runs.{same}
 use Rattle.armor.proofs.three_letters.Statement.{statement}
 use Rattle.armor.proofs.three_letters.Tie as tie
 
