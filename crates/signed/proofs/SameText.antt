@@ -1,0 +1,182 @@
+-- Demand 3, its first sentence: two signed texts that are equal come from the same h, ah, eah, nonce (carried or not), t, lt, covered values, path and body.
+-- Assumes nothing.
+use mathlib.Core.Path.{_≡_, refl, sym, ap, ap₂, _∙_}
+use mathlib.Core.Bool.{Bool, true, false, cond}
+use mathlib.Core.List.{List, [], _∷_, _++_, map, List·Memᴰ, List·Memᴰ·head, List·Memᴰ·tail}
+use mathlib.Core.Option.{Option, none, some}
+use Prim.Native.Nat.{ℕ, suc, _^_, _<_}
+use native.Mathlib.Omega.{arith}
+use lib.ListN.{length, length-append}
+use Rattle.netstring.specs.Netstring.{netstrings}
+use Rattle.netstring.proofs.Determined.{netstring-determined, netstrings-determined}
+use Rattle.armor.specs.Numerals.{numberBytes, maskBytes}
+use Rattle.armor.proofs.Numerals.{numberBytes-injective, maskBytes-injective}
+use Rattle.orders.specs.Orders.{coveredNames}
+use Rattle.lines.specs.Lines.{linesIn}
+use Rattle.lines.specs.Values.{coveredValue}
+use Rattle.signed.specs.SignedText.{Signed, carried, signedParts, signedText, ordersNonce, nonceOf, coveredValues, signedOf, requestText}
+
+abbrev pub isCarried : Option (List ℕ) → Bool
+isCarried (some n) = true
+isCarried none = false
+
+-- with the same ah and eah, both carry n or neither does, and both have as many values
+abbrev pub CalledAlike : Signed → Signed → Type 0
+CalledAlike a b =
+    a .ah ≡ b .ah → a .eah ≡ b .eah → (isCarried (a .n) ≡ isCarried (b .n)) × (length (a .values) ≡ length (b .values))
+
+front : {x y : List ℕ} {xs ys : List (List ℕ)} → x ∷ xs ≡ y ∷ ys → x ≡ y
+front e = cc
+
+rest : {x y : List ℕ} {xs ys : List (List ℕ)} → x ∷ xs ≡ y ∷ ys → xs ≡ ys
+rest e = cc
+
+-- the values, the path and the body of a row
+ends : (xs ys : List (List ℕ)) {p q b c : List ℕ} → length xs ≡ length ys → xs ++ (p ∷ b ∷ []) ≡ ys ++ (q ∷ c ∷ [])
+    → (xs ≡ ys) × (p ≡ q) × (b ≡ c)
+ends [] [] h e = (refl, front e, front (rest e))
+ends [] (y ∷ ys) h e = absurd (omega arith)
+ends (x ∷ xs) [] h e = absurd (omega arith)
+ends (x ∷ xs) (y ∷ ys) h e = let more = ends xs ys (omega arith) (rest e) in (ap₂ _∷_ (front e) (more .0), more .1, more .2)
+
+-- n, t and lt, and what follows
+middle : (m n : Option (List ℕ)) {t u l k : List ℕ} {xs ys : List (List ℕ)} → isCarried m ≡ isCarried n
+    → carried m ++ (t ∷ l ∷ xs) ≡ carried n ++ (u ∷ k ∷ ys) → (m ≡ n) × (t ≡ u) × (l ≡ k) × (xs ≡ ys)
+middle (some m) (some n) h e = (ap some (front e), front (rest e), front (rest (rest e)), rest (rest (rest e)))
+middle (some m) none h e = absurd (let z : _≡_ {A = ℕ} 0 1 = cc in omega arith)
+middle none (some n) h e = absurd (let z : _≡_ {A = ℕ} 0 1 = cc in omega arith)
+middle none none h e = (refl, front e, front (rest e), rest (rest e))
+
+-- as many parts
+counted : (m n : Option (List ℕ)) (t u l k : List ℕ) (xs ys : List (List ℕ)) (p q b c : List ℕ) → isCarried m ≡ isCarried n → length xs ≡ length ys
+    → length (carried m ++ (t ∷ l ∷ (xs ++ (p ∷ b ∷ [])))) ≡ length (carried n ++ (u ∷ k ∷ (ys ++ (q ∷ c ∷ []))))
+counted (some m) (some n) t u l k xs ys p q b c h g = simp length-append (omega arith)
+counted (some m) none t u l k xs ys p q b c h g = absurd (let z : _≡_ {A = ℕ} 0 1 = cc in omega arith)
+counted none (some n) t u l k xs ys p q b c h g = absurd (let z : _≡_ {A = ℕ} 0 1 = cc in omega arith)
+counted none none t u l k xs ys p q b c h g = simp length-append (omega arith)
+
+abbrev made : List ℕ → List ℕ → List ℕ → Option (List ℕ) → List ℕ → List ℕ → List (List ℕ) → List ℕ → List ℕ → Signed
+made h ah eah n t lt values path body =
+    record { h = h; ah = ah; eah = eah; n = n; t = t; lt = lt; values = values; path = path; body = body }
+
+made-same : {h h' ah ah' eah eah' : List ℕ} {n n' : Option (List ℕ)} {t t' lt lt' : List ℕ} {values values' : List (List ℕ)} {path path' body body' : List ℕ}
+    → h ≡ h' → ah ≡ ah' → eah ≡ eah' → n ≡ n' → t ≡ t' → lt ≡ lt' → values ≡ values' → path ≡ path' → body ≡ body'
+    → made h ah eah n t lt values path body ≡ made h' ah' eah' n' t' lt' values' path' body'
+made-same e₁ e₂ e₃ e₄ e₅ e₆ e₇ e₈ e₉ = cc
+
+-- THE THEOREM, of any byte runs h, ah, eah and so on
+pub signed-same : (a b : Signed) → CalledAlike a b → signedText a ≡ signedText b → a ≡ b
+unfolding signedText signedParts netstrings
+signed-same a b alike e =
+    let one = netstring-determined (a .h) (b .h) _ _ e in
+    let two = netstring-determined (a .ah) (b .ah) _ _ (one .1) in
+    let three = netstring-determined (a .eah) (b .eah) _ _ (two .1) in
+    let counts = alike (two .0) (three .0) in
+    let row = netstrings-determined (carried (a .n) ++ (a .t ∷ a .lt ∷ (a .values ++ (a .path ∷ a .body ∷ []))))
+    (carried (b .n) ++ (b .t ∷ b .lt ∷ (b .values ++ (b .path ∷ b .body ∷ [])))) [] []
+    (counted (a .n) (b .n) _ _ _ _ (a .values) (b .values) _ _ _ _ (counts .0) (counts .1))
+    (ap (λ (l : List ℕ). l ++ []) (three .1)) in
+    let four = middle (a .n) (b .n) (counts .0) (row .0) in
+    let five = ends (a .values) (b .values) (counts .1) (four .3) in
+    made-same (one .0) (two .0) (three .0) (four .0) (four .1) (four .2) (five .0) (five .1) (five .2)
+
+-- what the code of a request is made from: the orders' mask and extra names, the numbers that it carries, and what the host lends
+pub record Request : Type 0 where
+  pub mask : ℕ
+  pub extra : List ℕ
+  pub n : ℕ
+  pub t : ℕ
+  pub lt : ℕ
+  pub aside : List ℕ
+  pub head : List ℕ
+  pub path : List ℕ
+  pub body : List ℕ
+
+abbrev pub textOf : Request → List ℕ
+textOf p = requestText (p .mask) (p .extra) (p .n) (p .t) (p .lt) (p .aside) (p .head) (p .path) (p .body)
+
+-- no bit above 55, and numbers of 32 bits
+pub record Fits (p : Request) : Type 0 where
+  pub mask : p .mask < 2 ^ 56
+  pub n : p .n < 2 ^ 32
+  pub t : p .t < 2 ^ 32
+  pub lt : p .lt < 2 ^ 32
+
+pub record Same (p q : Request) : Type 0 where
+  pub mask : p .mask ≡ q .mask
+  pub extra : p .extra ≡ q .extra
+  pub n : ordersNonce (p .mask) ≡ true → p .n ≡ q .n
+  pub t : p .t ≡ q .t
+  pub lt : p .lt ≡ q .lt
+  pub values : (name : List ℕ) → List·Memᴰ name (coveredNames (p .mask) (p .extra))
+      → coveredValue (linesIn (p .aside)) (linesIn (p .head)) name ≡ coveredValue (linesIn (q .aside)) (linesIn (q .head)) name
+  pub path : p .path ≡ q .path
+  pub body : p .body ≡ q .body
+
+abbrev signing : Request → Signed
+signing p = signedOf (p .mask) (p .extra) (p .n) (p .t) (p .lt) (p .aside) (p .head) (p .path) (p .body)
+
+nonce-alike : (m k x y : ℕ) → m ≡ k → isCarried (nonceOf m x) ≡ isCarried (nonceOf k y)
+unfolding nonceOf
+nonce-alike m k x y e = ap (λ (j : ℕ). isCarried (nonceOf j x)) e ∙ either (ordersNonce k)
+  where
+    either : (b : Bool) → isCarried (cond b (some (numberBytes x)) none) ≡ isCarried (cond b (some (numberBytes y)) none)
+    either true = refl
+    either false = refl
+
+nonce-same : (m x y : ℕ) → x < 2 ^ 32 → y < 2 ^ 32 → ordersNonce m ≡ true → nonceOf m x ≡ nonceOf m y → x ≡ y
+unfolding nonceOf
+nonce-same m x y hx hy o e =
+    let f : some (numberBytes x) ≡ some (numberBytes y) = rw o at e in
+    let g : numberBytes x ≡ numberBytes y = cc in
+    numberBytes-injective x y (omega arith) (omega arith) g
+
+length-map : (f g : List ℕ → List ℕ) (ns : List (List ℕ)) → length (map f ns) ≡ length (map g ns)
+length-map f g [] = refl
+length-map f g (n ∷ ns) = ap suc (length-map f g ns)
+
+values-alike : (m k : ℕ) (x y a b h g : List ℕ) → m ≡ k → x ≡ y → length (coveredValues m x a h) ≡ length (coveredValues k y b g)
+unfolding coveredValues
+values-alike m k x y a b h g e f =
+    ap₂ (λ (j : ℕ) (z : List ℕ). length (map (coveredValue (linesIn a) (linesIn h)) (coveredNames j z))) e f
+    ∙ length-map (coveredValue (linesIn a) (linesIn h)) (coveredValue (linesIn b) (linesIn g)) (coveredNames k y)
+
+-- equal rows of values are equal name by name
+each-same : (f g : List ℕ → List ℕ) (ns : List (List ℕ)) → map f ns ≡ map g ns → (name : List ℕ) → List·Memᴰ name ns → f name ≡ g name
+each-same f g (n ∷ ns) e name (List·Memᴰ·head p) = ap f p ∙ front e ∙ sym (ap g p)
+each-same f g (n ∷ ns) e name (List·Memᴰ·tail m) = each-same f g ns (rest e) name m
+
+values-same : (p q : Request) → p .mask ≡ q .mask → p .extra ≡ q .extra
+    → coveredValues (p .mask) (p .extra) (p .aside) (p .head) ≡ coveredValues (q .mask) (q .extra) (q .aside) (q .head)
+    → (name : List ℕ) → List·Memᴰ name (coveredNames (p .mask) (p .extra))
+    → coveredValue (linesIn (p .aside)) (linesIn (p .head)) name ≡ coveredValue (linesIn (q .aside)) (linesIn (q .head)) name
+unfolding coveredValues
+values-same p q em ex e =
+    each-same (coveredValue (linesIn (p .aside)) (linesIn (p .head))) (coveredValue (linesIn (q .aside)) (linesIn (q .head)))
+    (coveredNames (p .mask) (p .extra))
+    (e ∙ sym (ap₂ (λ (m : ℕ) (x : List ℕ). map (coveredValue (linesIn (q .aside)) (linesIn (q .head))) (coveredNames m x)) em ex))
+
+-- THE THEOREM, of requests
+pub request-same : (p q : Request) → Fits p → Fits q → textOf p ≡ textOf q → Same p q
+unfolding requestText signedOf
+request-same p q fp fq e =
+    let masks : maskBytes (p .mask) ≡ maskBytes (q .mask) → p .mask ≡ q .mask =
+    maskBytes-injective (p .mask) (q .mask) (omega (arith, fp .mask)) (omega (arith, fq .mask)) in
+    let alike : CalledAlike (signing p) (signing q) =
+    λ ea ex. (
+      nonce-alike (p .mask) (q .mask) (p .n) (q .n) (masks ea),
+      values-alike (p .mask) (q .mask) (p .extra) (q .extra) (p .aside) (q .aside) (p .head) (q .head) (masks ea) ex,
+    ) in
+    let s = signed-same (signing p) (signing q) alike e in
+    let m = masks (ap (λ (x : Signed). x .ah) s) in
+    let x = ap (λ (x : Signed). x .eah) s in
+    record {
+      mask = m;
+      extra = x;
+      n = λ o. nonce-same (p .mask) (p .n) (q .n) (fp .n) (fq .n) o (ap (λ (x : Signed). x .n) s ∙ ap (λ (k : ℕ). nonceOf k (q .n)) (sym m));
+      t = numberBytes-injective (p .t) (q .t) (omega (arith, fp .t)) (omega (arith, fq .t)) (ap (λ (x : Signed). x .t) s);
+      lt = numberBytes-injective (p .lt) (q .lt) (omega (arith, fp .lt)) (omega (arith, fq .lt)) (ap (λ (x : Signed). x .lt) s);
+      values = values-same p q m x (ap (λ (x : Signed). x .values) s);
+      path = ap (λ (x : Signed). x .path) s;
+      body = ap (λ (x : Signed). x .body) s;
+    }
