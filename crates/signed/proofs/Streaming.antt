@@ -13,7 +13,7 @@ use Rattle.hmac.specs.Keyed.{Keyed, TookIn}
 use Rattle.netstring.specs.Netstring.{netstring, netstrings}
 use Rattle.netstring.proofs.Numerals.{decimal-length}
 use Rattle.netstring.proofs.Laid.{length-netstring, took-both}
-use Rattle.armor.specs.Numerals.{numberBytes, maskBytes}
+use Rattle.armor.specs.Numerals.{numberBytes, maskBytes, hashMask}
 use Rattle.armor.proofs.Numerals.{length-numberBytes}
 use Rattle.orders.specs.Names.{headerNames}
 use Rattle.orders.specs.Extra.{pieces, extraNames, goodNames, goodExtra}
@@ -22,7 +22,7 @@ use Rattle.orders.specs.Walk.{namesFrom}
 use Rattle.orders.proofs.Walk.{covered-names}
 use Rattle.lines.specs.Lines.{linesIn}
 use Rattle.lines.specs.Values.{coveredValue}
-use Rattle.signed.specs.SignedText.{carried, signedParts, signedText, hashMask, nonceOf, coveredValues, signedOf, requestText}
+use Rattle.signed.specs.SignedText.{carried, signedParts, signedText, nonceOf, coveredValues, signedOf, requestText}
 use Rattle.signed.specs.Streamed.{TookParts, openingParts}
 
 pub netstring-short : (part : List ℕ) → length part ≤ 65536 → length (netstring part) ≤ length part + 7

@@ -6,7 +6,7 @@ use mathlib.Core.Bool.{Bool, cond}
 use mathlib.Core.Option.{Option, none, some}
 use lib.Dec.{eqb}
 use Rattle.netstring.specs.Netstring.{netstrings}
-use Rattle.armor.specs.Numerals.{numberBytes, maskBytes}
+use Rattle.armor.specs.Numerals.{numberBytes, maskBytes, hashMask}
 use Rattle.orders.specs.Orders.{coveredNames}
 use Rattle.lines.specs.Lines.{linesIn}
 use Rattle.lines.specs.Values.{coveredValue}
@@ -35,10 +35,6 @@ signedParts s =
 -- these netstrings in a row
 unfoldable pub signedText : Signed → List ℕ
 signedText s = netstrings (signedParts s)
-
--- the mask of h: SHA-512
-abbrev pub hashMask : ℕ
-hashMask = 4
 
 -- bit 0 of ah orders nonces
 abbrev pub ordersNonce : ℕ → Bool

@@ -5,8 +5,8 @@ use Prim.Native.Nat.{ℕ, _+_, _≤_}
 use Rattle.hmac.specs.Keyed.{TookIn}
 use Rattle.hmac.specs.declared.Hmac.{Hmac}
 use Rattle.netstring.specs.Netstring.{netstrings}
-use Rattle.armor.specs.Numerals.{numberBytes, maskBytes}
-use Rattle.signed.specs.SignedText.{carried, hashMask, nonceOf}
+use Rattle.armor.specs.Numerals.{numberBytes, maskBytes, hashMask}
+use Rattle.signed.specs.SignedText.{carried, nonceOf}
 
 -- s took in the netstrings of these parts, at most so many bytes, and became r
 pub record TookParts (s : Hmac) (parts : List (List ℕ)) (most : ℕ) (r : Hmac) : Type 0 where

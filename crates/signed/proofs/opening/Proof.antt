@@ -4,8 +4,8 @@ use borrow.Author.Needs.{needs}
 use mathlib.Core.Path.{refl}
 use mathlib.Core.List.{[], _∷_, _++_}
 use native.Mathlib.Omega.{arith}
-use Rattle.armor.specs.Numerals.{numberBytes, maskBytes}
-use Rattle.signed.specs.SignedText.{carried, hashMask, nonceOf}
+use Rattle.armor.specs.Numerals.{numberBytes, maskBytes, hashMask}
+use Rattle.signed.specs.SignedText.{carried, nonceOf}
 use Rattle.signed.specs.Streamed.{TookParts}
 use Rattle.signed.proofs.Streaming.{netstring-short, took-one, took-parts}
 use Rattle.signed.proofs.opening.Statement.{statement}
