@@ -1,0 +1,2 @@
+-- The laws of this crate's functions.
+pub mod Ordered

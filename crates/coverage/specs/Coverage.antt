@@ -1,0 +1,21 @@
+-- Whether a request covers what the orders say: document 01, number 8.
+-- Assumes nothing.
+use mathlib.Core.Bool.{Bool, _&&_}
+use mathlib.Core.List.{List, [], _∷_}
+use Prim.Native.Nat.{ℕ}
+use lib.Dec.{eqb}
+use Rattle.cells.specs.Runs.{same}
+use Rattle.armor.specs.Numerals.{maskBytes, hashMask}
+use Rattle.armor.specs.Keys.{nameH, nameAh, nameEah}
+use Rattle.armor.specs.Value.{Field}
+use Rattle.armor.specs.Fields.{times, the}
+
+-- eah is not carried without extra names, and is carried with them, byte for byte
+abbrev pub extraAsOrdered : List ℕ → List Field → Bool
+extraAsOrdered [] fs = eqb (times nameEah fs) 0
+extraAsOrdered (b ∷ bs) fs = eqb (times nameEah fs) 1 && same (the nameEah fs) (b ∷ bs)
+
+-- h, ah and eah are those that the orders say
+unfoldable pub asOrdered : ℕ → List ℕ → List Field → Bool
+asOrdered mask extra fs =
+    same (the nameH fs) (maskBytes hashMask) && (same (the nameAh fs) (maskBytes mask) && extraAsOrdered extra fs)

@@ -1,0 +1,2 @@
+-- Check 8 of document 01.
+pub mod Coverage

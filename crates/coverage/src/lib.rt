@@ -1,0 +1,48 @@
+// Whether a request covers what the orders say.
+ghost use mathlib.Core.Path.{_≡_};
+ghost use mathlib.Core.Bool.{true};
+ghost use Prim.Native.Nat.{_≤_};
+ghost use lib.ListN.{length};
+ghost use Rattle.cells.specs.Runs.{same};
+ghost use Rattle.base64.specs.Encoding.{encoded};
+ghost use Rattle.armor.specs.Value.{carried};
+ghost use Rattle.armor.specs.Fields.{requestFields};
+ghost use Rattle.armor.specs.Answers.{Holds};
+ghost use Rattle.coverage.specs.Coverage.{asOrdered};
+use armor::Request;
+
+// The mask of h: SHA-512.
+const HASH_MASK: u64 = 4;
+
+// Whether h, ah and eah of a request are those that the orders say, byte for byte.
+pub fn as_ordered(value: &[u8], request: Request, mask: u64, extra: &[u8]) -> bool
+    requires { ⌜ (requestFields (carried (now value)) ≡ true) × Holds (now value) (carried (now value)) request × (length (now extra) ≤ 128) ⌝ }
+    ensures { λ r. ⌜ r ≡ asOrdered mask (now (extra .entry)) (carried (now (value .entry))) ⌝ }
+{
+    if request.h != HASH_MASK {
+        return false;
+    }
+    if request.ah != mask {
+        return false;
+    }
+    let with_eah = request.with_eah;
+    if extra.len() == 0 {
+        return !with_eah;
+    }
+    if !with_eah {
+        return false;
+    }
+    let start = request.eah_start;
+    let end = request.eah_end;
+    is_text_of(&value[start..end], extra)
+}
+
+// Whether a text is the base64 of at most 128 bytes.
+fn is_text_of(text: &[u8], bytes: &[u8]) -> bool
+    requires { ⌜ length (now bytes) ≤ 128 ⌝ }
+    ensures { λ r. ⌜ r ≡ same (now (text .entry)) (encoded (now (bytes .entry))) ⌝ }
+{
+    let mut out = [0u8; 172];
+    let len = base64::encode(bytes, &mut out);
+    cells::same(text, &out[..len])
+}

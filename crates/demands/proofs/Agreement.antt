@@ -1,0 +1,161 @@
+-- Demand 3: 'Take two requests that each reach the signature check. If their signed texts, as 01 defines them, are equal, then they agree in
+-- coverage, nonce, both times, every covered header value, path and body; an absent header counts as an empty one. If they also carry the same
+-- signature, token, IV and tag, and meet the same server key, orders, clock and table, they get the same verdict, reply and table after.'
+-- Assumes nothing.
+use mathlib.Core.Path.{_≡_, sym, ap, subst, _∙_}
+use mathlib.Core.List.{List, List·Memᴰ}
+use Prim.Native.Nat.{ℕ, zero, suc, _+_, _%_, _<_}
+use native.Mathlib.Omega.{arith}
+use borrow.Author.Tests.{eq-eqb}
+use Rattle.cells.specs.Numbers.{number}
+use Rattle.armor.specs.Numerals.{numberBytes, maskBytes}
+use Rattle.armor.specs.Keys.{nameS, nameT, nameLt, nameN, nameH, nameAh, nameTag, nameEah}
+use Rattle.armor.proofs.Requests.{none-held}
+use Rattle.orders.specs.Orders.{coveredNames}
+use Rattle.lines.specs.Lines.{linesIn}
+use Rattle.lines.specs.Values.{coveredValue}
+use Rattle.signed.specs.SignedText.{signedText}
+use Rattle.signed.proofs.SameText as Text
+use Rattle.gate.specs.Calls.{Request}
+use Rattle.gate.specs.Judge.{fieldsOf, ivOf, nonceOf, timeOf, lastTimeOf, signatureOf, openedOf, tokenOf, textOf, requestChecks, judged}
+use Rattle.gate.proofs.Numbers.{first-drop}
+use Rattle.demands.proofs.Rising.{Beyond, beyond-less, request-passed, request-late}
+use Rattle.demands.proofs.Requests.{request-number}
+use Rattle.demands.proofs.Passed.{Passed, all-passed}
+use Rattle.demands.proofs.Carried.{named, hash-ordered, mask-ordered, names-ordered, names-times, mask-fits, nonce-ordered, time-small, last-time-small, nonce-small}
+use Rattle.demands.proofs.SignedText.{carries, carriesTimes, signedBy, text-carried, time-carried, last-time-carried, nonce-carried}
+use Rattle.demands.proofs.Reading.{Reaches, Alike, ReadAlike, judged-alike, judged-same}
+
+-- the value of a header in the set-aside lines, or else in the head; an absent one is empty
+abbrev pub headerOf : Request → List ℕ → List ℕ
+headerOf q name = coveredValue (linesIn (q .aside)) (linesIn (q .head)) name
+
+-- two requests agree in coverage, nonce, both times, every covered header value, path and body
+pub record Agree (p q : Request) : Type 0 where
+  pub h : carries nameH p ≡ carries nameH q
+  pub ah : carries nameAh p ≡ carries nameAh q
+  pub eah : carries nameEah p ≡ carries nameEah q
+  pub eah-or-not : carriesTimes nameEah p ≡ carriesTimes nameEah q
+  pub mask : p .orders .mask ≡ q .orders .mask
+  pub extra : p .orders .extra ≡ q .orders .extra
+  pub n : carries nameN p ≡ carries nameN q
+  pub n-or-not : carriesTimes nameN p ≡ carriesTimes nameN q
+  pub t : carries nameT p ≡ carries nameT q
+  pub lt : carries nameLt p ≡ carries nameLt q
+  pub headers : (name : List ℕ) → List·Memᴰ name (coveredNames (p .orders .mask) (p .orders .extra)) → headerOf p name ≡ headerOf q name
+  pub path : p .path ≡ q .path
+  pub body : p .body ≡ q .body
+
+-- they carry the same signature, token, IV and tag, and meet the same server key, orders and clock
+pub record MeetAlike (p q : Request) : Type 0 where
+  pub signature : signatureOf p ≡ signatureOf q
+  pub token : carries nameS p ≡ carries nameS q
+  pub iv : ivOf p ≡ ivOf q
+  pub tag : carries nameTag p ≡ carries nameTag q
+  pub server-key : p .server-key ≡ q .server-key
+  pub orders : p .orders ≡ q .orders
+  pub clock : p .clock ≡ q .clock
+
+-- to reach the signature check is to get a number that is none of 1 to 10
+pub reaches : (q : Request) (table : List ℕ) → Beyond 10 (judged q table .number) → Reaches q table
+reaches q table b j l =
+    request-passed q table j (omega arith) (beyond-less (1 + j) 10 _ (omega arith) (subst (Beyond 10) (request-number q table) b))
+
+pub reached : (q : Request) (table : List ℕ) → Reaches q table → Beyond 10 (judged q table .number)
+reached q table r =
+    subst (Beyond 10) (sym (request-number q table ∙ first-drop 10 (requestChecks q table) r)) (request-late q table)
+
+reaching : (q : Request) (table : List ℕ) → Reaches q table → Passed q table
+reaching q table r = all-passed q table (λ j l. r j (omega arith))
+
+-- its signed text is document 01's, of the bytes that it carries
+pub signed-text : (q : Request) (table : List ℕ) → Reaches q table → textOf q ≡ signedText (signedBy q)
+signed-text q table r = text-carried q table (reaching q table r)
+
+abbrev signing : Request → Text.Request
+signing q = record {
+  mask = q .orders .mask;
+  extra = q .orders .extra;
+  n = nonceOf q;
+  t = timeOf q;
+  lt = lastTimeOf q;
+  aside = q .aside;
+  head = q .head;
+  path = q .path;
+  body = q .body;
+}
+
+signing-fits : (q : Request) (table : List ℕ) → Passed q table → Text.Fits (signing q)
+signing-fits q table p =
+    record { mask = mask-fits q table p; n = nonce-small q table p; t = time-small q table p; lt = last-time-small q table p }
+
+module _ (p q : Request) (s t : List ℕ) (rp : Reaches p s) (rq : Reaches q t) (e : textOf p ≡ textOf q) where
+  left : Passed p s
+  left = reaching p s rp
+
+  right : Passed q t
+  right = reaching q t rq
+
+  texts : Text.Same (signing p) (signing q)
+  unfolding textOf
+  texts = Text.request-same (signing p) (signing q) (signing-fits p s left) (signing-fits q t right) e
+
+  counts : carriesTimes nameN p ≡ carriesTimes nameN q
+  counts = nonce-ordered p s left ∙ ap (λ (m : ℕ). m % 2) (texts .mask) ∙ sym (nonce-ordered q t right)
+
+  nonces : (k : ℕ) → carriesTimes nameN p ≡ k → k < 2 → carries nameN p ≡ carries nameN q
+  nonces zero c l = none-held nameN (fieldsOf p) c ∙ sym (none-held nameN (fieldsOf q) (sym counts ∙ c))
+  nonces (suc zero) c l =
+      sym (nonce-carried p s left c)
+      ∙ ap numberBytes (texts .n (eq-eqb (p .orders .mask % 2) 1 (sym (nonce-ordered p s left) ∙ c)))
+      ∙ nonce-carried q t right (sym counts ∙ c)
+  nonces (suc (suc k)) c l = absurd (omega arith)
+
+  agreed : Agree p q
+  agreed = record {
+    h = hash-ordered p s left ∙ sym (hash-ordered q t right);
+    ah = mask-ordered p s left ∙ ap maskBytes (texts .mask) ∙ sym (mask-ordered q t right);
+    eah = names-ordered p s left ∙ texts .extra ∙ sym (names-ordered q t right);
+    eah-or-not = names-times p s left ∙ ap named (texts .extra) ∙ sym (names-times q t right);
+    mask = texts .mask;
+    extra = texts .extra;
+    n = nonces (p .orders .mask % 2) (nonce-ordered p s left) (omega arith);
+    n-or-not = counts;
+    t = sym (time-carried p s left) ∙ ap numberBytes (texts .t) ∙ time-carried q t right;
+    lt = sym (last-time-carried p s left) ∙ ap numberBytes (texts .lt) ∙ last-time-carried q t right;
+    headers = texts .values;
+    path = texts .path;
+    body = texts .body;
+  }
+
+-- THE THEOREM, its first sentence; the two may meet other orders and tables
+pub agree : (p q : Request) (s t : List ℕ) → Reaches p s → Reaches q t → textOf p ≡ textOf q → Agree p q
+agree = agreed
+
+token-alike : (p q : Request) → MeetAlike p q → tokenOf p ≡ tokenOf q
+unfolding tokenOf openedOf
+token-alike p q m = rw (m .token, m .iv, m .tag, m .server-key)
+
+read-alike : (p q : Request) → Agree p q → MeetAlike p q → textOf p ≡ textOf q → ReadAlike p q
+unfolding nonceOf timeOf lastTimeOf
+read-alike p q a m e = record {
+  orders = m .orders;
+  clock = m .clock;
+  iv = m .iv;
+  nonce = ap number (a .n);
+  time = ap number (a .t);
+  last-time = ap number (a .lt);
+  signature = m .signature;
+  token = token-alike p q m;
+  text = e;
+}
+
+-- THE THEOREM, its second sentence
+pub same-verdict : (p q : Request) (table : List ℕ) → Reaches p table → Reaches q table → textOf p ≡ textOf q → MeetAlike p q
+    → Alike (judged p table) (judged q table)
+same-verdict p q table rp rq e m = judged-alike p q table (read-alike p q (agree p q table table rp rq e) m e) rp rq
+
+-- where the reply buffers are equal too, every byte of them is the same after
+pub same-outcome : (p q : Request) (table : List ℕ) → Reaches p table → Reaches q table → textOf p ≡ textOf q → MeetAlike p q
+    → p .reply ≡ q .reply → judged p table ≡ judged q table
+same-outcome p q table rp rq e m b = judged-same p q table (read-alike p q (agree p q table table rp rq e) m e) rp rq b

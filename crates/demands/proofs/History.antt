@@ -1,0 +1,104 @@
+-- Demand 2 of document 00: "On a table that began empty and that only these calls changed, with no IV lent to two setups and nonces
+-- ordered, a request that passes the other checks is accepted exactly if its nonce was not accepted before in that session and is less
+-- than 64 below the highest accepted; a first nonce always passes."
+-- `accepted-exactly` is that sentence. `verdict-exactly` says more: which of 0, 15 and 16 is answered, and it asks only that no two setups
+-- that were answered 0 had one IV. The calls before are any, with any arguments and answers, and need not order nonces. The table has any
+-- number of records: where that is not 1 to 64, each call answers 1. A session is known by its IV (document 01).
+-- `well-formed` and `never-malformed`: such a table stays well formed and keeps its length, so 3 is never answered.
+-- Assumes nothing.
+use mathlib.Core.Path.{_≡_, sym, ap, _∙_}
+use mathlib.Core.Logic.{_↔_}
+use mathlib.Core.Bool.{true}
+use mathlib.Core.List.{List, [], _∷_}
+use Prim.Native.Nat.{ℕ, _*_}
+use native.Mathlib.Omega.{arith}
+use borrow.Author.Tests.{eqb-true, eq-eqb}
+use lib.ListN.{length, length-replicate}
+use Rattle.signed.specs.SignedText.{ordersNonce}
+use Rattle.window.specs.declared.Stepped.{Stepped}
+use Rattle.window.specs.Window.{numberOf}
+use Rattle.window.specs.History.{admits, verdictAfter}
+use Rattle.window.proofs.Tracks.{right, admitted}
+use Rattle.table.specs.Record.{size}
+use Rattle.table.specs.Table.{records}
+use Rattle.table.specs.WellFormed.{wellFormed}
+use Rattle.table.proofs.Meaning.{is-wellFormed}
+use Rattle.gate.specs.Calls.{Request}
+use Rattle.gate.specs.Setup.{setupChecks}
+use Rattle.gate.specs.Judge.{ivOf, nonceOf, requestChecks, judged}
+use Rattle.gate.specs.End.{endChecks}
+use Rattle.demands.specs.History.{Call, setting-up, judging, ending, answer, emptyTable, after, acceptedIn, setUpIn, lentIn, Apart, PassesOthers}
+use Rattle.demands.proofs.Checks.{never-given}
+use Rattle.demands.proofs.Tables.{Standing, empty-standing}
+use Rattle.demands.proofs.Answers.{accepts-zero, setUp-number, ended-number, judged-number, passes-finds, passes-window}
+use Rattle.demands.proofs.Lent.{lent-apart}
+use Rattle.demands.proofs.Calls.{held-step, call-standing}
+
+-- after any calls the table's sessions are those of the history
+standing : (n : ℕ) (calls : List Call)
+    → Standing n (after (emptyTable n) calls) (setUpIn (emptyTable n) calls) (λ iv. acceptedIn iv (emptyTable n) calls)
+unfolding after setUpIn acceptedIn
+standing n [] = empty-standing n
+standing n (call ∷ earlier) = call-standing n _ _ _ (standing n earlier) call
+
+-- which of 0, 15 and 16 a request that passes the other checks is answered
+pub verdict-exactly : (n : ℕ) (calls : List Call) (q : Request)
+    → Apart (setUpIn (emptyTable n) calls)
+    → ordersNonce (q .orders .mask) ≡ true
+    → PassesOthers q (after (emptyTable n) calls)
+    → judged q (after (emptyTable n) calls) .number ≡ numberOf (verdictAfter (acceptedIn (ivOf q) (emptyTable n) calls) (nonceOf q))
+verdict-exactly n calls q apart ordered passes =
+    let table = after (emptyTable n) calls in
+    let before = acceptedIn (ivOf q) (emptyTable n) calls in
+    let st = standing n calls in
+    let f = passes-finds q table passes in
+    judged-number q table
+    ∙ passes-window q table passes ordered
+    ∙ ap (λ (s : Stepped). numberOf (s .verdict)) (held-step n table _ _ st q f)
+    ∙ ap numberOf (right _ before (st .sessions .known apart (ivOf q) (f .place) (f .finds)) (nonceOf q) .verdict)
+
+-- the customer's sentence
+pub accepted-exactly : (n : ℕ) (calls : List Call) (q : Request)
+    → Apart (lentIn calls)
+    → ordersNonce (q .orders .mask) ≡ true
+    → PassesOthers q (after (emptyTable n) calls)
+    → (judged q (after (emptyTable n) calls) .number ≡ 0) ↔ (admits (acceptedIn (ivOf q) (emptyTable n) calls) (nonceOf q) ≡ true)
+accepted-exactly n calls q lent ordered passes =
+    let before = acceptedIn (ivOf q) (emptyTable n) calls in
+    let verdict = verdictAfter before (nonceOf q) in
+    let number = verdict-exactly n calls q (lent-apart (emptyTable n) calls lent) ordered passes in
+    let admits-zero = sym (admitted before (nonceOf q)) ∙ accepts-zero verdict in (
+      λ e. admits-zero ∙ eq-eqb (numberOf verdict) 0 (sym number ∙ e),
+      λ e. number ∙ eqb-true (numberOf verdict) 0 (sym admits-zero ∙ e),
+    )
+
+-- a first nonce always passes
+pub first-passes : (n : ℕ) (calls : List Call) (q : Request)
+    → Apart (lentIn calls)
+    → ordersNonce (q .orders .mask) ≡ true
+    → PassesOthers q (after (emptyTable n) calls)
+    → acceptedIn (ivOf q) (emptyTable n) calls ≡ []
+    → judged q (after (emptyTable n) calls) .number ≡ 0
+first-passes n calls q lent ordered passes none =
+    accepted-exactly n calls q lent ordered passes .1 (ap (λ (before : List ℕ). admits before (nonceOf q)) none)
+
+-- the table stays well formed and keeps its length
+pub well-formed : (n : ℕ) (calls : List Call)
+    → (wellFormed (records (after (emptyTable n) calls)) ≡ true) × (length (after (emptyTable n) calls) ≡ length (emptyTable n))
+well-formed n calls = (
+  is-wellFormed (records (after (emptyTable n) calls)) (standing n calls .sessions .well),
+  standing n calls .long ∙ sym (length-replicate {A = ℕ} (size * n) 0),
+)
+
+-- so no further call answers 3
+pub never-malformed : (n : ℕ) (calls : List Call) (call : Call) → answer call (after (emptyTable n) calls) .number ≡ 3 → ⊥
+unfolding setupChecks requestChecks endChecks
+never-malformed n calls (setting-up s) e =
+    let well = well-formed n calls .0 in
+    never-given 3 (setupChecks s (after (emptyTable n) calls)) (λ z. omega arith) (rw well) (sym (setUp-number s _) ∙ e)
+never-malformed n calls (judging q) e =
+    let well = well-formed n calls .0 in
+    never-given 3 (requestChecks q (after (emptyTable n) calls)) (λ z. omega arith) (rw well) (sym (judged-number q _) ∙ e)
+never-malformed n calls (ending iv) e =
+    let well = well-formed n calls .0 in
+    never-given 3 (endChecks iv (after (emptyTable n) calls)) (λ z. omega arith) (rw well) (sym (ended-number iv _) ∙ e)

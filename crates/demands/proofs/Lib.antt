@@ -1,0 +1,23 @@
+-- The theorems: Untouched (demand 1), History (demand 2), Agreement (demand 3), Cases (document 01's twelve). The other files are their laws.
+pub mod Rising
+pub mod Checks
+pub mod Stored
+pub mod Named
+pub mod Passed
+pub mod Carried
+pub mod SignedText
+pub mod Reading
+pub mod Effects
+pub mod Setups
+pub mod Requests
+pub mod Endings
+pub mod Untouched
+pub mod Sessions
+pub mod Tables
+pub mod Nonces
+pub mod Answers
+pub mod Calls
+pub mod Lent
+pub mod History
+pub mod Agreement
+pub mod Cases

@@ -1,0 +1,64 @@
+-- The session that an IV names in a table: where its record stands, and the table with that record freed.
+-- Assumes nothing.
+use mathlib.Core.Path.{_≡_, refl, sym, ap, subst, _∙_}
+use mathlib.Core.Bool.{true≢false, false}
+use mathlib.Core.List.{List}
+use Prim.Native.Nat.{ℕ, _<_}
+use Rattle.table.specs.declared.place.Place.{Place}
+use Rattle.table.specs.declared.place.Place.the-variants.{At, Nowhere}
+use Rattle.table.specs.Record.{freed}
+use Rattle.table.specs.Table.{places, recordAt, holds, records}
+use Rattle.table.specs.WellFormed.{WellFormed}
+use Rattle.table.proofs.Records.{length-records, records-at, freed-fits}
+use Rattle.table.proofs.Tests.{holds-used, used-holds}
+use Rattle.table.proofs.Found.{found-at, at-found}
+use Rattle.gate.specs.Checks.{nowhere}
+use Rattle.gate.specs.Session.{placeOf, with-record, without}
+use Rattle.demands.proofs.Stored.{Replaced, replaced}
+
+-- a used record with the IV stands at a place of the table
+pub record SessionAt (table vector : List ℕ) (place : ℕ) : Type 0 where
+  pub within : place < places table
+  pub used : recordAt table place .used ≡ 1
+  pub iv : recordAt table place .iv ≡ vector
+
+-- the place that is found
+pub found-session : (table iv : List ℕ) (place : ℕ) → placeOf table iv ≡ At place → SessionAt table iv place
+found-session table iv place e =
+    let f = found-at (records table) iv place e in
+    let inside : place < places table = rw length-records at (f .0) in
+    let held = holds-used iv (recordAt table place) (ap (holds iv) (sym (records-at table place inside)) ∙ f .1) in
+    record { within = inside; used = held .0; iv = held .1 }
+
+-- in a well-formed table it is the only one
+pub session-found : (table iv : List ℕ) (place : ℕ) → WellFormed (records table) → SessionAt table iv place → placeOf table iv ≡ At place
+session-found table iv place w s =
+    at-found (records table) iv place w (rw length-records (s .within))
+    (ap (holds iv) (records-at table place (s .within)) ∙ used-holds iv (recordAt table place) (s .used) (s .iv))
+
+pub record Session (table vector : List ℕ) : Type 0 where
+  pub place : ℕ
+  pub is : SessionAt table vector place
+
+pub somewhere : (table iv : List ℕ) → nowhere (placeOf table iv) ≡ false → Session table iv
+somewhere table iv e = by (placeOf table iv) refl e
+  where
+    by : (p : Place) → placeOf table iv ≡ p → nowhere p ≡ false → Session table iv
+    by (At place) q f = record { place = place; is = found-session table iv place q }
+    by Nowhere q f = absurd (true≢false f)
+
+-- its record freed
+pub freed-there : (table iv : List ℕ) (place : ℕ) → WellFormed (records table) → SessionAt table iv place → Replaced table (without table iv) place freed
+unfolding without
+freed-there table iv place w s =
+    subst (λ (p : Place). Replaced table (with-record table p freed) place freed) (sym (session-found table iv place w s))
+    (replaced table place freed (s .within) freed-fits)
+
+-- where there is none, nothing is freed
+pub freed-nowhere : (table iv : List ℕ) → ((place : ℕ) → SessionAt table iv place → ⊥) → without table iv ≡ table
+unfolding without
+freed-nowhere table iv none = by (placeOf table iv) refl
+  where
+    by : (p : Place) → placeOf table iv ≡ p → with-record table p freed ≡ table
+    by (At place) q = absurd (none place (found-session table iv place q))
+    by Nowhere q = refl

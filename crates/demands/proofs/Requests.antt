@@ -1,0 +1,146 @@
+-- What judging a request does, by its number.
+-- Assumes nothing.
+use mathlib.Core.Path.{_≡_, refl, sym, ap, subst, _∙_}
+use mathlib.Core.Bool.{Bool, true, false, true≢false, cond, _||_}
+use mathlib.Core.List.{List, List·Memᴰ, List·Memᴰ·head}
+use mathlib.Core.Logic.{inl, inr}
+use Prim.Native.Nat.{ℕ, _*_}
+use native.Mathlib.Omega.{arith}
+use borrow.Author.Tests.{eqb-true, eqb-false}
+use lib.Dec.{eqb}
+use Rattle.cells.specs.Runs.{Bytes, spliced}
+use Rattle.signed.specs.SignedText.{ordersNonce}
+use Rattle.window.specs.Window.{stepOf}
+use Rattle.reply.specs.Replies.{invalidation}
+use Rattle.reply.proofs.Lengths.{length-invalidation}
+use Rattle.table.specs.declared.session.Record.{Record}
+use Rattle.table.specs.declared.place.Place.{Place}
+use Rattle.table.specs.declared.place.Place.the-variants.{At}
+use Rattle.table.specs.Record.{size, recordBytes, freed, windowOf, withWindow}
+use Rattle.table.specs.Table.{recordAt}
+use Rattle.table.proofs.Sessions.{recordAt-fits, stepped-fits}
+use Rattle.gate.specs.Calls.{Request}
+use Rattle.gate.specs.Outcome.{untouched}
+use Rattle.gate.specs.Checks.{first}
+use Rattle.gate.specs.Session.{placeOf, heldAt, with-record, without, steppedIn}
+use Rattle.gate.specs.Judge as Judge
+use Rattle.gate.specs.Judge.{ivOf, nonceOf, tokenOf, recordOf, stepped, requestChecks, accepted, invalidated, invalidates, requestOutcome, judged}
+use Rattle.gate.proofs.Numbers.{Exactly, exactly-one, first-among, first-exactly, request-numbered}
+use Rattle.demands.proofs.Rising.{Beyond}
+use Rattle.demands.proofs.Stored.{Replaced, replaced}
+use Rattle.demands.proofs.Named.{SessionAt, session-found, somewhere, freed-there, freed-nowhere}
+use Rattle.demands.proofs.Passed.{Passed, passed, found-passed}
+use Rattle.demands.proofs.Carried.{nonce-small}
+use Rattle.demands.proofs.Effects.{judgeNumbers, TenOrThirteen, Invalidated, Moved, Accepted, JudgeEffects, fronted-replied}
+
+freed-by : (q : Request) (n : ℕ) (table : List ℕ) → Passed q table → Invalidated q table (invalidated n q table)
+unfolding invalidated
+freed-by q n table p = record {
+  long = length-invalidation (tokenOf q .key);
+  reply = fronted-replied n (invalidation (tokenOf q .key)) (q .reply) (without table (ivOf q));
+  freed = λ place s. freed-there table (ivOf q) place (p .well) s;
+  kept = λ none. freed-nowhere table (ivOf q) none;
+}
+
+stepped-there : (q : Request) (table : List ℕ) (place : ℕ) → Passed q table → SessionAt table (ivOf q) place → Bytes table
+    → ordersNonce (q .orders .mask) ≡ true → Moved table (Judge.tableOf q table) place (nonceOf q)
+unfolding Judge.tableOf steppedIn stepped recordOf
+stepped-there q table place p s b o =
+    let r = recordAt table place in
+    let next = withWindow r (stepOf (windowOf r) (nonceOf q) .window) in
+    let small = stepped-fits r (nonceOf q) (recordAt-fits table place (s .within) b) (nonce-small q table p) in
+    let there : placeOf table (ivOf q) ≡ At place = session-found table (ivOf q) place (p .well) s in
+    let same : Judge.tableOf q table ≡ spliced table (size * place) (recordBytes next) =
+    ap (λ (t : Bool). cond t (with-record table (placeOf table (ivOf q)) (withWindow (recordOf q table) (stepped q table .window))) table) o
+    ∙ ap (λ (w : Place). with-record table w (withWindow (heldAt table w) (stepOf (windowOf (heldAt table w)) (nonceOf q) .window))) there in
+    let all = subst (λ (after : List ℕ). Replaced table after place next) (sym same) (replaced table place next (s .within) small) in
+    record {
+      session = all;
+      used = ap (λ (x : Record). x .used) (all .here);
+      iv = ap (λ (x : Record). x .iv) (all .here);
+      expiry = ap (λ (x : Record). x .expiry) (all .here);
+    }
+
+accepts : (q : Request) (table : List ℕ) → first (requestChecks q table) ≡ 0 → Accepted q table (accepted q table)
+unfolding accepted Judge.tableOf steppedIn
+accepts q table e =
+    let p = passed q table (inl e) in
+    let s = somewhere table (ivOf q) (found-passed q table (inl e)) in
+    record {
+      session = s;
+      reply = fronted-replied 0 (tokenOf q .id) (q .reply) (Judge.tableOf q table);
+      ordered = λ b o. stepped-there q table (s .place) p (s .is) b o;
+      unordered = λ o. rw o;
+    }
+
+ten-or-thirteen : (n : ℕ) → invalidates n ≡ true → TenOrThirteen n
+ten-or-thirteen n e = by (eqb n 10) refl e
+  where
+    by : (t : Bool) → eqb n 10 ≡ t → (t || eqb n 13) ≡ true → TenOrThirteen n
+    by true p f = inl (eqb-true n 10 p)
+    by false p f = inr (eqb-true n 13 f)
+
+two-invalidate : (n : ℕ) → TenOrThirteen n → invalidates n ≡ true
+two-invalidate n (inl e) = ap invalidates e
+two-invalidate n (inr e) = ap invalidates e
+
+beyond-nine : (n : ℕ) → TenOrThirteen n → Beyond 9 n
+beyond-nine n (inl e) = inr (omega arith)
+beyond-nine n (inr e) = inr (omega arith)
+
+-- the three ways in which a judged request ends
+judge-zero : (q : Request) (table : List ℕ) → first (requestChecks q table) ≡ 0 → JudgeEffects q table (accepted q table)
+unfolding accepted
+judge-zero q table e = record {
+  listed = List·Memᴰ·head refl;
+  in-order = subst (Exactly (requestChecks q table)) e (first-exactly (requestChecks q table) (request-numbered q table));
+  refused = λ h two. absurd (omega arith);
+  invalidated = λ two. absurd (true≢false (sym (two-invalidate 0 two)));
+  idle = λ o. absurd (omega arith);
+  passed = λ o. accepts q table e;
+}
+
+judge-freed : (q : Request) (table : List ℕ) (n : ℕ) → first (requestChecks q table) ≡ n → List·Memᴰ n judgeNumbers → invalidates n ≡ true
+    → JudgeEffects q table (invalidated n q table)
+unfolding invalidated
+judge-freed q table n e m u =
+    let two = ten-or-thirteen n u in
+    let p = passed q table (rw e (beyond-nine n two)) in
+    record {
+      listed = m;
+      in-order = subst (Exactly (requestChecks q table)) e (first-exactly (requestChecks q table) (request-numbered q table));
+      refused = λ h other. absurd (other two);
+      invalidated = λ two. freed-by q n table p;
+      idle = λ o. somewhere table (ivOf q) (found-passed q table (inr (omega arith)));
+      passed = λ o. absurd (true≢false (sym u ∙ ap invalidates o));
+    }
+
+judge-kept : (q : Request) (table : List ℕ) (n : ℕ) → first (requestChecks q table) ≡ n → List·Memᴰ n judgeNumbers → eqb n 0 ≡ false
+    → invalidates n ≡ false → JudgeEffects q table (untouched n (q .reply) table)
+judge-kept q table n e m z u = record {
+  listed = m;
+  in-order = subst (Exactly (requestChecks q table)) e (first-exactly (requestChecks q table) (request-numbered q table));
+  refused = λ h other. record { long = refl; reply = refl; table = refl };
+  invalidated = λ two. absurd (true≢false (sym (two-invalidate n two) ∙ u));
+  idle = λ o. absurd (true≢false (sym (ap invalidates o) ∙ u));
+  passed = λ o. absurd (eqb-false n 0 z o);
+}
+
+judge-by : (q : Request) (table : List ℕ) (n : ℕ) → first (requestChecks q table) ≡ n → List·Memᴰ n judgeNumbers
+    → JudgeEffects q table (requestOutcome n q table)
+judge-by q table n e m = by (eqb n 0) refl (invalidates n) refl
+  where
+    by : (t : Bool) → eqb n 0 ≡ t → (u : Bool) → invalidates n ≡ u
+        → JudgeEffects q table (cond t (accepted q table) (cond u (invalidated n q table) (untouched n (q .reply) table)))
+    by true z u v = judge-zero q table (e ∙ eqb-true n 0 z)
+    by false z true v = judge-freed q table n e m v
+    by false z false v = judge-kept q table n e m z v
+
+pub judge-effects : (q : Request) (table : List ℕ) → JudgeEffects q table (judged q table)
+unfolding judged requestChecks
+judge-effects q table = judge-by q table (first (requestChecks q table)) refl (first-among (requestChecks q table))
+
+pub request-number : (q : Request) (table : List ℕ) → judged q table .number ≡ first (requestChecks q table)
+request-number q table =
+    exactly-one (requestChecks q table) (judged q table .number) (first (requestChecks q table))
+    (judge-effects q table .in-order) (first-exactly (requestChecks q table) (request-numbered q table))

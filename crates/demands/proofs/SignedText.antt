@@ -1,0 +1,70 @@
+-- The signed text that judging uses is document 01's, of the bytes that the request carries: 'h, ah, eah (empty if absent), n if carried, t, lt (all
+-- as decoded bytes), covered values by rising bit, extra values in eah order, path, body'. So for every request that passed checks 1 to 9.
+-- Assumes nothing.
+use mathlib.Core.Path.{_≡_, refl, ap, _∙_}
+use mathlib.Core.Bool.{Bool, true, false, cond}
+use mathlib.Core.List.{List}
+use mathlib.Core.Option.{none, some}
+use Prim.Native.Nat.{ℕ, _%_}
+use native.Mathlib.Omega.{arith}
+use borrow.Author.Tests.{eqb-true}
+use lib.Dec.{eqb}
+use Rattle.armor.specs.Numerals.{numberBytes, maskOf}
+use Rattle.armor.specs.Keys.{nameT, nameLt, nameN, nameH, nameAh, nameEah}
+use Rattle.armor.specs.Fields.{times, the}
+use Rattle.armor.proofs.Numerals.{maskOf-maskBytes}
+use Rattle.armor.proofs.Carried.{time-bytes, last-time-bytes, nonce-bytes}
+use Rattle.signed.specs.SignedText as Text
+use Rattle.signed.specs.SignedText.{Signed, signedText, coveredValues, signedOf, requestText}
+use Rattle.gate.specs.Calls.{Request}
+use Rattle.gate.specs.Judge.{fieldsOf, nonceOf, timeOf, lastTimeOf, textOf}
+use Rattle.demands.proofs.Passed.{Passed}
+use Rattle.demands.proofs.Carried.{hash-ordered, mask-ordered, names-ordered, mask-fits, nonce-ordered}
+
+-- what a request carries under a name, as decoded bytes; nothing where the name is absent
+abbrev pub carries : List ℕ → Request → List ℕ
+carries name q = the name (fieldsOf q)
+
+-- how often it carries the name
+abbrev pub carriesTimes : List ℕ → Request → ℕ
+carriesTimes name q = times name (fieldsOf q)
+
+-- what is signed, as carried
+abbrev pub signedBy : Request → Signed
+signedBy q = record {
+  h = carries nameH q;
+  ah = carries nameAh q;
+  eah = carries nameEah q;
+  n = cond (eqb (carriesTimes nameN q) 1) (some (carries nameN q)) none;
+  t = carries nameT q;
+  lt = carries nameLt q;
+  values = coveredValues (maskOf (carries nameAh q)) (carries nameEah q) (q .aside) (q .head);
+  path = q .path;
+  body = q .body;
+}
+
+pub time-carried : (q : Request) (table : List ℕ) → Passed q table → numberBytes (timeOf q) ≡ carries nameT q
+unfolding timeOf fieldsOf
+time-carried q table p = time-bytes (q .value) (p .value)
+
+pub last-time-carried : (q : Request) (table : List ℕ) → Passed q table → numberBytes (lastTimeOf q) ≡ carries nameLt q
+unfolding lastTimeOf fieldsOf
+last-time-carried q table p = last-time-bytes (q .value) (p .value)
+
+pub nonce-carried : (q : Request) (table : List ℕ) → Passed q table → carriesTimes nameN q ≡ 1 → numberBytes (nonceOf q) ≡ carries nameN q
+unfolding nonceOf fieldsOf
+nonce-carried q table p one = nonce-bytes (q .value) (p .value) one
+
+n-carried : (q : Request) (table : List ℕ) → Passed q table
+    → Text.nonceOf (q .orders .mask) (nonceOf q) ≡ cond (eqb (carriesTimes nameN q) 1) (some (carries nameN q)) none
+unfolding Text.nonceOf
+n-carried q table p = rw (nonce-ordered q table p) (by (eqb (q .orders .mask % 2) 1) refl)
+  where
+    by : (t : Bool) → eqb (q .orders .mask % 2) 1 ≡ t → cond t (some (numberBytes (nonceOf q))) none ≡ cond t (some (carries nameN q)) none
+    by true e = ap some (nonce-carried q table p (nonce-ordered q table p ∙ eqb-true (q .orders .mask % 2) 1 e))
+    by false e = refl
+
+pub text-carried : (q : Request) (table : List ℕ) → Passed q table → textOf q ≡ signedText (signedBy q)
+unfolding textOf requestText signedOf
+text-carried q table p =
+    rw (hash-ordered q table p, mask-ordered q table p, names-ordered q table p, maskOf-maskBytes (q .orders .mask) (omega (arith, mask-fits q table p)), ← (n-carried q table p), ← (time-carried q table p), ← (last-time-carried q table p))

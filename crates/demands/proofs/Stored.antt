@@ -1,0 +1,69 @@
+-- A table's bytes with one record laid over a place: that record stands there, and every other byte and record is as before.
+-- Assumes nothing.
+use mathlib.Core.Path.{_≡_, sym, ap, _∙_}
+use mathlib.Core.List.{List, _++_}
+use mathlib.Core.Logic.{_⊎_, inl, inr}
+use Prim.Native.Nat.{ℕ, _+_, _-_, _*_, _≤_, _<_}
+use native.Mathlib.Omega.{arith}
+use lib.ListN.{length, getD, take, drop, set, List·getD-append, length-take}
+use lib.Seq.{getD-take, getD-drop, getD-append-add}
+use Rattle.cells.specs.Runs.{spliced}
+use Rattle.cells.proofs.Runs.{length-spliced}
+use Rattle.table.specs.declared.session.Record.{Record}
+use Rattle.table.specs.Record.{size, recordBytes, Fits, freed}
+use Rattle.table.specs.declared.place.Place.the-variants.{At}
+use Rattle.table.specs.Table.{places, recordAt, records, taken}
+use Rattle.table.proofs.Records.{length-recordBytes, length-records, records-at, records-stored}
+use Rattle.table.proofs.Found.{taken-at}
+use Rattle.table.proofs.Stored.{stored-here, stored-other}
+
+-- the byte is none of the record's at a place
+abbrev pub Outside : ℕ → ℕ → Type 0
+Outside place i = (i < size * place) ⊎ (size * place + size ≤ i)
+
+-- the table after is the one before with this record at a place
+pub record Replaced (before after : List ℕ) (place : ℕ) (r : Record) : Type 0 where
+  pub within : place < places before
+  pub here : recordAt after place ≡ r
+  pub others : (j : ℕ) → j < places before → (j ≡ place → ⊥) → recordAt after j ≡ recordAt before j
+  pub bytes : (i : ℕ) → Outside place i → getD after i 0 ≡ getD before i 0
+  pub as-long : length after ≡ length before
+
+spliced-outside : (xs ys : List ℕ) (at i : ℕ) → at + length ys ≤ length xs → (i < at) ⊎ (at + length ys ≤ i)
+    → getD (spliced xs at ys) i 0 ≡ getD xs i 0
+unfolding spliced
+spliced-outside xs ys at i h (inl l) =
+    let long = length-take at xs in
+    List·getD-append (take at xs) (ys ++ drop (length ys) (drop at xs)) 0 i (omega arith) ∙ getD-take at xs i 0 l
+spliced-outside xs ys at i h (inr g) =
+    let long : length (take at xs) ≡ at = length-take at xs ∙ omega arith in
+    let k = i - (at + length ys) in
+    let split : i ≡ length (take at xs) + (length ys + k) = omega arith in
+    let back : at + (length ys + k) ≡ i = omega arith in
+    ap (λ (n : ℕ). getD (take at xs ++ (ys ++ drop (length ys) (drop at xs))) n 0) split
+    ∙ getD-append-add (take at xs) (ys ++ drop (length ys) (drop at xs)) (length ys + k) 0
+    ∙ getD-append-add ys (drop (length ys) (drop at xs)) k 0
+    ∙ getD-drop (length ys) (drop at xs) k 0
+    ∙ getD-drop at xs (length ys + k) 0
+    ∙ ap (λ (n : ℕ). getD xs n 0) back
+
+pub replaced : (table : List ℕ) (place : ℕ) (r : Record) → place < places table → Fits r
+    → Replaced table (spliced table (size * place) (recordBytes r)) place r
+replaced table place r h f =
+    let after = spliced table (size * place) (recordBytes r) in
+    let long = length-recordBytes r (f .iv) in
+    let same : length after ≡ length table = length-spliced table (recordBytes r) (size * place) (omega arith) in
+    let held : (j : ℕ) → j < places table → recordAt after j ≡ getD (set (records table) place r) j freed =
+    λ j l. sym (records-at after j (omega arith)) ∙ ap (λ (rs : List Record). getD rs j freed) (records-stored table place r h f) in
+    let inside : place < length (records table) = rw length-records h in
+    record {
+      within = h;
+      here = held place h ∙ stored-here (records table) place r inside;
+      others = λ j l apart. held j l ∙ stored-other (records table) place r inside j apart ∙ records-at table j l;
+      bytes = λ i o. spliced-outside table (recordBytes r) (size * place) i (omega arith) (rw long o);
+      as-long = same;
+    }
+
+-- a place that a setup takes is one of the table's
+pub taken-within : (table : List ℕ) (clock place : ℕ) → taken (records table) clock ≡ At place → place < places table
+taken-within table clock place e = rw length-records at (taken-at (records table) clock place e .0)

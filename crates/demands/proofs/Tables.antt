@@ -1,0 +1,74 @@
+-- The sessions of a table that is lent as bytes: an empty table, one with a record stored, and one with a session's record freed.
+-- Assumes nothing.
+use mathlib.Core.Path.{_≡_, refl, sym, ap, subst, _∙_}
+use mathlib.Core.List.{List, [], _∷_}
+use Prim.Native.Nat.{ℕ, zero, suc, _+_, _*_, _<_}
+use native.Mathlib.Omega.{arith}
+use lib.ListN.{length, getD, set, replicate, length-replicate, replicate-append-replicate}
+use Rattle.cells.specs.Runs.{spliced}
+use Rattle.cells.specs.Numbers.{number}
+use Rattle.cells.proofs.Runs.{length-spliced}
+use Rattle.table.specs.declared.session.Record.{Record}
+use Rattle.table.specs.declared.place.Place.{Place}
+use Rattle.table.specs.declared.place.Place.the-variants.{At, Nowhere}
+use Rattle.table.specs.Record.{size, recordBytes, recordOf, Fits, freed}
+use Rattle.table.specs.Table.{places, recordAt, chunks, records}
+use Rattle.table.proofs.Records.{length-recordBytes, length-records, records-at, records-stored, freed-fits}
+use Rattle.table.proofs.Found.{found-at}
+use Rattle.gate.specs.Session.{placeOf, with-record, without}
+use Rattle.demands.specs.History.{emptyTable}
+use Rattle.demands.proofs.Sessions.{Sessions, free-sessions, freed-sessions}
+
+-- a table of n records, the IVs set up so far, and the nonces accepted so far under each IV
+pub record Standing (n : ℕ) (table : List ℕ) (ivs : List (List ℕ)) (nonces : List ℕ → List ℕ) : Type 0 where
+  pub long : length table ≡ size * n
+  pub sessions : Sessions (records table) ivs nonces
+
+-- the records of an empty table are free
+empty-chunks : (n : ℕ) → chunks n (replicate (size * n) 0) ≡ replicate n freed
+unfolding recordOf number
+empty-chunks zero = refl
+empty-chunks (suc n) =
+    let split : size * suc n ≡ size + size * n = omega arith in
+    ap (λ (k : ℕ). chunks (suc n) (replicate k 0)) split
+    ∙ ap (λ (l : List ℕ). chunks (suc n) l) (sym (replicate-append-replicate size (size * n) 0))
+    ∙ ap (λ (l : List Record). freed ∷ l) (empty-chunks n)
+
+empty-records : (n : ℕ) → records (emptyTable n) ≡ replicate n freed
+unfolding records
+empty-records n =
+    let all : places (emptyTable n) ≡ n = omega (arith, length-replicate {A = ℕ} (size * n) 0) in
+    ap (λ (k : ℕ). chunks k (emptyTable n)) all ∙ empty-chunks n
+
+pub empty-standing : (n : ℕ) → Standing n (emptyTable n) [] (λ iv. [])
+empty-standing n = record {
+  long = length-replicate {A = ℕ} (size * n) 0;
+  sessions = subst (λ (rs : List Record). Sessions rs [] (λ iv. [])) (sym (empty-records n)) (free-sessions n);
+}
+
+module _ (n : ℕ) (table : List ℕ) (ivs : List (List ℕ)) (nonces : List ℕ → List ℕ) (s : Standing n table ivs nonces) where
+  within : (i : ℕ) → i < length (records table) → i < places table
+  within i h = omega (arith, length-records table)
+
+  -- the record at a place
+  pub held : (i : ℕ) → i < length (records table) → recordAt table i ≡ getD (records table) i freed
+  held i h = sym (records-at table i (within i h))
+
+  -- a record stored
+  pub stored-standing : (i : ℕ) (r : Record) {others : List (List ℕ)} {more : List ℕ → List ℕ} → i < length (records table) → Fits r
+      → Sessions (set (records table) i r) others more → Standing n (spliced table (size * i) (recordBytes r)) others more
+  stored-standing i r {others} {more} h f t = record {
+    long = length-spliced table (recordBytes r) (size * i) (omega (arith, within i h, length-recordBytes r (f .iv))) ∙ s .long;
+    sessions = subst (λ (rs : List Record). Sessions rs others more) (sym (records-stored table i r (within i h) f)) t;
+  }
+
+  -- the session's record freed, if there is one
+  pub without-standing : (iv : List ℕ) → Standing n (without table iv) ivs nonces
+  unfolding without
+  without-standing iv = by (placeOf table iv) refl
+    where
+      by : (p : Place) → placeOf table iv ≡ p → Standing n (with-record table p freed) ivs nonces
+      by (At i) e =
+          let h = found-at (records table) iv i e .0 in
+          stored-standing i freed h freed-fits (freed-sessions (records table) ivs nonces (s .sessions) i h)
+      by Nowhere e = s

@@ -1,0 +1,44 @@
+-- Demand 1: 'A bad request gets its number from our list, by the order given there. Only the refusals 10 and 13 alter the table, by freeing
+-- that session's record, and only they write a reply; the others touch nothing.' For each of the three calls, over everything that can be lent.
+-- Assumes nothing.
+use mathlib.Core.List.{List, []}
+use Prim.Native.Nat.{ℕ, _≤_}
+use Rattle.gate.specs.Calls.{Setup, Request}
+use Rattle.gate.specs.Setup.{setUp}
+use Rattle.gate.specs.Judge.{judged}
+use Rattle.gate.specs.End.{ended}
+use Rattle.demands.specs.History.{Call, setting-up, judging, ending, answer}
+use Rattle.demands.proofs.Effects.{TenOrThirteen, Kept, SetupEffects, JudgeEffects, EndEffects}
+use Rattle.demands.proofs.Setups.{setup-effects}
+use Rattle.demands.proofs.Requests.{judge-effects}
+use Rattle.demands.proofs.Endings.{end-effects}
+
+-- each call's number is one that document 01 gives it, by the order given there, and what it does follows from the number
+pub setup : (s : Setup) (table : List ℕ) → SetupEffects s table (setUp s table)
+setup = setup-effects
+
+pub judge : (q : Request) (table : List ℕ) → JudgeEffects q table (judged q table)
+judge = judge-effects
+
+pub end : (iv table : List ℕ) → EndEffects iv table (ended iv table)
+end = end-effects
+
+-- what is lent to a call for its reply; no buffer is lent to an ending
+abbrev pub bufferOf : Call → List ℕ
+bufferOf (setting-up s) = s .reply
+bufferOf (judging q) = q .reply
+bufferOf (ending iv) = []
+
+-- 10 and 13 of a request
+abbrev pub Freeing : Call → ℕ → Type 0
+Freeing (setting-up s) n = ⊥
+Freeing (judging q) n = TenOrThirteen n
+Freeing (ending iv) n = ⊥
+
+-- THE THEOREM: only the refusals 10 and 13 alter the table, and only they write a reply; the others touch nothing
+pub untouched-else : (c : Call) (table : List ℕ) → 1 ≤ answer c table .number → (Freeing c (answer c table .number) → ⊥)
+    → Kept (bufferOf c) table (answer c table)
+untouched-else (setting-up s) table h f = setup s table .refused h
+untouched-else (judging q) table h f = judge q table .refused h f
+untouched-else (ending iv) table h f =
+    record { long = end iv table .no-reply .0; reply = end iv table .no-reply .1; table = end iv table .refused h }

@@ -1,0 +1,96 @@
+-- A history of calls on one table, read off their answers and never off the table: demand 2, 'on a table that began empty and that only
+-- these calls changed'. Calls, IVs and nonces stand with the latest first.
+-- Assumes nothing.
+use mathlib.Core.Path.{_≡_}
+use mathlib.Core.Bool.{Bool, false, cond, not, _&&_, _||_}
+use mathlib.Core.List.{List, [], _∷_}
+use Prim.Native.Nat.{ℕ, _*_}
+use lib.Dec.{eqb}
+use lib.ListN.{replicate}
+use Rattle.cells.specs.Runs.{same}
+use Rattle.armor.specs.Fields.{among}
+use Rattle.signed.specs.SignedText.{ordersNonce}
+use Rattle.table.specs.Record.{size}
+use Rattle.window.specs.History.{keep}
+use Rattle.gate.specs.Calls.{Setup, Request}
+use Rattle.gate.specs.Outcome.{Outcome}
+use Rattle.gate.specs.Checks.{Check, first}
+use Rattle.gate.specs.Setup.{setUp}
+use Rattle.gate.specs.Judge.{ivOf, nonceOf, requestChecks, judged}
+use Rattle.gate.specs.End.{ended}
+
+-- a call with what is lent to it, the table apart
+pub data Call : Type 0 where
+  setting-up : Setup → Call
+  judging : Request → Call
+  ending : List ℕ → Call
+
+abbrev pub answer : Call → List ℕ → Outcome
+answer (setting-up s) table = setUp s table
+answer (judging q) table = judged q table
+answer (ending iv) table = ended iv table
+
+-- a table of n free records
+abbrev pub emptyTable : ℕ → List ℕ
+emptyTable n = replicate (size * n) 0
+
+-- the table after some calls: each call got the table that the one before it left
+unfoldable pub after : List ℕ → List Call → List ℕ
+after table [] = table
+after table (call ∷ earlier) = answer call (after table earlier) .table
+
+-- with the nonce of a call, if it is a request with this IV and with nonces ordered that was answered 0
+abbrev pub withAccepted : List ℕ → Call → ℕ → List ℕ → List ℕ
+withAccepted iv (setting-up s) number nonces = nonces
+withAccepted iv (judging q) number nonces =
+    keep (eqb number 0 && (ordersNonce (q .orders .mask) && same (ivOf q) iv)) (nonceOf q) nonces
+withAccepted iv (ending other) number nonces = nonces
+
+-- the nonces accepted in the session of an IV
+unfoldable pub acceptedIn : List ℕ → List ℕ → List Call → List ℕ
+acceptedIn iv table [] = []
+acceptedIn iv table (call ∷ earlier) =
+    withAccepted iv call (answer call (after table earlier) .number) (acceptedIn iv table earlier)
+
+-- with the IV of a call, if it is a setup that was answered 0
+abbrev pub withSetUp : Call → ℕ → List (List ℕ) → List (List ℕ)
+withSetUp (setting-up s) number ivs = cond (eqb number 0) (s .iv ∷ ivs) ivs
+withSetUp (judging q) number ivs = ivs
+withSetUp (ending iv) number ivs = ivs
+
+-- the IVs of the setups that were answered 0
+unfoldable pub setUpIn : List ℕ → List Call → List (List ℕ)
+setUpIn table [] = []
+setUpIn table (call ∷ earlier) = withSetUp call (answer call (after table earlier) .number) (setUpIn table earlier)
+
+-- with the IV that is lent to a call, if it is a setup
+abbrev pub withLent : Call → List (List ℕ) → List (List ℕ)
+withLent (setting-up s) ivs = s .iv ∷ ivs
+withLent (judging q) ivs = ivs
+withLent (ending iv) ivs = ivs
+
+-- the IVs that were lent to setups, whatever the answer
+unfoldable pub lentIn : List Call → List (List ℕ)
+lentIn [] = []
+lentIn (call ∷ earlier) = withLent call (lentIn earlier)
+
+-- no IV stands there twice
+abbrev pub Apart : List (List ℕ) → Type 0
+Apart [] = Unit
+Apart (iv ∷ ivs) = (among ivs iv ≡ false) × Apart ivs
+
+-- the checks whose numbers pass a test
+abbrev pub only : (ℕ → Bool) → List Check → List Check
+only test [] = []
+only test (c ∷ cs) = cond (test (c .number)) (c ∷ only test cs) (only test cs)
+
+-- those of the nonce
+abbrev pub ofNonce : ℕ → Bool
+ofNonce n = eqb n 15 || eqb n 16
+
+abbrev pub ofOthers : ℕ → Bool
+ofOthers n = not (ofNonce n)
+
+-- a request passes the other checks: none of them is given
+abbrev pub PassesOthers : Request → List ℕ → Type 0
+PassesOthers q table = first (only ofOthers (requestChecks q table)) ≡ 0

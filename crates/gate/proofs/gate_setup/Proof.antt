@@ -1,0 +1,60 @@
+-- `gate_setup` meets its contract.
+-- Assumes nothing.
+use mathlib.Core.Path.{_∙_}
+use borrow.Author.Needs.{needs}
+use Rattle.orders.proofs.Orders.{good-mask, good-extra, short-extra}
+use Rattle.gate.specs.Calls.{Setup, ordersOf, setupOf}
+use Rattle.gate.specs.Starts.{Starts}
+use Rattle.gate.proofs.Starting.{lent, fitting, ordered, starts, refuses}
+use Rattle.gate.proofs.gate_setup.Statement.{statement}
+use Rattle.gate.proofs.gate_setup.Tie as tie
+
+abbrev asked : tie.Start → Setup
+asked b =
+    let a = b .args in
+    setupOf (ordersOf (a .mask) (a .extra .now) (a .request-life) (a .idle) (a .session-life)) (a .clock) (a .server-key .now) (a .session-key .now) (a .iv .now) (a .session-id .now) (a .value .now) (a .reply .now)
+
+abbrev entry : tie.After-known-told → tie.Start
+entry c = c .before .before .before .before .before .before .before .before .before .before .before .before .before .before
+
+chosen : (c : tie.After-known-told) → Starts (asked (entry c)) (entry c .args .table .now) (c .before .start .given .0 .0) (c .before .start .given .0 .1 .0)
+chosen c = rw (c .before .start .given .1) at (c .before .before .before .decide .ensures)
+
+apply-requires : tie.Need-apply-requires
+apply-requires c κs =
+    let start = chosen (c .before .before) in
+    let orders = ordered _ _ (start .none) in
+    let sizes = lent _ _ (fitting _ _ (start .none)) in (
+      good-mask _ _ _ orders,
+      short-extra _ (good-extra _ _ _ orders),
+      sizes .server-key,
+      sizes .session-key,
+      sizes .iv,
+      sizes .session-id-some,
+      sizes .session-id-fits,
+      start .within,
+      sizes .reply,
+    )
+
+returns : tie.Need-returns
+returns c =
+    let known = c .before .before .before .before .before .before .before in
+    c .before .before .before .before .apply .ensures ∙ starts _ _ _ _ (chosen known)
+
+returns-2 : tie.Need-returns-2
+returns-2 c = refuses _ _ _ (rw (c .before .start2 .given .1) at (c .before .before .before .decide .ensures))
+
+pub gate-setup-spec : {M : Type 1} → statement M
+gate-setup-spec =
+    tie.close
+    (tie.spec
+    (λ c κs. search needs)
+    (λ c. search needs)
+    apply-requires
+    (λ c. search needs)
+    (λ c. search needs)
+    (λ c. search needs)
+    returns
+    (λ c. search needs)
+    (λ c. search needs)
+    returns-2)

@@ -1,0 +1,36 @@
+-- `setup::until` meets its contract.
+-- Assumes nothing.
+use Prim.Native.Nat.{_+_}
+use native.Mathlib.Omega.{arith}
+use borrow.Author.Needs.{needs}
+use borrow.Author.Tests.{eq-eqb, ne-eqb, lt-ltb, le-ltb}
+use Rattle.window.specs.Window.{bit}
+use Rattle.gate.specs.Starts.{untilChecks}
+use Rattle.gate.proofs.setup.until.Statement.{statement}
+use Rattle.gate.proofs.setup.until.Tie as tie
+
+returns : tie.Need-returns
+unfolding untilChecks bit
+returns c = record { is = simp (ne-eqb _ _ (c .if1 .taken)); some = search needs; most = search needs }
+
+returns-2 : tie.Need-returns-2
+unfolding untilChecks bit
+returns-2 c =
+    let a = c .before .before .args in
+    record {
+      is = simp (eq-eqb _ _ (c .before .if1 .left), lt-ltb 4294967295 (a .clock + a .life) (omega arith));
+      some = search needs;
+      most = search needs;
+    }
+
+returns-3 : tie.Need-returns-3
+unfolding untilChecks bit
+returns-3 c =
+    let a = c .before .before .args in
+    record {
+      none = simp (eq-eqb _ _ (c .before .if1 .left), le-ltb 4294967295 (a .clock + a .life) (omega arith));
+      is = search needs;
+    }
+
+pub until-spec : {M : Type 1} → statement M
+until-spec = tie.close (tie.spec returns (λ c. search needs) returns-2 (λ c. search needs) returns-3)

@@ -1,0 +1,130 @@
+// The login gate: setting up a session, judging a request, and ending a session, for a proxy written in C.
+// Each call takes any numbers and bytes, and answers its number plus 256 times the reply's length.
+ghost use mathlib.Core.Path.{_≡_};
+ghost use mathlib.Core.List.{[]};
+ghost use Rattle.gate.specs.Calls.{ordersOf, setupOf, requestOf};
+ghost use Rattle.gate.specs.Outcome.{outcome};
+ghost use Rattle.gate.specs.Setup.{setUp};
+ghost use Rattle.gate.specs.Judge.{judged};
+ghost use Rattle.gate.specs.End.{ended};
+use setup::Start;
+use table::place;
+use table::place::Place;
+use table::rule;
+use table::session;
+
+mod admitting;
+mod judge;
+mod reading;
+mod records;
+mod setup;
+mod sizes;
+mod vouching;
+
+// Sets up a session.
+#[no_mangle]
+pub extern "C" fn gate_setup(
+    mask: u64,
+    extra: &[u8],
+    request_life: u32,
+    idle: u32,
+    session_life: u32,
+    clock: u32,
+    server_key: &[u8],
+    session_key: &[u8],
+    iv: &[u8],
+    session_id: &[u8],
+    value: &[u8],
+    table: &mut [u8],
+    reply: &mut [u8],
+) -> u32
+    ensures { λ r. ⌜ outcome r (now (reply .exit)) (now (table .exit)) ≡ setUp (setupOf (ordersOf mask (now (extra .entry)) «request_life» idle «session_life») clock (now («server_key» .entry)) (now («session_key» .entry)) (now (iv .entry)) (now («session_id» .entry)) (now (value .entry)) (now (reply .entry))) (now (table .entry)) ⌝ }
+{
+    let start = setup::decide(
+        mask,
+        extra,
+        request_life,
+        idle,
+        session_life,
+        clock,
+        server_key,
+        session_key,
+        iv,
+        session_id,
+        value,
+        table,
+        reply,
+    );
+    match start {
+        Start::At(place, expiry) => setup::apply(
+            mask,
+            extra,
+            server_key,
+            session_key,
+            iv,
+            session_id,
+            place,
+            expiry,
+            table,
+            reply,
+        ),
+        Start::Refused(number) => number,
+    }
+}
+
+// Judges a request.
+#[no_mangle]
+pub extern "C" fn gate_judge<'a>(
+    mask: u64,
+    extra: &[u8],
+    request_life: u32,
+    idle: u32,
+    session_life: u32,
+    clock: u32,
+    server_key: &[u8],
+    value: &[u8],
+    head: &'a [u8],
+    aside: &'a [u8],
+    path: &[u8],
+    body: &[u8],
+    table: &mut [u8],
+    reply: &mut [u8],
+) -> u32
+    ensures { λ r. ⌜ outcome r (now (reply .exit)) (now (table .exit)) ≡ judged (requestOf (ordersOf mask (now (extra .entry)) «request_life» idle «session_life») clock (now («server_key» .entry)) (now (value .entry)) (now (head .entry)) (now (aside .entry)) (now (path .entry)) (now (body .entry)) (now (reply .entry))) (now (table .entry)) ⌝ }
+{
+    let decision = judge::decide(
+        mask,
+        extra,
+        request_life,
+        idle,
+        session_life,
+        clock,
+        server_key,
+        value,
+        head,
+        aside,
+        path,
+        body,
+        table,
+        reply,
+    );
+    judge::apply(decision, table, reply)
+}
+
+// Ends the session that has this IV.
+#[no_mangle]
+pub extern "C" fn gate_end(iv: &[u8], table: &mut [u8]) -> u32
+    ensures { λ r. ⌜ outcome r [] (now (table .exit)) ≡ ended (now (iv .entry)) (now (table .entry)) ⌝ }
+{
+    if !sizes::end_fits(iv, table) {
+        return 1;
+    }
+    if !rule::well_formed(table) {
+        return 3;
+    }
+    let Place::At(_) = place::find(table, iv) else {
+        return 12;
+    };
+    records::free(table, iv);
+    0
+}

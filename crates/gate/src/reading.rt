@@ -1,0 +1,66 @@
+// Reading a request: checks 4 to 8.
+ghost use mathlib.Core.Path.{_≡_};
+ghost use mathlib.Core.Bool.{true};
+ghost use Prim.Native.Nat.{_≤_};
+ghost use lib.ListN.{length};
+ghost use Rattle.orders.specs.Extra.{goodExtra};
+ghost use Rattle.armor.specs.Value.{carried};
+ghost use Rattle.armor.specs.Fields.{requestFields};
+ghost use Rattle.armor.specs.Answers.{Holds};
+ghost use Rattle.gate.specs.Checks.{first};
+ghost use Rattle.gate.specs.Stages.{compareChecks, ReadIs};
+use armor::Answer;
+use armor::Request;
+
+// The number that the checks come to, and where it is 0 what the value carries.
+pub struct Reading {
+    pub number: u32,
+    pub request: Request,
+}
+
+pub fn read(mask: u64, extra: &[u8], value: &[u8], head: &[u8], aside: &[u8]) -> Reading
+    requires { ⌜ (goodExtra (now extra) ≡ true) × (length (now extra) ≤ 128) × (length (now value) ≤ 4096) ⌝ }
+    ensures { λ r. ⌜ ReadIs mask (now (extra .entry)) (now (value .entry)) (now (head .entry)) (now (aside .entry)) r ⌝ }
+{
+    let heard = armor::read_request(value);
+    let request = heard.request;
+    let answer = heard.answer;
+    match answer {
+        Answer::Grammar => Reading { number: 4, request },
+        Answer::Fields => Reading { number: 5, request },
+        Answer::Good => Reading {
+            number: compare(mask, extra, value, request, head, aside),
+            request,
+        },
+    }
+}
+
+// Checks 6 to 8.
+fn compare(
+    mask: u64,
+    extra: &[u8],
+    value: &[u8],
+    request: Request,
+    head: &[u8],
+    aside: &[u8],
+) -> u32
+    requires { ⌜ (goodExtra (now extra) ≡ true) × (length (now extra) ≤ 128) × (requestFields (carried (now value)) ≡ true) × Holds (now value) (carried (now value)) request ⌝ }
+    ensures { λ r. ⌜ r ≡ first (compareChecks mask (now (extra .entry)) (now (value .entry)) (now (head .entry)) (now (aside .entry))) ⌝ }
+{
+    if !lines::good(head) {
+        return 6;
+    }
+    if !lines::good(aside) {
+        return 6;
+    }
+    if lines::repeats(mask, extra, head) {
+        return 7;
+    }
+    if lines::repeats(mask, extra, aside) {
+        return 7;
+    }
+    if !coverage::as_ordered(value, request, mask, extra) {
+        return 8;
+    }
+    0
+}

@@ -1,0 +1,124 @@
+// Setting up a session: a decision that writes nothing, and its effect.
+ghost use mathlib.Core.Path.{_≡_};
+ghost use mathlib.Core.Bool.{true};
+ghost use Prim.Native.Nat.{_<_, _≤_, _^_};
+ghost use lib.ListN.{length};
+ghost use Rattle.table.specs.Table.{places};
+ghost use Rattle.gate.specs.Calls.{ordersOf, setupOf};
+ghost use Rattle.gate.specs.Outcome.{outcome};
+ghost use Rattle.gate.specs.Starts.{StartIs, UntilIs, OfferIs, RoomIs, startAt};
+use super::sizes;
+use armor::SetupRead;
+use orders::Checked;
+use table::place;
+use table::place::Place;
+use table::rule;
+use table::session;
+use window::time::Time;
+
+// The place that the new session takes, and its expiry; or the number of the refusal.
+pub enum Start {
+    At(usize, u32),
+    Refused(u32),
+}
+
+pub fn decide(
+    mask: u64,
+    extra: &[u8],
+    request_life: u32,
+    idle: u32,
+    session_life: u32,
+    clock: u32,
+    server_key: &[u8],
+    session_key: &[u8],
+    iv: &[u8],
+    session_id: &[u8],
+    value: &[u8],
+    table: &[u8],
+    reply: &[u8],
+) -> Start
+    ensures { λ r. ⌜ StartIs (setupOf (ordersOf mask (now (extra .entry)) «request_life» idle «session_life») clock (now («server_key» .entry)) (now («session_key» .entry)) (now (iv .entry)) (now («session_id» .entry)) (now (value .entry)) (now (reply .entry))) (now (table .entry)) r ⌝ }
+{
+    if !sizes::setup_fits(server_key, session_key, iv, session_id, value, table, reply) {
+        return Start::Refused(1);
+    }
+    let Checked::Good(limits) = orders::check(mask, extra, request_life, idle, session_life) else {
+        return Start::Refused(2);
+    };
+    if !rule::well_formed(table) {
+        return Start::Refused(3);
+    }
+    match offered(value, clock, limits.session_life) {
+        Offer::Refused(number) => Start::Refused(number),
+        Offer::Until(expiry) => room(table, iv, clock, expiry),
+    }
+}
+
+enum Offer {
+    Until(u32),
+    Refused(u32),
+}
+
+// What the client offers, and until when the session would last: checks 4, 5, 19 and 20.
+fn offered(value: &[u8], clock: u32, life: u32) -> Offer
+    requires { ⌜ length (now value) ≤ 4096 ⌝ }
+    ensures { λ r. ⌜ OfferIs (now (value .entry)) clock life r ⌝ }
+{
+    let read = armor::read_setup(value);
+    match read {
+        SetupRead::Grammar => Offer::Refused(4),
+        SetupRead::Fields => Offer::Refused(5),
+        SetupRead::Mask(mask) => until(mask, clock, life),
+    }
+}
+
+// Bit 2 of a client's mask is SHA-512.
+fn until(mask: u64, clock: u32, life: u32) -> Offer
+    ensures { λ r. ⌜ UntilIs mask clock life r ⌝ }
+{
+    if (mask >> 2) % 2 != 1 {
+        return Offer::Refused(19);
+    }
+    if 4294967295 - clock < life {
+        return Offer::Refused(20);
+    }
+    Offer::Until(clock + life)
+}
+
+// The place for the new session: checks 17 and 18.
+fn room(table: &[u8], iv: &[u8], clock: u32, expiry: u32) -> Start
+    ensures { λ r. ⌜ RoomIs (now (table .entry)) (now (iv .entry)) clock expiry r ⌝ }
+{
+    if let Place::At(_) = place::find(table, iv) {
+        return Start::Refused(17);
+    }
+    match place::to_take(table, Time(clock)) {
+        Place::At(place) => Start::At(place, expiry),
+        Place::Nowhere => Start::Refused(18),
+    }
+}
+
+// The effect of a setup that nothing refuses.
+pub fn apply(
+    mask: u64,
+    extra: &[u8],
+    server_key: &[u8],
+    session_key: &[u8],
+    iv: &[u8],
+    session_id: &[u8],
+    place: usize,
+    expiry: u32,
+    table: &mut [u8],
+    reply: &mut [u8],
+) -> u32
+    requires { ⌜ (mask < 2 ^ 56) × (length (now extra) ≤ 128) × (length (now «server_key») ≡ 32) × (length (now «session_key») ≡ 32) × (length (now iv) ≡ 12) × (1 ≤ length (now «session_id»)) × (length (now «session_id») ≤ 64) × (place < places (now table)) × (1024 ≤ length (now reply)) ⌝ }
+    ensures { λ r. ⌜ outcome r (now (reply .exit)) (now (table .exit)) ≡ startAt mask (now (extra .entry)) (now («server_key» .entry)) (now («session_key» .entry)) (now (iv .entry)) (now («session_id» .entry)) place expiry (now (table .entry)) (now (reply .entry)) ⌝ }
+{
+    let sealed = token::seal(server_key, iv, session_key, session_id, Time(expiry));
+    let s = sealed.s;
+    let s_len = sealed.s_len;
+    let tag = sealed.tag;
+    let len = reply::setup(reply, &s[..s_len], iv, &tag, session_key, mask, extra);
+    session::store(table, place, session::begin(iv, Time(expiry)));
+    256 * (len as u32)
+}

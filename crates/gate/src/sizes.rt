@@ -1,0 +1,113 @@
+// Whether what is lent has the sizes that document 01 names: check 1.
+ghost use mathlib.Core.Path.{_≡_};
+ghost use Rattle.gate.specs.Sizes.{between, tableFits, endFits};
+ghost use Rattle.gate.specs.Stages.{SetupFits, RequestFits};
+use table::session::SIZE;
+
+// Records in a table, bytes in what a request brings, and bytes in a reply buffer.
+const MOST_RECORDS: usize = 64;
+
+const MOST_VALUE: usize = 4096;
+
+const MOST_LINES: usize = 16384;
+
+const MOST_PATH: usize = 2048;
+
+const MOST_BODY: usize = 65536;
+
+const LEAST_REPLY: usize = 1024;
+
+fn between(low: usize, high: usize, run: &[u8]) -> bool
+    ensures { λ r. ⌜ r ≡ between low high (now (run .entry)) ⌝ }
+{
+    if run.len() < low {
+        return false;
+    }
+    run.len() <= high
+}
+
+fn table_fits(table: &[u8]) -> bool
+    ensures { λ r. ⌜ r ≡ tableFits (now (table .entry)) ⌝ }
+{
+    if table.len() % SIZE != 0 {
+        return false;
+    }
+    between(SIZE, MOST_RECORDS * SIZE, table)
+}
+
+pub fn setup_fits(
+    server_key: &[u8],
+    session_key: &[u8],
+    iv: &[u8],
+    session_id: &[u8],
+    value: &[u8],
+    table: &[u8],
+    reply: &[u8],
+) -> bool
+    ensures { λ r. ⌜ SetupFits (now («server_key» .entry)) (now («session_key» .entry)) (now (iv .entry)) (now («session_id» .entry)) (now (value .entry)) (now (table .entry)) (now (reply .entry)) r ⌝ }
+{
+    if server_key.len() != 32 {
+        return false;
+    }
+    if session_key.len() != 32 {
+        return false;
+    }
+    if iv.len() != 12 {
+        return false;
+    }
+    if !between(1, 64, session_id) {
+        return false;
+    }
+    if MOST_VALUE < value.len() {
+        return false;
+    }
+    if !table_fits(table) {
+        return false;
+    }
+    LEAST_REPLY <= reply.len()
+}
+
+pub fn request_fits(
+    server_key: &[u8],
+    value: &[u8],
+    head: &[u8],
+    aside: &[u8],
+    path: &[u8],
+    body: &[u8],
+    table: &[u8],
+    reply: &[u8],
+) -> bool
+    ensures { λ r. ⌜ RequestFits (now («server_key» .entry)) (now (value .entry)) (now (head .entry)) (now (aside .entry)) (now (path .entry)) (now (body .entry)) (now (table .entry)) (now (reply .entry)) r ⌝ }
+{
+    if server_key.len() != 32 {
+        return false;
+    }
+    if MOST_VALUE < value.len() {
+        return false;
+    }
+    if MOST_LINES < head.len() {
+        return false;
+    }
+    if MOST_LINES < aside.len() {
+        return false;
+    }
+    if !between(1, MOST_PATH, path) {
+        return false;
+    }
+    if MOST_BODY < body.len() {
+        return false;
+    }
+    if !table_fits(table) {
+        return false;
+    }
+    LEAST_REPLY <= reply.len()
+}
+
+pub fn end_fits(iv: &[u8], table: &[u8]) -> bool
+    ensures { λ r. ⌜ r ≡ endFits (now (iv .entry)) (now (table .entry)) ⌝ }
+{
+    if iv.len() != 12 {
+        return false;
+    }
+    table_fits(table)
+}

@@ -1,0 +1,63 @@
+// Whether the token opens, still holds, and its session key has signed the request: checks 9 to 11.
+ghost use mathlib.Core.Path.{_≡_};
+ghost use mathlib.Core.Bool.{true};
+ghost use Prim.Native.Nat.{_≤_};
+ghost use lib.ListN.{length, take};
+ghost use Rattle.orders.specs.Extra.{goodExtra};
+ghost use Rattle.signed.specs.SignedText.{requestText};
+ghost use Rattle.gate.specs.Stages.{VouchIs};
+use armor::Request;
+use token::Unsealed;
+use window::Nonce;
+use window::time::Time;
+
+// The number that the checks come to, and the token unless it is 9.
+pub struct Vouched {
+    pub number: u32,
+    pub token: Unsealed,
+}
+
+pub fn vouch<'a>(
+    mask: u64,
+    extra: &[u8],
+    clock: u32,
+    server_key: &[u8],
+    request: Request,
+    head: &'a [u8],
+    aside: &'a [u8],
+    path: &[u8],
+    body: &[u8],
+) -> Vouched
+    requires { ⌜ (goodExtra (now extra) ≡ true) × (length (now «server_key») ≡ 32) × (request .«s_len» ≤ 118) × (length (now head) ≤ 16384) × (length (now aside) ≤ 16384) × (length (now path) ≤ 2048) × (length (now body) ≤ 65536) ⌝ }
+    ensures { λ r. ⌜ VouchIs (now («server_key» .entry)) clock (request .iv) (take (request .«s_len») (request .s)) (request .tag) (request .c) (requestText mask (now (extra .entry)) (request .n) (request .t) (request .lt) (now (aside .entry)) (now (head .entry)) (now (path .entry)) (now (body .entry))) r ⌝ }
+{
+    let iv = request.iv;
+    let s = request.s;
+    let s_len = request.s_len;
+    let tag = request.tag;
+    let token = token::unseal(server_key, &iv, &s[..s_len], &tag);
+    if !token.good {
+        return Vouched { number: 9, token };
+    }
+    if token.expiry <= clock {
+        return Vouched { number: 10, token };
+    }
+    let key = token.key;
+    let code = signed::code(
+        &key,
+        mask,
+        extra,
+        Nonce(request.n),
+        Time(request.t),
+        Time(request.lt),
+        head,
+        aside,
+        path,
+        body,
+    );
+    let c = request.c;
+    if !signed::same_code(c, code) {
+        return Vouched { number: 11, token };
+    }
+    Vouched { number: 0, token }
+}

@@ -1,0 +1,54 @@
+-- How long the replies are: document 01, Sizes and The X-S-Armor value.
+-- Assumes nothing.
+use mathlib.Core.Path.{_≡_, refl}
+use mathlib.Core.List.{List, [], _∷_}
+use Prim.Native.Nat.{ℕ, _+_, _*_, _/_, _≤_}
+use native.Mathlib.Omega.{arith}
+use lib.ListN.{length, length-append}
+use Rattle.cells.specs.Numbers.{bytesOf}
+use Rattle.base64.proofs.Encoded.{length-encoded}
+use Rattle.hmac.specs.Hmac.{hmacSha512}
+use Rattle.hmac.proofs.Streaming.{length-hmac}
+use Rattle.orders.specs.Text.{codes}
+use Rattle.armor.specs.Numerals.{shortest, numberBytes, maskBytes, hashMask}
+use Rattle.armor.specs.Keys.{nameEah}
+use Rattle.armor.specs.Value.{Field, fieldText}
+use Rattle.armor.proofs.Numerals.{length-numberBytes}
+use Rattle.reply.specs.Replies.{field, nameI, extraField, setupReply, invalidation}
+use Rattle.reply.specs.Laid.{following}
+use Rattle.reply.proofs.Laying.{setup-fields}
+
+length-field : (name content : List ℕ) → length (fieldText (field name content)) ≡ length name + 1 + 4 * ((length content + 2) / 3)
+unfolding fieldText
+length-field name content = simp (length-append, length-encoded) (omega arith)
+
+pub length-mask : (m : ℕ) → length (maskBytes m) ≤ 9
+unfolding maskBytes
+length-mask m = omega (arith, length-numberBytes m .1)
+
+length-hash : length (maskBytes hashMask) ≡ 2
+unfolding maskBytes numberBytes shortest bytesOf
+length-hash = refl
+
+length-following : (name content : List ℕ) (rest : List Field)
+    → length (following (field name content ∷ rest)) ≡ length name + 2 + 4 * ((length content + 2) / 3) + length (following rest)
+unfolding following
+length-following name content rest =
+    omega (arith, length-field name content, length-append (fieldText (field name content)) (following rest))
+
+length-extra : (extra : List ℕ) → length extra ≤ 128 → length (following (extraField extra)) ≤ 177
+unfolding following
+length-extra [] h = omega arith
+length-extra (b ∷ bs) h = omega (arith, length-following nameEah (b ∷ bs) [])
+
+-- a setup's reply is never longer than 459 bytes
+pub setup-short : (s iv tag key : List ℕ) (mask : ℕ) (extra : List ℕ) → length s ≤ 118 → length iv ≡ 12 → length tag ≡ 16 → length key ≡ 32
+    → length extra ≤ 128 → length (setupReply s iv tag key mask extra) ≤ 459
+setup-short s iv tag key mask extra hs hiv htag hkey hextra =
+    rw setup-fields (simp (length-append, length-field, length-following) (omega (arith, length-hash, length-mask mask, length-extra extra hextra)))
+
+-- an invalidation has 90 bytes
+pub length-invalidation : (key : List ℕ) → length (invalidation key) ≡ 90
+unfolding invalidation
+length-invalidation key =
+    omega (arith, length-field nameI (hmacSha512 key (codes "Session Expired")), length-hmac key (codes "Session Expired"))

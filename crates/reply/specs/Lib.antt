@@ -1,0 +1,3 @@
+-- What the gate writes into a reply buffer.
+pub mod Replies
+pub mod Laid

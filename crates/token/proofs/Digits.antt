@@ -1,0 +1,31 @@
+-- The value of digits, one after the other, and which digits are those of a number.
+-- Assumes nothing.
+use mathlib.Core.List.{List, [], _∷_}
+use mathlib.Core.Path.{_≡_, sym, ap, _∙_}
+use Prim.Native.Nat.{ℕ, _+_, _-_, _*_, _^_, _<_, _≤_}
+use native.Mathlib.Nat.{pow-le-pow-right}
+use native.Mathlib.Numerals.{add-one}
+use native.Mathlib.Omega.{arith}
+use lib.ListN.{length, getD, take}
+use lib.Seq.{take-suc}
+use Rattle.netstring.specs.Decimal.{decimal, valueAfter}
+use Rattle.netstring.proofs.Numerals.{value-append, value-decimal}
+
+pub one-more : (digits : List ℕ) (i v : ℕ) → i < length digits → v ≡ valueAfter 0 (take i digits)
+    → v * 10 + (getD digits i 0 - 48) ≡ valueAfter 0 (take (i + 1) digits)
+unfolding valueAfter
+one-more digits i v h e =
+    ap (λ (n : ℕ). n * 10 + (getD digits i 0 - 48)) e
+    ∙ sym (value-append 0 (take i digits) (getD digits i 0 ∷ []))
+    ∙ ap (valueAfter 0) (sym (take-suc digits i 0 h) ∙ ap (λ (n : ℕ). take n digits) (sym (add-one i)))
+
+-- ten bytes taken for digits make a number that is far from 2 ^ 64
+pub bounded-more : (i v d : ℕ) → v + 32 ≤ 32 * 16 ^ i → d ≤ 207 → v * 10 + d + 32 ≤ 32 * 16 ^ (i + 1)
+bounded-more i v d h g = rw (add-one i) (omega arith)
+
+pub bounded : (i v : ℕ) → i ≤ 10 → v + 32 ≤ 32 * 16 ^ i → v < 2 ^ 45
+bounded i v h g = omega (arith, pow-le-pow-right {n = 16} (omega arith) h)
+
+-- the only number whose digits they can be
+pub only-number : (digits : List ℕ) (n : ℕ) → digits ≡ decimal n → valueAfter 0 digits ≡ n
+only-number digits n e = ap (valueAfter 0) e ∙ value-decimal n

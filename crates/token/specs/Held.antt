@@ -1,0 +1,42 @@
+-- How the contracts say what a struct of the code holds of a token, opened or sealed.
+-- Assumes nothing.
+use mathlib.Core.Path.{_≡_}
+use mathlib.Core.Bool.{Bool, true, false}
+use mathlib.Core.List.{[]}
+use mathlib.Core.Option.{Option, none, some}
+use Prim.Native.Nat.{_≤_}
+use lib.ListN.{length, take}
+use Rattle.gcm.specs.Gcm.{Sealed}
+use Rattle.token.specs.Token.{Token}
+use Rattle.token.specs.declared.Unsealed.{Unsealed}
+use Rattle.token.specs.declared.SealedToken.{SealedToken}
+
+abbrev pub given : Option Token → Bool
+given none = false
+given (some t) = true
+
+-- an empty token where there is none
+abbrev pub theToken : Option Token → Token
+theToken none = record { key = []; id = []; expiry = 0 }
+theToken (some t) = t
+
+pub record Holds (t : Token) (r : Unsealed) : Type 0 where
+  pub key : r .key ≡ t .key
+  pub id : take (r .«id_len») (r .id) ≡ t .id
+  pub id-size : r .«id_len» ≡ length (t .id)
+  pub id-some : 1 ≤ r .«id_len»
+  pub id-fits : r .«id_len» ≤ 64
+  pub expiry : r .expiry ≡ t .expiry
+
+-- what became of opening: whether there is a token, and its parts
+pub record Unseals (o : Option Token) (r : Unsealed) : Type 0 where
+  pub is : r .good ≡ given o
+  pub holds : r .good ≡ true → Holds (theToken o) r
+
+-- a sealed token in its struct
+pub record SealsTo (z : Sealed) (r : SealedToken) : Type 0 where
+  pub text : take (r .«s_len») (r .s) ≡ z .cipher
+  pub size : r .«s_len» ≡ length (z .cipher)
+  pub some : 1 ≤ r .«s_len»
+  pub fits : r .«s_len» ≤ 118
+  pub tag : r .tag ≡ z .tag

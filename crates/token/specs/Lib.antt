@@ -1,0 +1,4 @@
+-- The token: document 01, 'The X-S-Armor value', and what the contracts say by it.
+pub mod Token
+pub mod Held
+pub mod Expiry
