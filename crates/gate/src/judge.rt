@@ -111,7 +111,17 @@ fn settle<'a>(
     requires { ⌜ (goodExtra (now extra) ≡ true) × (length (now «server_key») ≡ 32) × (request .«s_len» ≤ 118) × (length (now head) ≤ 16384) × (length (now aside) ≤ 16384) × (length (now path) ≤ 2048) × (length (now body) ≤ 65536) ⌝ }
     ensures { λ r. ⌜ Settles (now («server_key» .entry)) clock request (requestText mask (now (extra .entry)) (request .n) (request .t) (request .lt) (now (aside .entry)) (now (head .entry)) (now (path .entry)) (now (body .entry))) limits (ordersNonce mask) (now (table .entry)) r ⌝ }
 {
-    let vouched = vouching::vouch(mask, extra, clock, server_key, request, head, aside, path, body);
+    let vouched = vouching::vouch(
+        mask,
+        extra,
+        clock,
+        server_key,
+        request,
+        head,
+        aside,
+        path,
+        body,
+    );
     let iv = request.iv;
     let token = vouched.token;
     if vouched.number != 0 {
