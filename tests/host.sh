@@ -12,3 +12,17 @@ case $(uname -m) in
     CC="x86_64-linux-gnu-gcc -static" RUN=qemu-x86_64
     ;;
 esac
+
+# Sets CXX for a host in C++.
+need_cxx() {
+  case $(uname -m) in
+    x86_64)
+      need c++ g++
+      CXX=c++
+      ;;
+    *)
+      need x86_64-linux-gnu-g++ g++-x86-64-linux-gnu
+      CXX="x86_64-linux-gnu-g++ -static"
+      ;;
+  esac
+}

@@ -10,3 +10,11 @@ install() {
 need() {
   command -v "$1" >/dev/null || install "${@:2}"
 }
+
+# Sets PYTHON for the second program: one that has the package `cryptography`.
+need_python() {
+  PYTHON=python3
+  "$PYTHON" -c 'import cryptography' 2>/dev/null && return
+  install python3 python3-cryptography
+  PYTHON=/usr/bin/python3
+}

@@ -18,7 +18,7 @@ use Rattle.armor.proofs.Requests.{request-by}
 use Rattle.orders.specs.Orders.{ordersGood}
 use Rattle.lines.specs.Lines.{goodBlock}
 use Rattle.coverage.specs.Coverage.{asOrdered}
-use Rattle.token.specs.Held.{given}
+use Rattle.token.specs.Token.{given}
 use Rattle.table.specs.Table.{records, taken}
 use Rattle.table.specs.WellFormed.{WellFormed}
 use Rattle.table.proofs.Meaning.{wellFormed-is}

@@ -14,8 +14,6 @@ use Rattle.armor.specs.declared.Request.{Request as ArmorRequest}
 use Rattle.armor.specs.Value.{Field, grammar, carried}
 use Rattle.armor.specs.Fields.{requestFields}
 use Rattle.armor.specs.Answers.{answerNumber, requestFrom, requestAnswer, Holds}
-use Rattle.orders.specs.Extra.{goodExtra}
-use Rattle.orders.specs.Orders.{ordersGood, limitsOf}
 use Rattle.orders.specs.declared.Limits.{Limits}
 use Rattle.signed.specs.SignedText.{ordersNonce, requestText}
 use Rattle.table.proofs.Tests.{both}

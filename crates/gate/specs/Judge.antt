@@ -1,6 +1,6 @@
 -- Judging a request: document 01, 'The numbers a call returns', 'Header lines and the signed text' and 'Age, idleness and the window'.
 -- Assumes nothing.
-use mathlib.Core.Bool.{Bool, true, false, cond, not, _&&_, _||_}
+use mathlib.Core.Bool.{Bool, cond, not, _&&_, _||_}
 use mathlib.Core.List.{List, [], _∷_}
 use mathlib.Core.Option.{Option}
 use Prim.Native.Nat.{ℕ}
@@ -16,8 +16,7 @@ use Rattle.orders.specs.declared.Limits.{Limits}
 use Rattle.lines.specs.Lines.{linesIn, goodBlock}
 use Rattle.lines.specs.Values.{repeated}
 use Rattle.coverage.specs.Coverage.{asOrdered}
-use Rattle.token.specs.Token.{Token, openedToken}
-use Rattle.token.specs.Held.{given, theToken}
+use Rattle.token.specs.Token.{Token, openedToken, given, theToken}
 use Rattle.signed.specs.SignedText.{ordersNonce, requestText}
 use Rattle.reply.specs.Replies.{invalidation}
 use Rattle.table.specs.declared.session.Record.{Record}

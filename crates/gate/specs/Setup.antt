@@ -1,6 +1,6 @@
 -- Setting up a session: document 01, 'The numbers a call returns' and 'The X-S-Armor value'.
 -- Assumes nothing.
-use mathlib.Core.Bool.{Bool, cond, not}
+use mathlib.Core.Bool.{cond, not}
 use mathlib.Core.List.{List, [], _∷_}
 use Prim.Native.Nat.{ℕ, _+_}
 use lib.Dec.{eqb, ltb}

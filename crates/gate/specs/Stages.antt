@@ -3,7 +3,7 @@
 use mathlib.Core.Path.{_≡_}
 use mathlib.Core.Bool.{Bool, true, not, cond, _&&_, _||_}
 use mathlib.Core.List.{List, [], _∷_, _++_}
-use Prim.Native.Nat.{ℕ, _≤_, _<_}
+use Prim.Native.Nat.{ℕ, _≤_}
 use lib.Dec.{eqb, leb}
 use lib.ListN.{length, take}
 use Rattle.cells.specs.Runs.{same}
@@ -15,9 +15,9 @@ use Rattle.orders.specs.Orders.{coveredNames}
 use Rattle.lines.specs.Lines.{linesIn, goodBlock}
 use Rattle.lines.specs.Values.{repeated}
 use Rattle.coverage.specs.Coverage.{asOrdered}
-use Rattle.token.specs.Token.{Token, openedToken}
+use Rattle.token.specs.Token.{Token, openedToken, given, theToken}
 use Rattle.token.specs.Held as T
-use Rattle.signed.specs.SignedText.{ordersNonce, requestText}
+use Rattle.signed.specs.SignedText.{ordersNonce}
 use Rattle.reply.specs.Replies.{invalidation}
 use Rattle.table.specs.Record.{windowOf}
 use Rattle.window.specs.declared.Stepped.{Stepped}
@@ -72,16 +72,16 @@ pub record ReadIs (mask : ℕ) (extra value head aside : List ℕ) (r : Reading)
 unfoldable pub vouchChecks : List ℕ → ℕ → List ℕ → List ℕ → List ℕ → List ℕ → List ℕ → List Check
 vouchChecks server-key clock iv s tag c text =
     let opened = openedToken server-key iv s tag in
-    check 9 (not (T.given opened))
-    ∷ check 10 (leb (T.theToken opened .expiry) clock)
-    ∷ check 11 (not (same c (hmacSha512 (T.theToken opened .key) text)))
+    check 9 (not (given opened))
+    ∷ check 10 (leb (theToken opened .expiry) clock)
+    ∷ check 11 (not (same c (hmacSha512 (theToken opened .key) text)))
     ∷ []
 
 -- the request is vouched for: its number, and the token unless it is 9
 pub record VouchIs (server-key : List ℕ) (clock : ℕ) (iv s tag c text : List ℕ) (r : Vouched) : Type 0 where
   pub is : r .number ≡ first (vouchChecks server-key clock iv s tag c text)
   pub most : r .number ≤ 11
-  pub holds : (r .number ≡ 9 → ⊥) → T.Holds (T.theToken (openedToken server-key iv s tag)) (r .token)
+  pub holds : (r .number ≡ 9 → ⊥) → T.Holds (theToken (openedToken server-key iv s tag)) (r .token)
 
 unfoldable pub steppedAt : List ℕ → List ℕ → ℕ → Stepped
 steppedAt table iv n = stepOf (windowOf (heldAt table (placeOf table iv))) n
@@ -127,7 +127,7 @@ pub record About (named : List ℕ) (token : Token) (d : Decision) : Type 0 wher
 
 -- the token of a request, and its checks from 9 on
 abbrev pub tokenIn : List ℕ → ArmorRequest → Token
-tokenIn server-key r = T.theToken (openedToken server-key (r .iv) (take (r .«s_len») (r .s)) (r .tag))
+tokenIn server-key r = theToken (openedToken server-key (r .iv) (take (r .«s_len») (r .s)) (r .tag))
 
 unfoldable pub settleChecks : List ℕ → ℕ → ArmorRequest → List ℕ → Limits → Bool → List ℕ → List Check
 settleChecks server-key clock r text limits ordered table =

@@ -10,7 +10,6 @@ use Rattle.armor.specs.Numerals.{maskOf}
 use Rattle.armor.specs.Keys.{nameR}
 use Rattle.armor.specs.Value.{grammar, carried}
 use Rattle.armor.specs.Fields.{the, setupFields}
-use Rattle.gcm.specs.Gcm.{Sealed}
 use Rattle.reply.specs.Replies.{setupReply}
 use Rattle.table.specs.declared.place.Place.the-variants.{At as Place-At}
 use Rattle.table.specs.Record.{size, recordBytes, begun}

@@ -1,6 +1,5 @@
 // Setting up a session: a decision that writes nothing, and its effect.
 ghost use mathlib.Core.Path.{_≡_};
-ghost use mathlib.Core.Bool.{true};
 ghost use Prim.Native.Nat.{_<_, _≤_, _^_};
 ghost use lib.ListN.{length};
 ghost use Rattle.table.specs.Table.{places};

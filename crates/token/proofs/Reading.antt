@@ -16,8 +16,8 @@ use Rattle.netstring.specs.Netstring.{netstring, netstrings}
 use Rattle.netstring.specs.Reading.{PartAt, NoPart}
 use Rattle.netstring.proofs.Determined.{netstrings-determined}
 use Rattle.token.specs.declared.Unsealed.{Unsealed}
-use Rattle.token.specs.Token.{Token, tokenText, tokenIn, tokenFrom}
-use Rattle.token.specs.Held.{given, theToken, Holds, Unseals}
+use Rattle.token.specs.Token.{Token, tokenText, tokenIn, tokenFrom, given, theToken}
+use Rattle.token.specs.Held.{Holds, Unseals}
 use Rattle.token.proofs.Text.{Sized}
 use Rattle.token.proofs.Exactly.{fits-means, fits-so, token-found, no-token}
 

@@ -1,24 +1,14 @@
 -- How the contracts say what a struct of the code holds of a token, opened or sealed.
 -- Assumes nothing.
 use mathlib.Core.Path.{_≡_}
-use mathlib.Core.Bool.{Bool, true, false}
-use mathlib.Core.List.{[]}
-use mathlib.Core.Option.{Option, none, some}
+use mathlib.Core.Bool.{true}
+use mathlib.Core.Option.{Option}
 use Prim.Native.Nat.{_≤_}
 use lib.ListN.{length, take}
 use Rattle.gcm.specs.Gcm.{Sealed}
-use Rattle.token.specs.Token.{Token}
+use Rattle.token.specs.Token.{Token, given, theToken}
 use Rattle.token.specs.declared.Unsealed.{Unsealed}
 use Rattle.token.specs.declared.SealedToken.{SealedToken}
-
-abbrev pub given : Option Token → Bool
-given none = false
-given (some t) = true
-
--- an empty token where there is none
-abbrev pub theToken : Option Token → Token
-theToken none = record { key = []; id = []; expiry = 0 }
-theToken (some t) = t
 
 pub record Holds (t : Token) (r : Unsealed) : Type 0 where
   pub key : r .key ≡ t .key

@@ -1,7 +1,7 @@
 -- The token s: document 01, 'The X-S-Armor value', its paragraph on the setup reply, and number 9.
 -- `tokenText` says what the text of a token is; `tokenIn` finds the token, and `token-exactly` of proofs/Exactly.antt says that the two agree.
 -- Assumes nothing.
-use mathlib.Core.Bool.{Bool, cond, _&&_}
+use mathlib.Core.Bool.{Bool, true, false, cond, _&&_}
 use mathlib.Core.List.{List, [], _∷_}
 use mathlib.Core.Option.{Option, none, some}
 use Prim.Native.Nat.{ℕ, suc, _^_}
@@ -61,3 +61,12 @@ tokenFrom (some text) = tokenIn text
 -- the token of s, opened under server key, IV and tag
 unfoldable pub openedToken : List ℕ → List ℕ → List ℕ → List ℕ → Option Token
 openedToken serverKey iv s tag = tokenFrom (opened serverKey iv [] s tag)
+
+abbrev pub given : Option Token → Bool
+given none = false
+given (some t) = true
+
+-- an empty token where there is none
+abbrev pub theToken : Option Token → Token
+theToken none = record { key = []; id = []; expiry = 0 }
+theToken (some t) = t

@@ -1,7 +1,6 @@
 -- `judge::decide` meets its contract, one stage after the other.
 use mathlib.Core.Path.{_≡_, refl, sym, ap, _∙_}
 use mathlib.Core.Bool.{true, not, cond}
-use mathlib.Core.List.{List}
 use Prim.Native.Nat.{ℕ}
 use native.Mathlib.Omega.{arith}
 use borrow.Author.Needs.{needs}
@@ -10,13 +9,12 @@ use lib.Dec.{eqb}
 use lib.ListN.{drop}
 use Rattle.orders.specs.Extra.{goodExtra}
 use Rattle.orders.specs.Orders.{ordersGood, limitsOf}
-use Rattle.orders.specs.declared.Limits.{Limits}
 use Rattle.orders.proofs.Orders.{checked-good, checked-bad, good-extra, short-extra}
 use Rattle.gate.specs.Calls.{Request, ordersOf, requestOf}
 use Rattle.gate.specs.Sizes.{requestFits}
 use Rattle.gate.specs.Checks.{first, ordersBad}
 use Rattle.gate.specs.Judge.{fieldsOf, limits, requestChecks}
-use Rattle.gate.proofs.Stages.{Sized, sized, Entered, readOf, refused-as, tells-none, after-entry, decided-by}
+use Rattle.gate.proofs.Stages.{sized, Entered, refused-as, tells-none, after-entry, decided-by}
 use Rattle.gate.proofs.judge.decide.Statement.{statement}
 use Rattle.gate.proofs.judge.decide.Tie as tie
 

@@ -1,9 +1,7 @@
 -- `records::free` meets its contract.
-use mathlib.Core.Path.{sym, ap, _∙_}
+use mathlib.Core.Path.{sym, _∙_}
 use borrow.Author.Needs.{needs}
-use Rattle.table.specs.declared.place.Place.{Place}
-use Rattle.table.specs.Record.{freed}
-use Rattle.gate.specs.Session.{with-record, without}
+use Rattle.gate.specs.Session.{without}
 use Rattle.gate.proofs.records.free.Statement.{statement}
 use Rattle.gate.proofs.records.free.Tie as tie
 

@@ -1,0 +1,353 @@
+/*
+ * A day at a parts portal: the proxy's side of the login gate, with two or three dealers to talk to it.
+ *
+ *     portal day.txt
+ *
+ * reads what happens, a line for each event, and prints what the gate decides. Keys and IVs stand in the script, so that
+ * two runs print the same; a real proxy takes fresh random bytes for each session. The script's lines:
+ *
+ *     day SECONDS                     midnight, in seconds since 1970; times of the day count from here
+ *     server-key HEX                  the portal's own key
+ *     records COUNT                   how many sessions the table has room for
+ *     cover NAME..                    what a request must sign: nonce, or a header that has a bit in the mask
+ *     extra NAME,NAME                 further headers to sign
+ *     limits REQUEST IDLE SESSION     in seconds; 0 is the default
+ *     note TEXT                       printed as it stands
+ *     at HH:MM:SS                     the clock from now on
+ *     setup DEALER IV KEY             the dealer asks for a session; IV and session key in hexadecimal
+ *     make LABEL DEALER PATH [BODY]   the dealer signs a request, which is kept under a label
+ *     deliver LABEL                   it reaches the proxy
+ *     forge LABEL BODY                it reaches the proxy with another body
+ *     send DEALER PATH [BODY]         made and delivered at once
+ *     fetch DEALER COUNT PATH         so many requests at once, told in one line
+ *     end DEALER                      the dealer logs out
+ *     table                           prints the table
+ */
+#include "client.h"
+#include "gate.h"
+
+#include <stdio.h>
+#include <stdlib.h>
+#include <string.h>
+
+#define DEALERS 4
+#define KEPT 8
+
+typedef struct dealer {
+    char name[16];
+    char session_id[32];
+    uint8_t iv[GATE_IV_BYTES];
+    int setups;
+    client program;
+} dealer;
+
+/* A request on its way. */
+typedef struct request {
+    char label[16];
+    dealer *from;
+    uint32_t nonce;
+    uint32_t made;
+    char value[1024];
+    char path[64];
+    char body[64];
+} request;
+
+static uint32_t midnight, now;
+static uint8_t server_key[GATE_SERVER_KEY_BYTES];
+static char extra[GATE_EXTRA_MAX + 1];
+static gate_orders orders;
+static uint8_t table[GATE_TABLE_MAX], reply[GATE_REPLY_MIN];
+static size_t records;
+
+static dealer dealers[DEALERS];
+static request kept[KEPT];
+static unsigned line_number;
+
+static void give_up(const char *why) {
+    fprintf(stderr, "line %u: %s\n", line_number, why);
+    exit(1);
+}
+
+/* ---- The gate, as a proxy calls it ---- */
+
+static gate_room the_table(void) { return gate_room_of(table, records * GATE_RECORD_BYTES); }
+
+static gate_room the_reply(void) { return gate_room_of(reply, sizeof reply); }
+
+static gate_run the_server_key(void) { return gate_bytes(server_key, sizeof server_key); }
+
+static gate_answer set_up(const dealer *who, const uint8_t *session_key) {
+    const gate_new_session session = {gate_bytes(session_key, GATE_SESSION_KEY_BYTES), gate_bytes(who->iv, sizeof who->iv),
+                                      gate_string(who->session_id), gate_string(CLIENT_ASKS)};
+    return gate_set_up_session(&orders, now, the_server_key(), &session, the_table(), the_reply());
+}
+
+/* The proxy hands requests on under the portal's inner name, and sets the dealer's own Host line aside. */
+static gate_answer judge(const request *asked, const char *body) {
+    char head[256];
+    sprintf(head, "Host: portal.inside\r\nCookie: session=%s\r\nX-Dealer: %s\r\n", asked->from->session_id, asked->from->name);
+    const gate_request judged = {gate_string(asked->value), gate_string(head), gate_string("Host: parts.example\r\n"),
+                                 gate_string(asked->path), gate_string(body)};
+    return gate_judge_request(&orders, now, the_server_key(), &judged, the_table(), the_reply());
+}
+
+static gate_answer end(const dealer *who) { return gate_end_session(gate_bytes(who->iv, sizeof who->iv), the_table()); }
+
+/* ---- A dealer's program ---- */
+
+static void make(request *asked, dealer *from, const char *path, const char *body) {
+    char cookie[64];
+    sprintf(cookie, "session=%s", from->session_id);
+    const client_header headers[] = {{"Host", "parts.example"}, {"Cookie", cookie}, {"X-Dealer", from->name}};
+    const client_request signing = {headers, 3, path, body};
+    if (strlen(path) >= sizeof asked->path || strlen(body) >= sizeof asked->body) give_up("path or body too long");
+    asked->from = from;
+    asked->nonce = from->program.next;
+    asked->made = now;
+    strcpy(asked->path, path);
+    strcpy(asked->body, body);
+    if (!client_sign(&from->program, &signing, now, asked->value, sizeof asked->value)) give_up("the request is too long");
+}
+
+/* ---- Printing ---- */
+
+static const char *time_text(uint32_t time) {
+    static char text[24];
+    uint32_t second = time - midnight;
+    sprintf(text, "%02u:%02u:%02u%s", second / 3600 % 24, second / 60 % 60, second % 60, second >= 86400 ? " tomorrow" : "");
+    return text;
+}
+
+static void print_event(const dealer *who, const char *what, gate_answer answer) {
+    printf("%s  %-7s  %-50s  %2u %s", time_text(now), who->name, what, answer.number, gate_text(answer.number));
+}
+
+/* A request and the gate's answer to it, with the reply in words. */
+static void print_judged(const request *asked, const char *body, gate_answer answer) {
+    char what[192];
+    int length = sprintf(what, "%s%s%s, nonce %u", asked->path, body[0] != 0 ? " " : "", body, asked->nonce);
+    if (asked->made != now) sprintf(what + length, ", made %s", time_text(asked->made));
+    print_event(asked->from, what, answer);
+    if (answer.number == GATE_ACCEPTED) {
+        printf(": session %.*s", (int)answer.length, (const char *)reply);
+    } else if (answer.length > 0) {
+        int believed = client_believes(&asked->from->program, (const char *)reply, answer.length);
+        printf(": invalidation, which the dealer's program %s", believed ? "believes" : "does not believe");
+    }
+    printf("\n");
+}
+
+static void print_table(void) {
+    for (size_t i = 0; i < records; i++) {
+        gate_record record = gate_record_at(table + i * GATE_RECORD_BYTES);
+        printf("%s  record %u: ", time_text(now), (unsigned)i + 1);
+        if (record.used == 0) {
+            printf("free\n");
+        } else if (record.any == 0) {
+            printf("used until %s, no nonce yet\n", time_text(record.expiry));
+        } else {
+            printf("used until %s, highest nonce %u, window %08x %08x\n", time_text(record.expiry), record.highest,
+                   (unsigned)(record.bits >> 32), (unsigned)(record.bits & 0xffffffffu));
+        }
+    }
+}
+
+/* ---- Reading the script ---- */
+
+static const char *optional_word(void) { return strtok(NULL, " \n"); }
+
+static const char *word(void) {
+    const char *found = optional_word();
+    if (found == NULL) give_up("a word is missing");
+    return found;
+}
+
+static uint32_t number(void) { return (uint32_t)strtoul(word(), NULL, 10); }
+
+static void read_hex(uint8_t *out, size_t count) {
+    const char *hex = word();
+    if (strlen(hex) != 2 * count) give_up("wrong length");
+    for (size_t i = 0; i < count; i++) {
+        unsigned byte = 0;
+        if (sscanf(hex + 2 * i, "%2x", &byte) != 1) give_up("no hexadecimal digit");
+        out[i] = (uint8_t)byte;
+    }
+}
+
+static dealer *named_dealer(void) {
+    const char *name = word();
+    for (dealer *who = dealers; who < dealers + DEALERS; who++) {
+        if (who->name[0] == 0 && strlen(name) < sizeof who->name) strcpy(who->name, name);
+        if (strcmp(who->name, name) == 0) return who;
+    }
+    give_up("too many dealers");
+    return NULL;
+}
+
+static request *labelled_request(void) {
+    const char *label = word();
+    for (request *asked = kept; asked < kept + KEPT; asked++) {
+        if (asked->label[0] == 0 && strlen(label) < sizeof asked->label) strcpy(asked->label, label);
+        if (strcmp(asked->label, label) == 0) return asked;
+    }
+    give_up("too many requests kept");
+    return NULL;
+}
+
+static request *made_request(void) {
+    request *asked = labelled_request();
+    if (asked->from == NULL) give_up("no such request");
+    return asked;
+}
+
+static const char *body_word(void) {
+    const char *body = optional_word();
+    return body != NULL ? body : "";
+}
+
+static uint64_t bit_of(const char *name) {
+    if (strcmp(name, "nonce") == 0) return GATE_COVER(NONCE);
+    for (unsigned bit = GATE_BIT_HOST; bit < GATE_BITS; bit++) {
+        if (strcmp(name, gate_header_name(bit)) == 0) return (uint64_t)1 << bit;
+    }
+    give_up("no such header");
+    return 0;
+}
+
+/* ---- The script's lines ---- */
+
+static void do_day(void) { midnight = number(); }
+
+static void do_server_key(void) { read_hex(server_key, sizeof server_key); }
+
+static void do_records(void) {
+    records = number();
+    if (records > GATE_RECORDS_MAX) give_up("too many records");
+}
+
+static void do_cover(void) {
+    for (const char *name = word(); name != NULL; name = optional_word()) orders.mask |= bit_of(name);
+}
+
+static void do_extra(void) {
+    const char *names = word();
+    if (strlen(names) >= sizeof extra) give_up("too many extra names");
+    strcpy(extra, names);
+    orders.extra = gate_string(extra);
+}
+
+static void do_limits(void) {
+    orders.request_life = number();
+    orders.idle = number();
+    orders.session_life = number();
+}
+
+static void do_note(void) {
+    static const char *before = "";
+    const char *text = strtok(NULL, "\n");
+    printf("%s%s\n", before, text != NULL ? text : "");
+    before = "\n";
+}
+
+static void do_at(void) {
+    unsigned hour, minute, second;
+    if (sscanf(word(), "%2u:%2u:%2u", &hour, &minute, &second) != 3) give_up("no time");
+    now = midnight + hour * 3600 + minute * 60 + second;
+}
+
+static void do_setup(void) {
+    dealer *who = named_dealer();
+    uint8_t session_key[GATE_SESSION_KEY_BYTES];
+    read_hex(who->iv, sizeof who->iv);
+    read_hex(session_key, sizeof session_key);
+    sprintf(who->session_id, "%s-%d", who->name, ++who->setups);
+    gate_answer answer = set_up(who, session_key);
+    print_event(who, "setup", answer);
+    if (answer.number == GATE_ACCEPTED) {
+        if (!client_begin(&who->program, (const char *)reply, answer.length, now)) give_up("the reply is none");
+        printf(": token, key and coverage, %u bytes", (unsigned)answer.length);
+    }
+    printf("\n");
+}
+
+static void do_make(void) {
+    request *asked = labelled_request();
+    dealer *from = named_dealer();
+    const char *path = word();
+    make(asked, from, path, body_word());
+}
+
+static void do_deliver(void) {
+    request *asked = made_request();
+    print_judged(asked, asked->body, judge(asked, asked->body));
+}
+
+static void do_forge(void) {
+    request *asked = made_request();
+    const char *body = word();
+    print_judged(asked, body, judge(asked, body));
+}
+
+static void do_send(void) {
+    request asked;
+    dealer *from = named_dealer();
+    const char *path = word();
+    make(&asked, from, path, body_word());
+    print_judged(&asked, asked.body, judge(&asked, asked.body));
+}
+
+static void do_fetch(void) {
+    request asked;
+    dealer *from = named_dealer();
+    uint32_t count = number(), sent = 0, first = from->program.next;
+    const char *path = word();
+    gate_answer answer = {GATE_ACCEPTED, 0};
+    char what[128];
+    for (; sent < count && answer.number == GATE_ACCEPTED; sent++) {
+        make(&asked, from, path, "");
+        answer = judge(&asked, "");
+    }
+    sprintf(what, "%s %u times, nonces %u to %u", path, sent, first, from->program.next - 1);
+    print_event(from, what, answer);
+    printf("%s\n", answer.number == GATE_ACCEPTED ? ", every one" : ", the last one");
+}
+
+static void do_end(void) {
+    const dealer *who = named_dealer();
+    print_event(who, "logs out", end(who));
+    printf("\n");
+}
+
+static void act(char *line) {
+    static const struct {
+        const char *name;
+        void (*act)(void);
+    } events[] = {{"day", do_day},       {"server-key", do_server_key}, {"records", do_records}, {"cover", do_cover},
+                  {"extra", do_extra},   {"limits", do_limits},         {"note", do_note},       {"at", do_at},
+                  {"setup", do_setup},   {"make", do_make},             {"deliver", do_deliver}, {"forge", do_forge},
+                  {"send", do_send},     {"fetch", do_fetch},           {"end", do_end},         {"table", print_table}};
+    const char *name = strtok(line, " \n");
+    if (name == NULL || name[0] == '#') return;
+    for (size_t i = 0; i < sizeof events / sizeof events[0]; i++) {
+        if (strcmp(name, events[i].name) == 0) {
+            events[i].act();
+            return;
+        }
+    }
+    give_up("no such event");
+}
+
+int main(int count, char **words) {
+    char line[512];
+    FILE *script = count == 2 ? fopen(words[1], "r") : NULL;
+    if (script == NULL) {
+        fprintf(stderr, "usage: portal SCRIPT\n");
+        return 1;
+    }
+    while (fgets(line, sizeof line, script) != NULL) {
+        line_number++;
+        act(line);
+    }
+    fclose(script);
+    return 0;
+}

@@ -1,0 +1,360 @@
+/*
+ * Plays a call file of the second program (its format: tests/second/README.md) through include/gate.h, and prints the
+ * answer to each call.
+ *
+ *     host end CALLS      each lent run ends where memory begins that nobody may touch
+ *     host begin CALLS    each begins where such memory ends
+ *     host heap CALLS     each is an allocation of just its size, which valgrind watches
+ *
+ * In the first two, a run that is lent to be read cannot be written to during its call, and each call has a stack of its
+ * own, whose depth is measured. A touch that is not allowed, or a stack that grows too deep, ends the program with a line
+ * that names the call. Last, the deepest stack of each kind of call is told on standard error.
+ */
+#define _GNU_SOURCE
+#include "gate.h"
+
+#include <signal.h>
+#include <stdio.h>
+#include <stdlib.h>
+#include <string.h>
+#include <sys/mman.h>
+#include <ucontext.h>
+#include <unistd.h>
+
+/* Whole pages on every machine, whatever their size. */
+#define GUARD ((size_t)1 << 16)
+#define ROOM ((size_t)1 << 18)
+
+/* Room for a call's stack, the byte that it is filled with beforehand, and how deep a call may go. */
+#define STACK ((size_t)1 << 16)
+#define UNTOUCHED 0xa5
+#define DEEPEST 12288
+
+enum place { AT_END, AT_BEGIN, ON_HEAP };
+
+enum kind { SETUP, JUDGE, ONE, END, KINDS };
+
+enum which { EXTRA, SERVER_KEY, SESSION_KEY, IV, SESSION_ID, VALUE, HEAD, ASIDE, PATH, BODY, TABLE, RECORD, REPLY, RUNS };
+
+struct run {
+    const char *name;
+    int writable;
+    uint8_t *room;
+    uint8_t *bytes;
+    size_t length;
+};
+
+static struct run runs[RUNS] = {
+    {"extra names", 0, NULL, NULL, 0}, {"server key", 0, NULL, NULL, 0}, {"session key", 0, NULL, NULL, 0},
+    {"IV", 0, NULL, NULL, 0},          {"session id", 0, NULL, NULL, 0}, {"value", 0, NULL, NULL, 0},
+    {"head", 0, NULL, NULL, 0},        {"set-aside", 0, NULL, NULL, 0},  {"path", 0, NULL, NULL, 0},
+    {"body", 0, NULL, NULL, 0},        {"table", 1, NULL, NULL, 0},      {"record", 1, NULL, NULL, 0},
+    {"reply", 1, NULL, NULL, 0},
+};
+
+static enum place place;
+static unsigned long line_number;
+
+/* What goes on from call to call. */
+static uint8_t table[ROOM], reply[ROOM];
+static size_t table_length, reply_length;
+
+static void give_up(const char *why) {
+    fprintf(stderr, "line %lu: %s\n", line_number, why);
+    exit(2);
+}
+
+/* ---- Lending ---- */
+
+static void make_rooms(void) {
+    for (int i = 0; i < RUNS; i++) {
+        size_t whole = ROOM + 3 * GUARD; /* with what is lost to begin at a multiple of GUARD */
+        uint8_t *found = mmap(NULL, whole, PROT_NONE, MAP_PRIVATE | MAP_ANONYMOUS, -1, 0);
+        if (found == MAP_FAILED) give_up("no memory");
+        runs[i].room = found + GUARD + (GUARD - (uintptr_t)found % GUARD) % GUARD;
+    }
+}
+
+static void protect(struct run *run, int how) {
+    if (mprotect(run->room, ROOM, how) != 0) give_up("no protection");
+}
+
+/* Room for a run of this length, to be filled before it is lent. */
+static uint8_t *room_for(enum which which, size_t length) {
+    struct run *run = &runs[which];
+    if (length > ROOM) give_up("a run is too long");
+    run->length = length;
+    if (place == ON_HEAP) {
+        free(run->bytes);
+        run->bytes = malloc(length);
+        if (run->bytes == NULL) give_up("no memory");
+    } else {
+        protect(run, PROT_READ | PROT_WRITE);
+        run->bytes = place == AT_END ? run->room + ROOM - length : run->room;
+    }
+    return run->bytes;
+}
+
+static void filled(enum which which) {
+    if (place != ON_HEAP && !runs[which].writable) protect(&runs[which], PROT_READ);
+}
+
+static gate_run lent(enum which which) { return gate_bytes(runs[which].bytes, runs[which].length); }
+
+static gate_room lent_room(enum which which) { return gate_room_of(runs[which].bytes, runs[which].length); }
+
+/* An emulator may enter a handler with a stack that is not aligned: QEMU 7.2 does. */
+__attribute__((force_align_arg_pointer)) static void touched(int number, siginfo_t *info, void *context) {
+    (void)number;
+    (void)context;
+    uint8_t *at = info->si_addr;
+    fprintf(stderr, "line %lu: a touch at %p is not allowed\n", line_number, info->si_addr);
+    for (int i = 0; i < RUNS; i++) {
+        if (at >= runs[i].room - GUARD && at < runs[i].room + ROOM + GUARD) {
+            fprintf(stderr, "byte %ld of %s, which has %zu\n", (long)(at - runs[i].bytes), runs[i].name, runs[i].length);
+        }
+    }
+    fflush(stdout);
+    _exit(1);
+}
+
+static void watch(void) {
+    struct sigaction action;
+    memset(&action, 0, sizeof action);
+    action.sa_sigaction = touched;
+    action.sa_flags = SA_SIGINFO;
+    if (sigaction(SIGSEGV, &action, NULL) != 0 || sigaction(SIGBUS, &action, NULL) != 0) give_up("no handler");
+}
+
+/* ---- Reading ---- */
+
+static const char *word(void) {
+    const char *found = strtok(NULL, " \n");
+    if (found == NULL) give_up("a word is missing");
+    return found;
+}
+
+static uint64_t number(void) { return strtoull(word(), NULL, 10); }
+
+static uint32_t number32(void) { return (uint32_t)number(); }
+
+static uint8_t digit(char c) {
+    const char *digits = "0123456789abcdef", *found = strchr(digits, c);
+    if (c == 0 || found == NULL) give_up("no hexadecimal digit");
+    return (uint8_t)(found - digits);
+}
+
+static size_t hex_length(const char *hex) { return strcmp(hex, "-") == 0 ? 0 : strlen(hex) / 2; }
+
+static void read_hex(const char *hex, uint8_t *out) {
+    size_t length = hex_length(hex);
+    for (size_t i = 0; i < length; i++) out[i] = (uint8_t)(digit(hex[2 * i]) << 4 | digit(hex[2 * i + 1]));
+}
+
+static void lend_next(enum which which) {
+    const char *hex = word();
+    read_hex(hex, room_for(which, hex_length(hex)));
+    filled(which);
+}
+
+static void set_table(void) {
+    const char *hex = word();
+    table_length = hex_length(hex);
+    if (table_length > sizeof table) give_up("the table is too long");
+    read_hex(hex, table);
+}
+
+static void set_reply(void) {
+    reply_length = (size_t)number();
+    if (reply_length > sizeof reply) give_up("the reply is too long");
+    memset(reply, (int)number(), reply_length);
+}
+
+/* ---- Answering ---- */
+
+static void print_hex(const uint8_t *bytes, size_t length) {
+    if (length == 0) putchar('-');
+    for (size_t i = 0; i < length; i++) printf("%02x", bytes[i]);
+}
+
+/* Prints what a call left, `=` where every byte is as it was, and keeps it. */
+static void print_left(const uint8_t *left, uint8_t *kept, size_t length) {
+    putchar(' ');
+    if (memcmp(left, kept, length) == 0) {
+        putchar('=');
+    } else {
+        print_hex(left, length);
+        memcpy(kept, left, length);
+    }
+}
+
+static void print_answer(gate_answer answer, const uint8_t *reply_left, const uint8_t *table_left) {
+    printf("%u %zu", answer.number, answer.length);
+    print_left(reply_left, reply, reply_length);
+    print_left(table_left, table, table_length);
+    putchar('\n');
+}
+
+/* ---- The calls ---- */
+
+/* What is asked next, and its answer. */
+static struct {
+    enum kind kind;
+    gate_orders orders;
+    uint32_t clock;
+    gate_new_session session;
+    gate_request request;
+    gate_record *record;
+    gate_answer answer;
+} call;
+
+static void perform(void) {
+    const gate_run server_key = lent(SERVER_KEY);
+    const gate_room in_table = lent_room(TABLE), in_reply = lent_room(REPLY);
+    switch (call.kind) {
+    case SETUP:
+        call.answer = gate_set_up_session(&call.orders, call.clock, server_key, &call.session, in_table, in_reply);
+        break;
+    case JUDGE:
+        call.answer = gate_judge_request(&call.orders, call.clock, server_key, &call.request, in_table, in_reply);
+        break;
+    case ONE:
+        call.answer = gate_judge_single(&call.orders, call.clock, server_key, &call.request, call.record, in_reply);
+        break;
+    default:
+        call.answer = gate_end_session(lent(IV), in_table);
+    }
+}
+
+static size_t deepest[KINDS];
+
+/* Performs the call on a stack of its own, and notes how deep it went. */
+static void perform_apart(void) {
+    static uint8_t stack[STACK];
+    static ucontext_t here, there;
+    memset(stack, UNTOUCHED, sizeof stack);
+    if (getcontext(&there) != 0) give_up("no context");
+    there.uc_stack.ss_sp = stack;
+    there.uc_stack.ss_size = sizeof stack;
+    there.uc_link = &here;
+    makecontext(&there, perform, 0);
+    if (swapcontext(&here, &there) != 0) give_up("no context");
+    size_t left = 0;
+    while (left < sizeof stack && stack[left] == UNTOUCHED) left++;
+    size_t depth = sizeof stack - left;
+    if (depth > DEEPEST) give_up("the call went too deep into its stack");
+    if (depth > deepest[call.kind]) deepest[call.kind] = depth;
+}
+
+static void print_deepest(void) {
+    fprintf(stderr, "deepest stack in bytes: setup %zu, judge %zu, one %zu, end %zu\n", deepest[SETUP], deepest[JUDGE],
+            deepest[ONE], deepest[END]);
+}
+
+static void ask(enum kind kind) {
+    call.kind = kind;
+    if (place == ON_HEAP) perform(); else perform_apart();
+}
+
+static void read_site(void) {
+    call.orders.mask = number();
+    lend_next(EXTRA);
+    call.orders.extra = lent(EXTRA);
+    call.orders.request_life = number32();
+    call.orders.idle = number32();
+    call.orders.session_life = number32();
+    call.clock = number32();
+    lend_next(SERVER_KEY);
+}
+
+static void read_request(void) {
+    for (enum which i = VALUE; i <= BODY; i++) lend_next(i);
+    const gate_request request = {lent(VALUE), lent(HEAD), lent(ASIDE), lent(PATH), lent(BODY)};
+    call.request = request;
+}
+
+static void lend_kept(enum which which, const uint8_t *kept, size_t length) {
+    memcpy(room_for(which, length), kept, length);
+}
+
+static void play_setup(void) {
+    read_site();
+    for (enum which i = SESSION_KEY; i <= VALUE; i++) lend_next(i);
+    const gate_new_session session = {lent(SESSION_KEY), lent(IV), lent(SESSION_ID), lent(VALUE)};
+    call.session = session;
+    lend_kept(TABLE, table, table_length);
+    lend_kept(REPLY, reply, reply_length);
+    ask(SETUP);
+    print_answer(call.answer, runs[REPLY].bytes, runs[TABLE].bytes);
+}
+
+static void play_judge(void) {
+    read_site();
+    read_request();
+    lend_kept(TABLE, table, table_length);
+    lend_kept(REPLY, reply, reply_length);
+    ask(JUDGE);
+    print_answer(call.answer, runs[REPLY].bytes, runs[TABLE].bytes);
+}
+
+/* The table's first record, lent as a struct. */
+static void play_one(void) {
+    read_site();
+    read_request();
+    if (table_length < GATE_RECORD_BYTES) give_up("the table has no record");
+    call.record = (gate_record *)(void *)room_for(RECORD, sizeof *call.record);
+    *call.record = gate_record_at(table);
+    lend_kept(REPLY, reply, reply_length);
+    ask(ONE);
+    lend_kept(TABLE, table, table_length);
+    gate_put_record(runs[TABLE].bytes, call.record);
+    print_answer(call.answer, runs[REPLY].bytes, runs[TABLE].bytes);
+}
+
+static void play_end(void) {
+    lend_next(IV);
+    lend_kept(TABLE, table, table_length);
+    ask(END);
+    print_answer(call.answer, reply, runs[TABLE].bytes);
+}
+
+static void play(char *line) {
+    static const struct {
+        const char *name;
+        void (*play)(void);
+    } kinds[] = {{"table", set_table}, {"reply", set_reply}, {"setup", play_setup},
+                 {"judge", play_judge}, {"one", play_one},   {"end", play_end}};
+    const char *kind = strtok(line, " \n");
+    for (size_t i = 0; kind != NULL && i < sizeof kinds / sizeof kinds[0]; i++) {
+        if (strcmp(kind, kinds[i].name) == 0) {
+            kinds[i].play();
+            return;
+        }
+    }
+    give_up("no such call");
+}
+
+static enum place place_named(const char *name) {
+    if (strcmp(name, "end") == 0) return AT_END;
+    if (strcmp(name, "begin") == 0) return AT_BEGIN;
+    if (strcmp(name, "heap") == 0) return ON_HEAP;
+    give_up("no such place");
+    return ON_HEAP;
+}
+
+int main(int count, char **words) {
+    if (count != 3) give_up("usage: host end|begin|heap CALLS");
+    place = place_named(words[1]);
+    FILE *calls = fopen(words[2], "r");
+    if (calls == NULL) give_up("no such file");
+    make_rooms();
+    watch();
+    char *line = NULL;
+    size_t size = 0;
+    while (getline(&line, &size, calls) > 0) {
+        line_number++;
+        play(line);
+    }
+    if (place != ON_HEAP) print_deepest();
+    return 0;
+}
