@@ -43,6 +43,9 @@ const EAH: usize = 10;
 
 const OTHER: usize = 11;
 
+// The mask of h: SHA-512.
+pub const HASH_MASK: u64 = 4;
+
 pub enum Answer {
     Good,
     Grammar,

@@ -11,15 +11,12 @@ ghost use Rattle.armor.specs.Answers.{Holds};
 ghost use Rattle.coverage.specs.Coverage.{asOrdered};
 use armor::Request;
 
-// The mask of h: SHA-512.
-const HASH_MASK: u64 = 4;
-
 // Whether h, ah and eah of a request are those that the orders say, byte for byte.
 pub fn as_ordered(value: &[u8], request: Request, mask: u64, extra: &[u8]) -> bool
     requires { ⌜ (requestFields (carried (now value)) ≡ true) × Holds (now value) (carried (now value)) request × (length (now extra) ≤ 128) ⌝ }
     ensures { λ r. ⌜ r ≡ asOrdered mask (now (extra .entry)) (carried (now (value .entry))) ⌝ }
 {
-    if request.h != HASH_MASK {
+    if request.h != armor::HASH_MASK {
         return false;
     }
     if request.ah != mask {

@@ -11,9 +11,6 @@ ghost use Rattle.reply.specs.Replies.{field, extraField, setupReply, inv
 ghost use Rattle.reply.specs.Laid.{Laid, following, tokenFields, orderFields};
 use hmac::Hmac;
 
-// The mask of h: SHA-512.
-const HASH_MASK: u64 = 4;
-
 // Writes the reply of a setup to the front of out; how long it is.
 pub fn setup(
     out: &mut [u8],
@@ -58,7 +55,7 @@ fn put_orders(out: &mut [u8], at: usize, mask: u64, extra: &[u8]) -> usize
     requires { ⌜ (at + 208 ≤ length (now out)) × (length (now extra) ≤ 128) ⌝ }
     ensures { λ r. ⌜ (r ≤ at + 208) × Laid (now (out .entry)) (now (out .exit)) at r (following (orderFields mask (now (extra .entry)))) ⌝ }
 {
-    let after_h = put_mask(out, at, b"h", HASH_MASK);
+    let after_h = put_mask(out, at, b"h", armor::HASH_MASK);
     let after_ah = put_mask(out, after_h, b"ah", mask);
     put_extra(out, after_ah, extra)
 }

@@ -19,9 +19,6 @@ use orders::Next;
 use window::Nonce;
 use window::time::Time;
 
-// The mask of h: SHA-512.
-const HASH_MASK: u64 = 4;
-
 // HMAC-SHA-512 under the session key of a request's signed text.
 pub fn code<'a>(
     key: &[u8],
@@ -50,7 +47,7 @@ fn opening(state: Hmac, mask: u64, extra: &[u8], n: Nonce, t: Time, lt: Time) ->
     requires { ⌜ (state .inner .length + mostOpening < 2 ^ 61) × (length (now extra) ≤ 128) ⌝ }
     ensures { λ r. ⌜ TookParts state (openingParts mask (now (extra .entry)) (n .0) (t .0) (lt .0)) mostOpening r ⌝ }
 {
-    let hash = absorb_mask(state, HASH_MASK);
+    let hash = absorb_mask(state, armor::HASH_MASK);
     let covered = absorb_mask(hash, mask);
     let named = netstring::absorb(covered, extra);
     let counted = absorb_nonce(named, mask, n);
