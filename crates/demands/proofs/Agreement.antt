@@ -19,8 +19,8 @@ use Rattle.signed.proofs.SameText as Text
 use Rattle.gate.specs.Calls.{Request}
 use Rattle.gate.specs.Judge.{fieldsOf, ivOf, nonceOf, timeOf, lastTimeOf, signatureOf, openedOf, tokenOf, textOf, requestChecks, judged}
 use Rattle.gate.proofs.Numbers.{first-drop}
-use Rattle.demands.proofs.Rising.{Beyond, beyond-less, request-passed, request-late}
-use Rattle.demands.proofs.Requests.{request-number}
+use Rattle.demands.proofs.Checks.{Beyond, beyond-less, request-passed, request-late}
+use Rattle.demands.proofs.Answers.{judged-number}
 use Rattle.demands.proofs.Passed.{Passed, all-passed}
 use Rattle.demands.proofs.Carried.{named, hash-ordered, mask-ordered, names-ordered, names-times, mask-fits, nonce-ordered, time-small, last-time-small, nonce-small}
 use Rattle.demands.proofs.SignedText.{carries, carriesTimes, signedBy, text-carried, time-carried, last-time-carried, nonce-carried}
@@ -59,11 +59,11 @@ pub record MeetAlike (p q : Request) : Type 0 where
 -- to reach the signature check is to get a number that is none of 1 to 10
 pub reaches : (q : Request) (table : List ℕ) → Beyond 10 (judged q table .number) → Reaches q table
 reaches q table b j l =
-    request-passed q table j (omega arith) (beyond-less (1 + j) 10 _ (omega arith) (subst (Beyond 10) (request-number q table) b))
+    request-passed q table j (omega arith) (beyond-less (1 + j) 10 _ (omega arith) (subst (Beyond 10) (judged-number q table) b))
 
 pub reached : (q : Request) (table : List ℕ) → Reaches q table → Beyond 10 (judged q table .number)
 reached q table r =
-    subst (Beyond 10) (sym (request-number q table ∙ first-drop 10 (requestChecks q table) r)) (request-late q table)
+    subst (Beyond 10) (sym (judged-number q table ∙ first-drop 10 (requestChecks q table) r)) (request-late q table)
 
 reaching : (q : Request) (table : List ℕ) → Reaches q table → Passed q table
 reaching q table r = all-passed q table (λ j l. r j (omega arith))

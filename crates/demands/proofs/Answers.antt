@@ -1,41 +1,27 @@
--- The number and the table that each call answers, and what is known where it answers 0.
+-- The number and the table that each call answers: the number is that of its checks, and the table follows from the number.
 -- Assumes nothing.
 use mathlib.Core.Path.{_≡_, refl, sym, ap, _∙_}
-use mathlib.Core.Bool.{Bool, true, false, cond, true≢false, _&&_, _||_, or-false}
+use mathlib.Core.Bool.{Bool, true, false, cond}
 use mathlib.Core.List.{List}
-use Prim.Native.Nat.{ℕ, _<_, _^_}
-use native.Mathlib.Omega.{arith}
-use borrow.Author.Tests.{eqb-true, ltb-false, not-false}
+use Prim.Native.Nat.{ℕ, _*_}
+use borrow.Author.Tests.{eqb-true}
 use lib.Dec.{eqb}
-use lib.ListN.{length}
+use Rattle.cells.specs.Runs.{spliced}
+use Rattle.window.specs.Window.{stepOf}
+use Rattle.table.specs.declared.session.Record.{Record}
+use Rattle.table.specs.declared.place.Place.the-variants.{At}
+use Rattle.table.specs.Record.{size, recordBytes, begun, windowOf, withWindow}
+use Rattle.table.specs.Table.{records, recordAt, taken}
 use Rattle.signed.specs.SignedText.{ordersNonce}
-use Rattle.window.specs.declared.Verdict.{Verdict}
-use Rattle.window.specs.declared.Verdict.the-variants.{Accepted, TooOld, Seen}
-use Rattle.window.specs.Window.{numberOf}
-use Rattle.window.specs.History.{isAccepted}
-use Rattle.table.specs.declared.place.Place.{Place}
-use Rattle.table.specs.declared.place.Place.the-variants.{At, Nowhere}
-use Rattle.table.specs.Table.{records, taken}
-use Rattle.table.proofs.Tests.{both}
 use Rattle.gate.specs.Calls.{Setup, Request}
 use Rattle.gate.specs.Outcome.{Outcome, untouched}
-use Rattle.gate.specs.Sizes.{exactly, setupFits}
-use Rattle.gate.specs.Checks.{first, nowhere}
-use Rattle.gate.specs.Session.{placeOf, without}
+use Rattle.gate.specs.Checks.{first}
+use Rattle.gate.specs.Session.{placeOf, without, steppedIn}
 use Rattle.gate.specs.Setup
 use Rattle.gate.specs.Setup.{expiryOf, setupChecks, setUp}
 use Rattle.gate.specs.Judge
-use Rattle.gate.specs.Judge.{ivOf, nonceOf, stepped, windowSays, requestChecks, accepted, invalidated, invalidates, judged}
+use Rattle.gate.specs.Judge.{ivOf, nonceOf, recordOf, stepped, requestChecks, accepted, invalidated, invalidates, judged}
 use Rattle.gate.specs.End.{endChecks, ended}
-use Rattle.demands.specs.History.{only, ofNonce, ofOthers, PassesOthers}
-use Rattle.demands.proofs.Checks.{none-holds, none-given, others-decide}
-use Rattle.demands.proofs.Nonces.{nonce-fits}
-
--- a verdict accepts exactly if its number is 0
-pub accepts-zero : (v : Verdict) → isAccepted v ≡ eqb (numberOf v) 0
-accepts-zero Accepted = refl
-accepts-zero TooOld = refl
-accepts-zero Seen = refl
 
 -- the number and the table of the outcome that a number picks
 number-by : (n : ℕ) (done refused : Outcome) → done .number ≡ 0 → refused .number ≡ n → (t : Bool) → eqb n 0 ≡ t
@@ -56,6 +42,12 @@ module _ (s : Setup) (table : List ℕ) where
   unfolding setUp
   setUp-table = table-by (eqb (first (setupChecks s table)) 0) _ _
 
+  -- with the place that is taken
+  pub begun-table : (place : ℕ) → taken (records table) (s .clock) ≡ At place
+      → Setup.tableOf s table ≡ spliced table (size * place) (recordBytes (begun (s .iv) (expiryOf s)))
+  unfolding Setup.tableOf
+  begun-table place e = rw e
+
 module _ (iv table : List ℕ) where
   pub ended-number : ended iv table .number ≡ first (endChecks iv table)
   unfolding ended
@@ -64,6 +56,10 @@ module _ (iv table : List ℕ) where
   pub ended-table : ended iv table .table ≡ cond (eqb (first (endChecks iv table)) 0) (without table iv) table
   unfolding ended
   ended-table = table-by (eqb (first (endChecks iv table)) 0) _ _
+
+-- a record with its window after a nonce
+abbrev pub next : ℕ → Record → Record
+next nonce r = withWindow r (stepOf (windowOf r) nonce .window)
 
 module _ (q : Request) (table : List ℕ) where
   refused-number : (n : ℕ) (t : Bool) → cond t (invalidated n q table) (untouched n (q .reply) table) .number ≡ n
@@ -85,72 +81,16 @@ module _ (q : Request) (table : List ℕ) where
       let n = first (requestChecks q table) in
       table-by (eqb n 0) (accepted q table) _ ∙ ap (cond (eqb n 0) (Judge.tableOf q table)) (table-by (invalidates n) (invalidated n q table) _)
 
--- what the tests of the checks say
-placed : (p : Place) → nowhere p ≡ false → (i : ℕ) × (p ≡ At i)
-placed (At i) e = (i, refl)
-placed Nowhere e = absurd (true≢false e)
+  -- with the place of the session
+  pub found-step : (place : ℕ) → placeOf table (ivOf q) ≡ At place → stepped q table ≡ stepOf (windowOf (recordAt table place)) (nonceOf q)
+  unfolding stepped recordOf
+  found-step place e = rw e
 
-unplaced : (p : Place) → nowhere p ≡ true → p ≡ Nowhere
-unplaced (At i) e = absurd (true≢false (sym e))
-unplaced Nowhere e = refl
+  pub ordered-table : (place : ℕ) → placeOf table (ivOf q) ≡ At place → ordersNonce (q .orders .mask) ≡ true
+      → Judge.tableOf q table ≡ spliced table (size * place) (recordBytes (next (nonceOf q) (recordAt table place)))
+  unfolding Judge.tableOf steppedIn
+  ordered-table place e o = rw (o, found-step place e, e)
 
-alone : (t : Bool) → (t || false) ≡ false → t ≡ false
-alone t e = sym (or-false t) ∙ e
-
-third : (a b c d : Bool) → (a && (b && (c && d))) ≡ true → c ≡ true
-third a b c d e = both c d (both b (c && d) (both a (b && (c && d)) e .1) .1) .0
-
--- a setup that is answered 0 takes a record, its IV is in no used record, and its IV and expiry fit in one
-pub record Takes (s : Setup) (table : List ℕ) : Type 0 where
-  pub place : ℕ
-  pub takes : taken (records table) (s .clock) ≡ At place
-  pub unused : placeOf table (s .iv) ≡ Nowhere
-  pub long : length (s .iv) ≡ 12
-  pub small : expiryOf s < 2 ^ 32
-
-pub setUp-takes : (s : Setup) (table : List ℕ) → first (setupChecks s table) ≡ 0 → Takes s table
-unfolding setupChecks setupFits
-setUp-takes s table e =
-    let passed = none-holds (setupChecks s table) refl e in
-    let sizes = not-false (setupFits s table) (alone _ (passed 1)) in
-    let place = placed (taken (records table) (s .clock)) (alone _ (passed 18)) in
-    record {
-      place = place .0;
-      takes = place .1;
-      unused = unplaced (placeOf table (s .iv)) (not-false _ (alone _ (passed 17)));
-      long = eqb-true (length (s .iv)) 12 (third (exactly 32 (s .server-key)) (exactly 32 (s .session-key)) (exactly 12 (s .iv)) _ sizes);
-      small = omega (arith, ltb-false 4294967295 (expiryOf s) (alone _ (passed 20)));
-    }
-
-module _ (q : Request) (table : List ℕ) where
-  -- a request that passes the checks other than those of its nonce has a session, and its nonce fits in a record
-  pub record Finds : Type 0 where
-    pub place : ℕ
-    pub finds : placeOf table (ivOf q) ≡ At place
-    pub small : nonceOf q < 2 ^ 32
-
-  pub passes-finds : PassesOthers q table → Finds
-  unfolding requestChecks
-  passes-finds e =
-      let passed = none-holds (only ofOthers (requestChecks q table)) refl e in
-      let place = placed (placeOf table (ivOf q)) (alone _ (passed 12)) in
-      record { place = place .0; finds = place .1; small = nonce-fits q (alone _ (passed 4)) (not-false _ (alone _ (passed 5))) }
-
-  verdict-number : (v : Verdict) → cond (eqb (numberOf v) 15) 15 (cond (eqb (numberOf v) 16) 16 0) ≡ numberOf v
-  verdict-number Accepted = refl
-  verdict-number TooOld = refl
-  verdict-number Seen = refl
-
-  -- where nonces are ordered its window decides
-  pub passes-window : PassesOthers q table → ordersNonce (q .orders .mask) ≡ true → first (requestChecks q table) ≡ numberOf (stepped q table .verdict)
-  unfolding requestChecks windowSays
-  passes-window e o =
-      let v = numberOf (stepped q table .verdict) in
-      others-decide ofNonce (requestChecks q table) refl e
-      ∙ ap (λ (t : Bool). cond (t && eqb v 15) 15 (cond (t && eqb v 16) 16 0)) o
-      ∙ verdict-number (stepped q table .verdict)
-
-  -- one that is answered 0 passes them
-  pub accepted-passes : first (requestChecks q table) ≡ 0 → PassesOthers q table
-  unfolding requestChecks
-  accepted-passes e = none-given ofOthers (requestChecks q table) refl e
+  pub unordered-table : ordersNonce (q .orders .mask) ≡ false → Judge.tableOf q table ≡ table
+  unfolding Judge.tableOf steppedIn
+  unordered-table o = rw o

@@ -3,40 +3,42 @@
 use mathlib.Core.Path.{_≡_, refl, sym, ap, subst, _∙_}
 use mathlib.Core.Bool.{Bool, true, false, cond, _&&_}
 use mathlib.Core.List.{List, _∷_}
-use Prim.Native.Nat.{ℕ, _*_}
+use Prim.Native.Nat.{ℕ}
 use borrow.Author.Tests.{eqb-true, eq-eqb}
 use lib.Dec.{eqb}
 use lib.ListN.{getD}
-use Rattle.cells.specs.Runs.{spliced, same}
-use Rattle.signed.specs.SignedText.{ordersNonce}
+use Rattle.cells.specs.Runs.{same}
 use Rattle.window.specs.Window.{stepOf}
 use Rattle.window.specs.History.{keep}
 use Rattle.table.specs.declared.session.Record.{Record}
-use Rattle.table.specs.declared.place.Place.{Place}
-use Rattle.table.specs.Record.{size, recordBytes, freed, begun, windowOf, withWindow}
-use Rattle.table.specs.Table.{records}
+use Rattle.table.specs.Record.{freed, begun, windowOf}
+use Rattle.table.specs.Table.{records, recordAt}
 use Rattle.table.proofs.Found.{found-at, taken-at}
 use Rattle.table.proofs.Sessions.{begun-fits, stepped-fits}
+use Rattle.signed.specs.SignedText.{ordersNonce}
 use Rattle.gate.specs.Calls.{Setup, Request}
 use Rattle.gate.specs.Checks.{first}
-use Rattle.gate.specs.Session.{placeOf, heldAt, with-record, without, steppedIn}
+use Rattle.gate.specs.Session.{without}
 use Rattle.gate.specs.Setup
 use Rattle.gate.specs.Setup.{expiryOf, setupChecks, setUp}
 use Rattle.gate.specs.Judge
-use Rattle.gate.specs.Judge.{ivOf, nonceOf, recordOf, stepped, requestChecks, invalidates, judged}
+use Rattle.gate.specs.Judge.{ivOf, nonceOf, stepped, requestChecks, invalidates, judged}
 use Rattle.gate.specs.End.{endChecks, ended}
+use Rattle.gate.proofs.Numbers.{first-exactly, setup-numbered}
 use Rattle.demands.specs.History.{Call, setting-up, judging, ending, answer, withAccepted, withSetUp}
+use Rattle.demands.proofs.Checks.{accepted-passes}
+use Rattle.demands.proofs.Answers.{setUp-number, setUp-table, begun-table, ended-table, next, judged-number, judged-table, found-step, ordered-table, unordered-table}
+use Rattle.demands.proofs.Passed.{Takes, setup-takes}
+use Rattle.demands.proofs.Others.{accepts-zero, Finds, passes-finds, passes-window}
 use Rattle.demands.proofs.Sessions.{begun-sessions, stepped-sessions}
 use Rattle.demands.proofs.Tables.{Standing, held, stored-standing, without-standing}
-use Rattle.demands.proofs.Answers.{accepts-zero, setUp-number, setUp-table, ended-table, judged-number, judged-table, Takes, setUp-takes, Finds, passes-finds, passes-window, accepted-passes}
 
 module _ (n : ℕ) (table : List ℕ) (ivs : List (List ℕ)) (nonces : List ℕ → List ℕ) (st : Standing n table ivs nonces) where
   -- a setup that is answered 0
   setup-done : (s : Setup) → Takes s table → Standing n (Setup.tableOf s table) (s .iv ∷ ivs) nonces
-  unfolding Setup.tableOf
   setup-done s t =
       let h = taken-at (records table) (s .clock) (t .place) (t .takes) .0 in
-      subst (λ (p : Place). Standing n (with-record table p (begun (s .iv) (expiryOf s))) (s .iv ∷ ivs) nonces) (sym (t .takes))
+      rw (begun-table s table (t .place) (t .takes))
       (stored-standing n table ivs nonces st (t .place) (begun (s .iv) (expiryOf s)) h (begun-fits (s .iv) (expiryOf s) (t .long) (t .small))
       (begun-sessions (records table) ivs nonces (st .sessions) (t .place) (s .iv) (expiryOf s) h (t .unused) (t .long) (t .small)))
 
@@ -45,7 +47,7 @@ module _ (n : ℕ) (table : List ℕ) (ivs : List (List ℕ)) (nonces : List ℕ
     where
       by : (t : Bool) → eqb (first (setupChecks s table)) 0 ≡ t
           → Standing n (cond t (Setup.tableOf s table) table) (cond t (s .iv ∷ ivs) ivs) nonces
-      by true e = setup-done s (setUp-takes s table (eqb-true _ 0 e))
+      by true e = setup-done s (setup-takes s table (first-exactly (setupChecks s table) (setup-numbered s table) .passed (eqb-true _ 0 e)))
       by false e = st
 
   end-standing : (iv : List ℕ) → Standing n (ended iv table .table) ivs nonces
@@ -60,30 +62,11 @@ module _ (n : ℕ) (table : List ℕ) (ivs : List (List ℕ)) (nonces : List ℕ
     old f = getD (records table) (f .place) freed
 
     -- the session's record, and the step that its window takes
-    held-record : (f : Finds q table) → recordOf q table ≡ old f
-    unfolding recordOf
-    held-record f =
-        ap (heldAt table) (f .finds) ∙ held n table ivs nonces st (f .place) (found-at (records table) (ivOf q) (f .place) (f .finds) .0)
+    held-record : (f : Finds q table) → recordAt table (f .place) ≡ old f
+    held-record f = held n table ivs nonces st (f .place) (found-at (records table) (ivOf q) (f .place) (f .finds) .0)
 
     pub held-step : (f : Finds q table) → stepped q table ≡ stepOf (windowOf (old f)) (nonceOf q)
-    unfolding stepped
-    held-step f = ap (λ (r : Record). stepOf (windowOf r) (nonceOf q)) (held-record f)
-
-    abbrev next : Record → Record
-    next r = withWindow r (stepOf (windowOf r) (nonceOf q) .window)
-
-    -- the table of a request that is answered 0, with nonces ordered or not
-    ordered-table : (f : Finds q table) → ordersNonce (q .orders .mask) ≡ true
-        → Judge.tableOf q table ≡ spliced table (size * f .place) (recordBytes (next (old f)))
-    unfolding Judge.tableOf steppedIn stepped recordOf
-    ordered-table f o =
-        ap (λ (t : Bool). cond t (with-record table (placeOf table (ivOf q)) (next (recordOf q table))) table) o
-        ∙ ap (λ (p : Place). with-record table p (next (recordOf q table))) (f .finds)
-        ∙ ap (λ (r : Record). spliced table (size * f .place) (recordBytes (next r))) (held-record f)
-
-    unordered-table : ordersNonce (q .orders .mask) ≡ false → Judge.tableOf q table ≡ table
-    unfolding Judge.tableOf steppedIn
-    unordered-table o = rw o
+    held-step f = found-step q table (f .place) (f .finds) ∙ ap (λ (r : Record). stepOf (windowOf r) (nonceOf q)) (held-record f)
 
     request-done : (o : Bool) → ordersNonce (q .orders .mask) ≡ o → first (requestChecks q table) ≡ 0
         → Standing n (Judge.tableOf q table) ivs (λ iv. keep (o && same (ivOf q) iv) (nonceOf q) (nonces iv))
@@ -92,11 +75,11 @@ module _ (n : ℕ) (table : List ℕ) (ivs : List (List ℕ)) (nonces : List ℕ
         let f = passes-finds q table passes in
         let h = found-at (records table) (ivOf q) (f .place) (f .finds) .0 in
         let accepts = accepts-zero (stepped q table .verdict) ∙ eq-eqb _ 0 (sym (passes-window q table passes o) ∙ e) in
-        rw (ordered-table f o)
-        (stored-standing n table ivs nonces st (f .place) (next (old f)) h (stepped-fits (old f) (nonceOf q) (st .sessions .fit (f .place) h) (f .small))
+        rw (ordered-table q table (f .place) (f .finds) o, held-record f)
+        (stored-standing n table ivs nonces st (f .place) (next (nonceOf q) (old f)) h (stepped-fits (old f) (nonceOf q) (st .sessions .fit (f .place) h) (f .small))
         (stepped-sessions (records table) ivs nonces (st .sessions) (f .place) (ivOf q) (nonceOf q) (f .finds) (f .small)
         (rw (held-step f) at accepts)))
-    request-done false o e = rw (unordered-table o) st
+    request-done false o e = rw (unordered-table q table o) st
 
   request-standing : (q : Request) → Standing n (judged q table .table) ivs (λ iv. withAccepted iv (judging q) (judged q table .number) (nonces iv))
   request-standing q =

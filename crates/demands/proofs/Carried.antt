@@ -22,8 +22,8 @@ use Rattle.armor.proofs.Fields.{grammar-good, obeyed-once}
 use Rattle.armor.proofs.Requests.{none-held}
 use Rattle.armor.proofs.Carried.{carried-bytes, request-given, request-has, nonce-times}
 use Rattle.orders.specs.Orders.{ordersGood}
-use Rattle.coverage.specs.Coverage.{asOrdered, extraAsOrdered}
 use Rattle.table.proofs.Tests.{both}
+use Rattle.coverage.specs.Coverage.{asOrdered, extraAsOrdered}
 use Rattle.gate.specs.Calls.{Request}
 use Rattle.gate.specs.Judge.{fieldsOf, nonceOf, timeOf, lastTimeOf}
 use Rattle.demands.proofs.Passed.{Passed}

@@ -8,12 +8,12 @@ use Prim.Native.Nat.{ℕ, _≤_}
 use lib.ListN.{length, take, drop}
 use lib.Seq.{take-append-seam, drop-append-seam}
 use Rattle.cells.specs.Runs.{Bytes, fronted}
-use Rattle.signed.specs.SignedText.{ordersNonce}
 use Rattle.window.specs.Window.{stepOf}
-use Rattle.reply.specs.Replies.{invalidation}
 use Rattle.table.specs.declared.place.Place.the-variants.{At}
 use Rattle.table.specs.Record.{freed, begun, windowOf, withWindow}
 use Rattle.table.specs.Table.{records, recordAt, taken}
+use Rattle.signed.specs.SignedText.{ordersNonce}
+use Rattle.reply.specs.Replies.{invalidation}
 use Rattle.gate.specs.Calls.{Setup, Request}
 use Rattle.gate.specs.Outcome.{Outcome, replied}
 use Rattle.gate.specs.Setup.{expiryOf, setupChecks, replyOf}

@@ -7,14 +7,13 @@ use Prim.Native.Nat.{ℕ}
 use native.Mathlib.Omega.{arith}
 use borrow.Author.Tests.{eqb-true, eqb-false}
 use lib.Dec.{eqb}
-use Rattle.table.specs.Record.{freed}
 use Rattle.gate.specs.Outcome.{untouched}
 use Rattle.gate.specs.Checks.{first}
 use Rattle.gate.specs.Session.{without}
 use Rattle.gate.specs.End.{endChecks, endOutcome, ended}
 use Rattle.gate.proofs.Numbers.{Exactly, NoneHolds, first-among, first-exactly, end-numbered}
 use Rattle.demands.proofs.Named.{somewhere, freed-there}
-use Rattle.demands.proofs.Passed.{passed, table-passed, session-passed}
+use Rattle.demands.proofs.Passed.{table-passed, session-passed}
 use Rattle.demands.proofs.Effects.{endNumbers, Ended, EndEffects}
 
 ends : (iv table : List ℕ) → NoneHolds (endChecks iv table) → Ended iv table (endOutcome 0 iv table)

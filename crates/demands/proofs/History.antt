@@ -14,7 +14,6 @@ use Prim.Native.Nat.{ℕ, _*_}
 use native.Mathlib.Omega.{arith}
 use borrow.Author.Tests.{eqb-true, eq-eqb}
 use lib.ListN.{length, length-replicate}
-use Rattle.signed.specs.SignedText.{ordersNonce}
 use Rattle.window.specs.declared.Stepped.{Stepped}
 use Rattle.window.specs.Window.{numberOf}
 use Rattle.window.specs.History.{admits, verdictAfter}
@@ -23,6 +22,7 @@ use Rattle.table.specs.Record.{size}
 use Rattle.table.specs.Table.{records}
 use Rattle.table.specs.WellFormed.{wellFormed}
 use Rattle.table.proofs.Meaning.{is-wellFormed}
+use Rattle.signed.specs.SignedText.{ordersNonce}
 use Rattle.gate.specs.Calls.{Request}
 use Rattle.gate.specs.Setup.{setupChecks}
 use Rattle.gate.specs.Judge.{ivOf, nonceOf, requestChecks, judged}
@@ -30,7 +30,8 @@ use Rattle.gate.specs.End.{endChecks}
 use Rattle.demands.specs.History.{Call, setting-up, judging, ending, answer, emptyTable, after, acceptedIn, setUpIn, lentIn, Apart, PassesOthers}
 use Rattle.demands.proofs.Checks.{never-given}
 use Rattle.demands.proofs.Tables.{Standing, empty-standing}
-use Rattle.demands.proofs.Answers.{accepts-zero, setUp-number, ended-number, judged-number, passes-finds, passes-window}
+use Rattle.demands.proofs.Answers.{setUp-number, ended-number, judged-number}
+use Rattle.demands.proofs.Others.{accepts-zero, passes-finds, passes-window}
 use Rattle.demands.proofs.Lent.{lent-apart}
 use Rattle.demands.proofs.Calls.{held-step, call-standing}
 

@@ -16,6 +16,11 @@ use Rattle.gate.specs.Checks.{nowhere}
 use Rattle.gate.specs.Session.{placeOf, with-record, without}
 use Rattle.demands.proofs.Stored.{Replaced, replaced}
 
+-- what it says that a place is somewhere
+pub placed : (p : Place) → nowhere p ≡ false → (i : ℕ) × (p ≡ At i)
+placed (At i) e = (i, refl)
+placed Nowhere e = absurd (true≢false e)
+
 -- a used record with the IV stands at a place of the table
 pub record SessionAt (table vector : List ℕ) (place : ℕ) : Type 0 where
   pub within : place < places table
@@ -41,11 +46,9 @@ pub record Session (table vector : List ℕ) : Type 0 where
   pub is : SessionAt table vector place
 
 pub somewhere : (table iv : List ℕ) → nowhere (placeOf table iv) ≡ false → Session table iv
-somewhere table iv e = by (placeOf table iv) refl e
-  where
-    by : (p : Place) → placeOf table iv ≡ p → nowhere p ≡ false → Session table iv
-    by (At place) q f = record { place = place; is = found-session table iv place q }
-    by Nowhere q f = absurd (true≢false f)
+somewhere table iv e =
+    let p = placed (placeOf table iv) e in
+    record { place = p .0; is = found-session table iv (p .0) (p .1) }
 
 -- its record freed
 pub freed-there : (table iv : List ℕ) (place : ℕ) → WellFormed (records table) → SessionAt table iv place → Replaced table (without table iv) place freed

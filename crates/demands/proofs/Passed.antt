@@ -13,15 +13,18 @@ use Rattle.armor.specs.declared.Answer.{Answer}
 use Rattle.armor.specs.Value.{Field, grammar, carried}
 use Rattle.armor.specs.Fields.{requestFields}
 use Rattle.armor.specs.Answers.{requestAnswer}
-use Rattle.armor.specs.Scan as Scan
+use Rattle.armor.specs.Scan
 use Rattle.armor.proofs.Requests.{request-by}
 use Rattle.orders.specs.Orders.{ordersGood}
 use Rattle.lines.specs.Lines.{goodBlock}
-use Rattle.coverage.specs.Coverage.{asOrdered}
-use Rattle.token.specs.Token.{given}
+use Rattle.table.specs.declared.place.Place.{Place}
+use Rattle.table.specs.declared.place.Place.the-variants.{At, Nowhere}
 use Rattle.table.specs.Table.{records, taken}
 use Rattle.table.specs.WellFormed.{WellFormed}
+use Rattle.table.proofs.Tests.{both}
 use Rattle.table.proofs.Meaning.{wellFormed-is}
+use Rattle.coverage.specs.Coverage.{asOrdered}
+use Rattle.token.specs.Token.{given}
 use Rattle.gate.specs.Calls.{Setup, Request}
 use Rattle.gate.specs.Sizes.{exactly, setupFits, requestFits}
 use Rattle.gate.specs.Checks.{first, ordersBad, missing, nowhere}
@@ -30,7 +33,8 @@ use Rattle.gate.specs.Setup.{expiryOf, setupChecks}
 use Rattle.gate.specs.End.{endChecks}
 use Rattle.gate.specs.Judge.{fieldsOf, ivOf, openedOf, twice, requestChecks}
 use Rattle.gate.proofs.Numbers.{NoneHolds, unchecked}
-use Rattle.demands.proofs.Rising.{Beyond, beyond-less, request-passed}
+use Rattle.demands.proofs.Checks.{Beyond, beyond-less, request-passed}
+use Rattle.demands.proofs.Named.{placed}
 
 -- none of the checks 1 to 9 holds
 pub record Passed (q : Request) (table : List ℕ) : Type 0 where
@@ -70,26 +74,32 @@ unfolding requestChecks
 found-passed q table b = request-passed q table 11 (lit< tt) b
 
 third : (a b c d : Bool) → (a && (b && (c && d))) ≡ true → c ≡ true
-third true true true d e = refl
-third true true false d e = e
-third true false c d e = absurd (true≢false (sym e))
-third false b c d e = absurd (true≢false (sym e))
+third a b c d e = both c d (both b (c && d) (both a (b && (c && d)) e .1) .1) .0
 
--- a setup of which no check holds
-module _ (s : Setup) (table : List ℕ) (none : NoneHolds (setupChecks s table)) where
-  pub iv-passed : length (s .iv) ≡ 12
-  unfolding setupChecks setupFits
-  iv-passed =
-      eqb-true (length (s .iv)) 12
-      (third (exactly 32 (s .server-key)) (exactly 32 (s .session-key)) (exactly 12 (s .iv)) _ (not-false _ (none 0 (lit< tt))))
+unplaced : (p : Place) → nowhere p ≡ true → p ≡ Nowhere
+unplaced (At i) e = absurd (true≢false (sym e))
+unplaced Nowhere e = refl
 
-  pub expiry-passed : expiryOf s < 2 ^ 32
-  unfolding setupChecks
-  expiry-passed = omega (arith, ltb-false 4294967295 (expiryOf s) (none 6 (lit< tt)))
+-- a setup of which no check holds takes a record, its IV is in no used record, and its IV and expiry fit in one
+pub record Takes (s : Setup) (table : List ℕ) : Type 0 where
+  pub place : ℕ
+  pub takes : taken (records table) (s .clock) ≡ At place
+  pub unused : placeOf table (s .iv) ≡ Nowhere
+  pub long : length (s .iv) ≡ 12
+  pub small : expiryOf s < 2 ^ 32
 
-  pub taken-passed : nowhere (taken (records table) (s .clock)) ≡ false
-  unfolding setupChecks
-  taken-passed = none 8 (lit< tt)
+pub setup-takes : (s : Setup) (table : List ℕ) → NoneHolds (setupChecks s table) → Takes s table
+unfolding setupChecks setupFits
+setup-takes s table past =
+    let sizes = not-false (setupFits s table) (past 0 (lit< tt)) in
+    let place = placed (taken (records table) (s .clock)) (past 8 (lit< tt)) in
+    record {
+      place = place .0;
+      takes = place .1;
+      unused = unplaced (placeOf table (s .iv)) (not-false _ (past 7 (lit< tt)));
+      long = eqb-true (length (s .iv)) 12 (third (exactly 32 (s .server-key)) (exactly 32 (s .session-key)) (exactly 12 (s .iv)) _ sizes);
+      small = omega (arith, ltb-false 4294967295 (expiryOf s) (past 6 (lit< tt)));
+    }
 
 -- an ending of which no check holds
 module _ (iv table : List ℕ) (none : NoneHolds (endChecks iv table)) where

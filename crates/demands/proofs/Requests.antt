@@ -4,29 +4,26 @@ use mathlib.Core.Path.{_≡_, refl, sym, ap, subst, _∙_}
 use mathlib.Core.Bool.{Bool, true, false, true≢false, cond, _||_}
 use mathlib.Core.List.{List, List·Memᴰ, List·Memᴰ·head}
 use mathlib.Core.Logic.{inl, inr}
-use Prim.Native.Nat.{ℕ, _*_}
+use Prim.Native.Nat.{ℕ}
 use native.Mathlib.Omega.{arith}
 use borrow.Author.Tests.{eqb-true, eqb-false}
 use lib.Dec.{eqb}
-use Rattle.cells.specs.Runs.{Bytes, spliced}
-use Rattle.signed.specs.SignedText.{ordersNonce}
-use Rattle.window.specs.Window.{stepOf}
-use Rattle.reply.specs.Replies.{invalidation}
-use Rattle.reply.proofs.Lengths.{length-invalidation}
+use Rattle.cells.specs.Runs.{Bytes}
 use Rattle.table.specs.declared.session.Record.{Record}
-use Rattle.table.specs.declared.place.Place.{Place}
-use Rattle.table.specs.declared.place.Place.the-variants.{At}
-use Rattle.table.specs.Record.{size, recordBytes, freed, windowOf, withWindow}
 use Rattle.table.specs.Table.{recordAt}
 use Rattle.table.proofs.Sessions.{recordAt-fits, stepped-fits}
+use Rattle.signed.specs.SignedText.{ordersNonce}
+use Rattle.reply.specs.Replies.{invalidation}
+use Rattle.reply.proofs.Lengths.{length-invalidation}
 use Rattle.gate.specs.Calls.{Request}
 use Rattle.gate.specs.Outcome.{untouched}
 use Rattle.gate.specs.Checks.{first}
-use Rattle.gate.specs.Session.{placeOf, heldAt, with-record, without, steppedIn}
-use Rattle.gate.specs.Judge as Judge
-use Rattle.gate.specs.Judge.{ivOf, nonceOf, tokenOf, recordOf, stepped, requestChecks, accepted, invalidated, invalidates, requestOutcome, judged}
-use Rattle.gate.proofs.Numbers.{Exactly, exactly-one, first-among, first-exactly, request-numbered}
-use Rattle.demands.proofs.Rising.{Beyond}
+use Rattle.gate.specs.Session.{without}
+use Rattle.gate.specs.Judge
+use Rattle.gate.specs.Judge.{ivOf, nonceOf, tokenOf, requestChecks, accepted, invalidated, invalidates, requestOutcome, judged}
+use Rattle.gate.proofs.Numbers.{Exactly, first-among, first-exactly, request-numbered}
+use Rattle.demands.proofs.Checks.{Beyond}
+use Rattle.demands.proofs.Answers.{next, ordered-table, unordered-table}
 use Rattle.demands.proofs.Stored.{Replaced, replaced}
 use Rattle.demands.proofs.Named.{SessionAt, session-found, somewhere, freed-there, freed-nowhere}
 use Rattle.demands.proofs.Passed.{Passed, passed, found-passed}
@@ -44,16 +41,12 @@ freed-by q n table p = record {
 
 stepped-there : (q : Request) (table : List ℕ) (place : ℕ) → Passed q table → SessionAt table (ivOf q) place → Bytes table
     → ordersNonce (q .orders .mask) ≡ true → Moved table (Judge.tableOf q table) place (nonceOf q)
-unfolding Judge.tableOf steppedIn stepped recordOf
 stepped-there q table place p s b o =
-    let r = recordAt table place in
-    let next = withWindow r (stepOf (windowOf r) (nonceOf q) .window) in
-    let small = stepped-fits r (nonceOf q) (recordAt-fits table place (s .within) b) (nonce-small q table p) in
-    let there : placeOf table (ivOf q) ≡ At place = session-found table (ivOf q) place (p .well) s in
-    let same : Judge.tableOf q table ≡ spliced table (size * place) (recordBytes next) =
-    ap (λ (t : Bool). cond t (with-record table (placeOf table (ivOf q)) (withWindow (recordOf q table) (stepped q table .window))) table) o
-    ∙ ap (λ (w : Place). with-record table w (withWindow (heldAt table w) (stepOf (windowOf (heldAt table w)) (nonceOf q) .window))) there in
-    let all = subst (λ (after : List ℕ). Replaced table after place next) (sym same) (replaced table place next (s .within) small) in
+    let r = next (nonceOf q) (recordAt table place) in
+    let small = stepped-fits (recordAt table place) (nonceOf q) (recordAt-fits table place (s .within) b) (nonce-small q table p) in
+    let there = session-found table (ivOf q) place (p .well) s in
+    let all : Replaced table (Judge.tableOf q table) place r =
+    rw (ordered-table q table place there o) (replaced table place r (s .within) small) in
     record {
       session = all;
       used = ap (λ (x : Record). x .used) (all .here);
@@ -62,7 +55,7 @@ stepped-there q table place p s b o =
     }
 
 accepts : (q : Request) (table : List ℕ) → first (requestChecks q table) ≡ 0 → Accepted q table (accepted q table)
-unfolding accepted Judge.tableOf steppedIn
+unfolding accepted
 accepts q table e =
     let p = passed q table (inl e) in
     let s = somewhere table (ivOf q) (found-passed q table (inl e)) in
@@ -70,7 +63,7 @@ accepts q table e =
       session = s;
       reply = fronted-replied 0 (tokenOf q .id) (q .reply) (Judge.tableOf q table);
       ordered = λ b o. stepped-there q table (s .place) p (s .is) b o;
-      unordered = λ o. rw o;
+      unordered = λ o. unordered-table q table o;
     }
 
 ten-or-thirteen : (n : ℕ) → invalidates n ≡ true → TenOrThirteen n
@@ -139,8 +132,3 @@ judge-by q table n e m = by (eqb n 0) refl (invalidates n) refl
 pub judge-effects : (q : Request) (table : List ℕ) → JudgeEffects q table (judged q table)
 unfolding judged requestChecks
 judge-effects q table = judge-by q table (first (requestChecks q table)) refl (first-among (requestChecks q table))
-
-pub request-number : (q : Request) (table : List ℕ) → judged q table .number ≡ first (requestChecks q table)
-request-number q table =
-    exactly-one (requestChecks q table) (judged q table .number) (first (requestChecks q table))
-    (judge-effects q table .in-order) (first-exactly (requestChecks q table) (request-numbered q table))

@@ -25,7 +25,7 @@ use Rattle.table.proofs.Records.{freed-fits}
 use Rattle.table.proofs.Tests.{holds-used}
 use Rattle.table.proofs.Found.{found-at, found-nowhere, nowhere-found, at-found}
 use Rattle.table.proofs.Meaning.{freed-sound}
-use Rattle.table.proofs.Stored.{Alone, stored-here, stored-other, stored-well, alone-new, alone-same}
+use Rattle.table.proofs.Stored.{Alone, stored-here, stored-other, stored-well, found-kept, alone-new, alone-same}
 use Rattle.table.proofs.Sessions.{begun-sound, begun-fits, stepped-sound, stepped-fits, windowOf-with}
 use Rattle.demands.specs.History.{Apart}
 
@@ -89,13 +89,7 @@ module _ (rs : List Record) (i : ℕ) (r : Record) (h : i < length rs) where
 
   -- none is found where none was and the new record has another IV
   found-none : (iv : List ℕ) → found rs iv ≡ Nowhere → holds iv r ≡ false → found (set rs i r) iv ≡ Nowhere
-  found-none iv e n = nowhere-found (set rs i r) iv (λ j l. ⊎-elim here (there j (rw length-set at l)) (equal-or-not j i))
-    where
-      here : {j : ℕ} → j ≡ i → holds iv (getD (set rs i r) j freed) ≡ false
-      here p = ap (holds iv) (ap (λ (k : ℕ). getD (set rs i r) k freed) p ∙ stored-here rs i r h) ∙ n
-
-      there : (j : ℕ) → j < length rs → (j ≡ i → ⊥) → holds iv (getD (set rs i r) j freed) ≡ false
-      there j l m = ap (holds iv) (stored-other rs i r h j m) ∙ found-nowhere rs iv e j l
+  found-none iv e n = found-kept rs i r h iv (n ∙ sym (found-nowhere rs iv e i h)) ∙ e
 
   -- the sessions of a table with a record stored, from what they are under the IVs of the new record and of the others
   stored : (ivs : List (List ℕ)) (nonces : List ℕ → List ℕ) → WellFormed rs → ((j : ℕ) → j < length rs → Fits (getD rs j freed))

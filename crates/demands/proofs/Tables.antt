@@ -7,16 +7,16 @@ use native.Mathlib.Omega.{arith}
 use lib.ListN.{length, getD, set, replicate, length-replicate, replicate-append-replicate}
 use Rattle.cells.specs.Runs.{spliced}
 use Rattle.cells.specs.Numbers.{number}
-use Rattle.cells.proofs.Runs.{length-spliced}
 use Rattle.table.specs.declared.session.Record.{Record}
 use Rattle.table.specs.declared.place.Place.{Place}
 use Rattle.table.specs.declared.place.Place.the-variants.{At, Nowhere}
 use Rattle.table.specs.Record.{size, recordBytes, recordOf, Fits, freed}
 use Rattle.table.specs.Table.{places, recordAt, chunks, records}
-use Rattle.table.proofs.Records.{length-recordBytes, length-records, records-at, records-stored, freed-fits}
+use Rattle.table.proofs.Records.{length-records, records-at, records-stored, freed-fits}
 use Rattle.table.proofs.Found.{found-at}
 use Rattle.gate.specs.Session.{placeOf, with-record, without}
 use Rattle.demands.specs.History.{emptyTable}
+use Rattle.demands.proofs.Stored.{replaced}
 use Rattle.demands.proofs.Sessions.{Sessions, free-sessions, freed-sessions}
 
 -- a table of n records, the IVs set up so far, and the nonces accepted so far under each IV
@@ -58,7 +58,7 @@ module _ (n : ℕ) (table : List ℕ) (ivs : List (List ℕ)) (nonces : List ℕ
   pub stored-standing : (i : ℕ) (r : Record) {others : List (List ℕ)} {more : List ℕ → List ℕ} → i < length (records table) → Fits r
       → Sessions (set (records table) i r) others more → Standing n (spliced table (size * i) (recordBytes r)) others more
   stored-standing i r {others} {more} h f t = record {
-    long = length-spliced table (recordBytes r) (size * i) (omega (arith, within i h, length-recordBytes r (f .iv))) ∙ s .long;
+    long = replaced table i r (within i h) f .as-long ∙ s .long;
     sessions = subst (λ (rs : List Record). Sessions rs others more) (sym (records-stored table i r (within i h) f)) t;
   }
 

@@ -1,8 +1,12 @@
 -- Demand 1: 'A bad request gets its number from our list, by the order given there. Only the refusals 10 and 13 alter the table, by freeing
--- that session's record, and only they write a reply; the others touch nothing.' For each of the three calls, over everything that can be lent.
+-- that session's record, and only they write a reply; the others touch nothing.' For each of the calls, over everything that can be lent.
 -- Assumes nothing.
+use mathlib.Core.Path.{_≡_, sym, ap, _∙_}
 use mathlib.Core.List.{List, []}
 use Prim.Native.Nat.{ℕ, _≤_}
+use Rattle.table.specs.declared.session.Record.{Record}
+use Rattle.table.specs.Record.{recordBytes, recordOf, Fits}
+use Rattle.table.proofs.Records.{recordOf-bytes}
 use Rattle.gate.specs.Calls.{Setup, Request}
 use Rattle.gate.specs.Setup.{setUp}
 use Rattle.gate.specs.Judge.{judged}
@@ -42,3 +46,11 @@ untouched-else (setting-up s) table h f = setup s table .refused h
 untouched-else (judging q) table h f = judge q table .refused h f
 untouched-else (ending iv) table h f =
     record { long = end iv table .no-reply .0; reply = end iv table .no-reply .1; table = end iv table .refused h }
+
+-- the thin entry leaves the record that a table of it alone would hold: what holds of that table is said by `judge`, and of the record
+-- itself, that a refusal other than 10 and 13 keeps every field
+pub one-untouched : (q : Request) (before after : Record) → Fits before → Fits after → judged q (recordBytes before) .table ≡ recordBytes after
+    → 1 ≤ judged q (recordBytes before) .number → (TenOrThirteen (judged q (recordBytes before) .number) → ⊥) → after ≡ before
+one-untouched q before after f g left h t =
+    let kept = judge q (recordBytes before) .refused h t .table in
+    sym (recordOf-bytes after g) ∙ ap recordOf (sym left ∙ kept) ∙ recordOf-bytes before f

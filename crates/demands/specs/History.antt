@@ -9,9 +9,9 @@ use lib.Dec.{eqb}
 use lib.ListN.{replicate}
 use Rattle.cells.specs.Runs.{same}
 use Rattle.armor.specs.Fields.{among}
-use Rattle.signed.specs.SignedText.{ordersNonce}
-use Rattle.table.specs.Record.{size}
 use Rattle.window.specs.History.{keep}
+use Rattle.table.specs.Record.{size}
+use Rattle.signed.specs.SignedText.{ordersNonce}
 use Rattle.gate.specs.Calls.{Setup, Request}
 use Rattle.gate.specs.Outcome.{Outcome}
 use Rattle.gate.specs.Checks.{Check, first}

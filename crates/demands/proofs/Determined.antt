@@ -1,0 +1,136 @@
+-- Document 01, 'How far each contract reaches': 'Every public function has a contract that determines result, reply buffer and table for all
+-- inputs, refusals too; that any two results allowed by it are equal is proved'. Here for the calls that are exported to C, gate_setup,
+-- gate_judge, gate_end and gate_judge_one, and for the primitives: over everything that can be lent to a call, two results that its contract
+-- allows are one. docs/ goes through the functions that are not exported: most have an equation for a contract, which leaves no choice.
+-- Assumes nothing.
+use mathlib.Core.Path.{_≡_, refl, sym, ap, _∙_}
+use mathlib.Core.List.{List, []}
+use Prim.Native.Nat.{ℕ, _+_, _*_, _/_, _%_}
+use native.Mathlib.Omega.{arith}
+use Rattle.netstring.proofs.Numerals.{decimal-injective}
+use Rattle.orders.specs.Names.{headerNames}
+use Rattle.orders.specs.Extra.{pieces}
+use Rattle.table.specs.declared.place.Place.the-variants as Place
+use Rattle.table.specs.declared.session.Record.{Record}
+use Rattle.table.specs.Record.{recordBytes, recordOf, Fits}
+use Rattle.table.proofs.Records.{recordOf-bytes}
+use Rattle.token.specs.declared.expiry.Expiry.{Expiry}
+use Rattle.token.specs.declared.expiry.Expiry.the-variants as E
+use Rattle.token.specs.Expiry.{ExpiryIs}
+use Rattle.gate.specs.declared.setup.Start.{Start}
+use Rattle.gate.specs.declared.setup.Start.the-variants as S
+use Rattle.gate.specs.Calls.{Setup, Request}
+use Rattle.gate.specs.Outcome.{Outcome, outcome}
+use Rattle.gate.specs.Setup.{setUp}
+use Rattle.gate.specs.Judge.{judged}
+use Rattle.gate.specs.End.{ended}
+use Rattle.gate.specs.Starts.{StartIs}
+use Rattle.primitives.specs.Answer.{Answer, answer}
+use Rattle.primitives.specs.Digests.{sha512Call, hmacCall}
+use Rattle.primitives.specs.Sealing.{SealAnswer, sealAnswer, sealCall, openCall}
+use Rattle.demands.proofs.Pieces.{pieces-injective}
+
+-- what gate_setup and gate_judge leave: the answer, the reply buffer and the table
+pub record Result : Type 0 where
+  pub answer : ℕ
+  pub reply : List ℕ
+  pub table : List ℕ
+
+-- a contract that asks for an outcome allows a result
+abbrev pub Allows : Outcome → Result → Type 0
+Allows o r = outcome (r .answer) (r .reply) (r .table) ≡ o
+
+-- the one result that an outcome leaves: its number and its length are the answer's
+abbrev resultOf : Outcome → Result
+resultOf o = record { answer = 256 * o .length + o .number; reply = o .reply; table = o .table }
+
+allowed : {o : Outcome} (r : Result) → Allows o r → r ≡ resultOf o
+allowed r e =
+    let answer : r .answer ≡ 256 * (r .answer / 256) + r .answer % 256 = omega arith in
+    ap (λ (n : ℕ). record { answer = n; reply = r .reply; table = r .table }) answer ∙ ap resultOf e
+
+one-result : {o : Outcome} (a b : Result) → Allows o a → Allows o b → a ≡ b
+one-result a b p q = allowed a p ∙ sym (allowed b q)
+
+pub setup-determined : (s : Setup) (before : List ℕ) (a b : Result) → Allows (setUp s before) a → Allows (setUp s before) b → a ≡ b
+setup-determined s before = one-result
+
+pub judge-determined : (q : Request) (before : List ℕ) (a b : Result) → Allows (judged q before) a → Allows (judged q before) b → a ≡ b
+judge-determined q before = one-result
+
+-- gate_end is lent no reply buffer
+pub record EndResult : Type 0 where
+  pub answer : ℕ
+  pub table : List ℕ
+
+abbrev pub AllowsEnd : Outcome → EndResult → Type 0
+AllowsEnd o r = outcome (r .answer) [] (r .table) ≡ o
+
+pub end-determined : (iv before : List ℕ) (a b : EndResult) → AllowsEnd (ended iv before) a → AllowsEnd (ended iv before) b → a ≡ b
+end-determined iv before a b p q =
+    let whole : EndResult → Result = λ r. record { answer = r .answer; reply = []; table = r .table } in
+    ap (λ (r : Result). record { answer = r .answer; table = r .table }) (one-result (whole a) (whole b) p q)
+
+-- gate_judge_one is lent one session's record and leaves it there: its outcome is that of a table of the record's bytes
+pub record OneResult : Type 0 where
+  pub answer : ℕ
+  pub reply : List ℕ
+  pub session : Record
+
+abbrev pub AllowsOne : Outcome → OneResult → Type 0
+AllowsOne o r = outcome (r .answer) (r .reply) (recordBytes (r .session)) ≡ o
+
+-- a record's fields fit their types, so its bytes leave no choice of it
+pub judge-one-determined : (q : Request) (before : Record) (a b : OneResult) → Fits (a .session) → Fits (b .session)
+    → AllowsOne (judged q (recordBytes before)) a → AllowsOne (judged q (recordBytes before)) b → a ≡ b
+judge-one-determined request before a b f g p q =
+    read a f ∙ ap one (one-result (whole a) (whole b) p q) ∙ sym (read b g)
+  where
+    whole : OneResult → Result
+    whole r = record { answer = r .answer; reply = r .reply; table = recordBytes (r .session) }
+
+    one : Result → OneResult
+    one r = record { answer = r .answer; reply = r .reply; session = recordOf (r .table) }
+
+    read : (r : OneResult) → Fits (r .session) → r ≡ one (whole r)
+    read r f =
+        ap (λ (s : Record). record { answer = r .answer; reply = r .reply; session = s }) (sym (recordOf-bytes (r .session) f))
+
+-- what a primitive leaves, its number and its buffer, is an answer; sealing leaves two buffers
+pub sha512-determined : (text out : List ℕ) (a b : Answer)
+    → answer (a .number) (a .out) ≡ sha512Call text out → answer (b .number) (b .out) ≡ sha512Call text out → a ≡ b
+sha512-determined text out a b p q = p ∙ sym q
+
+pub hmac-determined : (key text out : List ℕ) (a b : Answer)
+    → answer (a .number) (a .out) ≡ hmacCall key text out → answer (b .number) (b .out) ≡ hmacCall key text out → a ≡ b
+hmac-determined key text out a b p q = p ∙ sym q
+
+pub seal-determined : (key iv text out tag : List ℕ) (a b : SealAnswer)
+    → sealAnswer (a .number) (a .out) (a .tag) ≡ sealCall key iv text out tag
+    → sealAnswer (b .number) (b .out) (b .tag) ≡ sealCall key iv text out tag → a ≡ b
+seal-determined key iv text out tag a b p q = p ∙ sym q
+
+pub open-determined : (key iv text tag out : List ℕ) (a b : Answer)
+    → answer (a .number) (a .out) ≡ openCall key iv text tag out → answer (b .number) (b .out) ≡ openCall key iv text tag out → a ≡ b
+open-determined key iv text tag out a b p q = p ∙ sym q
+
+-- three of the others have a relation for a contract, and it leaves no choice either: token::expiry::read,
+pub expiry-determined : (digits : List ℕ) (a b : Expiry) → ExpiryIs digits a → ExpiryIs digits b → a ≡ b
+expiry-determined digits (E.Is m) (E.Is n) p q = ap E.Is (decimal-injective m n (sym (p .0) ∙ q .0))
+expiry-determined digits (E.Is m) E.Bad p q = absurd (q m (p .1) (p .0))
+expiry-determined digits E.Bad (E.Is n) p q = absurd (p n (q .1) (q .0))
+expiry-determined digits E.Bad E.Bad p q = refl
+
+-- gate::setup::decide
+pub start-determined : (s : Setup) (before : List ℕ) (a b : Start) → StartIs s before a → StartIs s before b → a ≡ b
+start-determined s before (S.At i m) (S.At j n) p q =
+    let there : Place.At i ≡ Place.At j = sym (p .is) ∙ q .is in
+    let until = p .until ∙ sym (q .until) in
+    cc
+start-determined s before (S.At i m) (S.Refused n) p q = absurd (omega (arith, p .none, q .is, q .some))
+start-determined s before (S.Refused m) (S.At j n) p q = absurd (omega (arith, q .none, p .is, p .some))
+start-determined s before (S.Refused m) (S.Refused n) p q = ap S.Refused (sym (p .is) ∙ q .is)
+
+-- and orders::names
+pub names-determined : (a b : List ℕ) → pieces a ≡ headerNames → pieces b ≡ headerNames → a ≡ b
+names-determined a b p q = pieces-injective a b (p ∙ sym q)

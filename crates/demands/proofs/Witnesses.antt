@@ -1,0 +1,161 @@
+-- Each number of document 01 is given by some call, so no check is idle: here every number of a setup and of an ending, and 1 to 9 of a
+-- request. 0 and 10 to 16 of a request need a token that opens, and AES takes more steps than a proof may compute: the program `replay`
+-- runs calls that give them.
+-- Assumes nothing.
+use mathlib.Core.Path.{_≡_, refl, ap, _∙_}
+use mathlib.Core.Bool.{Bool, true, false}
+use mathlib.Core.List.{List, [], _∷_, _++_}
+use mathlib.Core.Option.{none}
+use Prim.Native.Nat.{ℕ, _^_}
+use native.Mathlib.Omega.{arith}
+use lib.ListN.{length, replicate, length-append}
+use Rattle.cells.specs.Runs.{same}
+use Rattle.cells.specs.Numbers.{bytesOf, number}
+use Rattle.gcm.specs.Gcm.{tagOf, crypted, given, opened}
+use Rattle.gcm.proofs.Opening.{length-crypted}
+use Rattle.base64.specs.Alphabet.{counted, alphabet, placeIn, sixBits}
+use Rattle.base64.specs.Decoding.{coded, full, two, one, ending, decoded}
+use Rattle.netstring.specs.Decimal.{decimal}
+use Rattle.netstring.specs.Netstring.{netstring, netstrings}
+use Rattle.armor.specs.Numerals.{shortest, plain, numberBytes, isNumeral, isNumber, maskBytes, isMask, maskOf}
+use Rattle.armor.specs.Keys.{obeys, keys, placeOf, keyNumber, ruleAt, ruleOf}
+use Rattle.armor.specs.Pieces
+use Rattle.armor.specs.Value
+use Rattle.armor.specs.Fields.{contents, times, the, once, only, required, nonceBit, requestFields, setupFields}
+use Rattle.orders.specs.Text.{codes}
+use Rattle.orders.specs.Spans.{all, leading}
+use Rattle.orders.specs.Names.{hasByte, tokenByte, isToken, lower, sameName, headerNames}
+use Rattle.orders.specs.Extra.{extraNames, goodNames, goodExtra}
+use Rattle.orders.specs.Orders.{chosen, coveredNames, ordersGood, limitsOf}
+use Rattle.lines.specs.Lines.{CR, LF, valueByte, goodLine, lineText, textOf, frontLine, startsLine, linesUpTo, linesIn, goodBlock}
+use Rattle.lines.specs.Values.{timesNamed, repeated}
+use Rattle.window.specs.Window.{bit}
+use Rattle.table.specs.Record.{size, recordBytes, recordOf, begun}
+use Rattle.table.specs.Table.{records, found, taken}
+use Rattle.table.specs.WellFormed.{sound, fitting, wellFormed}
+use Rattle.coverage.specs.Coverage.{asOrdered}
+use Rattle.token.specs.Token.{tokenText, tokenIn, tokenFrom, openedToken}
+use Rattle.token.proofs.Text.{length-three}
+use Rattle.token.proofs.Exactly.{no-token}
+use Rattle.gate.specs.Calls.{Orders, Setup, Request, ordersOf, setupOf, requestOf}
+use Rattle.gate.specs.Sizes.{tableFits, setupFits, requestFits, endFits}
+use Rattle.gate.specs.Checks.{ordersBad}
+use Rattle.gate.specs.Setup.{offered, expiryOf, setupChecks, setUp}
+use Rattle.gate.specs.Judge.{fieldsOf, ivOf, openedOf, twice, requestChecks, judged}
+use Rattle.gate.specs.End.{endChecks, ended}
+use Rattle.demands.specs.History.{emptyTable}
+
+-- limits by default, and no extra names
+abbrev pub ordering : ℕ → Orders
+ordering mask = ordersOf mask [] 0 0 0
+
+abbrev pub zeros : ℕ → List ℕ
+zeros n = replicate n 0
+
+-- a setup with an IV of zeros
+abbrev pub asking : ℕ → ℕ → List ℕ → Setup
+asking mask clock value = setupOf (ordering mask) clock (zeros 32) (zeros 32) (zeros 12) (zeros 1) value (zeros 1024)
+
+-- a client's mask with SHA-512
+abbrev pub offer : List ℕ
+offer = codes "r:AQQ="
+
+-- a table of one session, which has this IV and lasts until 1
+abbrev pub session : List ℕ → List ℕ
+session iv = recordBytes (begun iv 1)
+
+-- a table with a mark that is neither 0 nor 1
+abbrev pub marked : List ℕ
+marked = replicate size 2
+
+-- a request with a value and a head
+abbrev pub sending : ℕ → List ℕ → List ℕ → Request
+sending mask value head = requestOf (ordering mask) 0 (zeros 32) value head [] (codes "/") [] (zeros 1024)
+
+-- a value with the right set of fields, whose ah covers Host
+abbrev pub fields : List ℕ
+fields =
+    codes "s:AA==;c:" ++ (replicate 86 65 ++ codes "==;t:AA==;lt:AA==;h:AQQ=;ah:AQI=;iv:AAAAAAAAAAAAAAAA;tag:AAAAAAAAAAAAAAAAAAAAAA==")
+
+-- a line of the head
+abbrev pub host : List ℕ
+host = codes "Host:a" ++ (CR ∷ LF ∷ [])
+
+pub record SetupWitnesses : Type 0 where
+  pub zero : setUp (asking 2 0 offer) (emptyTable 1) .number ≡ 0
+  pub one : setUp (asking 2 0 offer) [] .number ≡ 1
+  pub two : setUp (asking (2 ^ 56) 0 offer) (emptyTable 1) .number ≡ 2
+  pub three : setUp (asking 2 0 offer) marked .number ≡ 3
+  pub four : setUp (asking 2 0 []) (emptyTable 1) .number ≡ 4
+  pub five : setUp (asking 2 0 (codes "x:AQQ=")) (emptyTable 1) .number ≡ 5
+  pub seventeen : setUp (asking 2 0 offer) (session (zeros 12)) .number ≡ 17
+  pub eighteen : setUp (asking 2 0 offer) (session (replicate 12 1)) .number ≡ 18
+  pub nineteen : setUp (asking 2 0 (codes "r:AQE=")) (emptyTable 1) .number ≡ 19
+  pub twenty : setUp (asking 2 4294967295 offer) (emptyTable 1) .number ≡ 20
+
+pub setup-witnesses : SetupWitnesses
+unfolding setUp setupChecks setupFits tableFits ordersBad ordersGood goodExtra extraNames goodNames wellFormed fitting sound same bit records recordOf recordBytes bytesOf number codes Value.grammar Value.fieldsOf Value.fieldsIn Value.fieldOf Value.allGood Value.fieldGood Value.carried Pieces.pieces Pieces.upTo Pieces.after decoded full two one ending coded sixBits placeIn alphabet counted obeys ruleOf ruleAt keyNumber placeOf keys isMask isNumeral plain setupFields once times contents offered the maskOf expiryOf limitsOf found taken
+setup-witnesses = record {
+  zero = refl;
+  one = refl;
+  two = refl;
+  three = refl;
+  four = refl;
+  five = refl;
+  seventeen = refl;
+  eighteen = refl;
+  nineteen = refl;
+  twenty = refl;
+}
+
+pub record EndWitnesses : Type 0 where
+  pub zero : ended (zeros 12) (session (zeros 12)) .number ≡ 0
+  pub one : ended (zeros 12) [] .number ≡ 1
+  pub three : ended (zeros 12) marked .number ≡ 3
+  pub twelve : ended (zeros 12) (emptyTable 1) .number ≡ 12
+
+pub end-witnesses : EndWitnesses
+unfolding ended endChecks endFits tableFits wellFormed fitting sound same records recordOf recordBytes bytesOf number found
+end-witnesses = record { zero = refl; one = refl; three = refl; twelve = refl }
+
+-- one byte is no token, whatever it opens to
+short-text : (text : List ℕ) → length text ≡ 1 → tokenIn text ≡ none
+unfolding tokenText netstrings netstring
+short-text text e =
+    no-token text
+    (λ t f p.
+    let long = ap length p ∙ length-three (t .key) (t .id) (decimal (t .expiry)) in
+    absurd (omega (arith, simp length-append at long)))
+
+unopened : (key iv tag : List ℕ) (b : ℕ) → openedToken key iv (b ∷ []) tag ≡ none
+unfolding openedToken opened
+unopened key iv tag b = by (same tag (tagOf key iv [] (b ∷ [])))
+  where
+    by : (t : Bool) → tokenFrom (given t (crypted key iv (b ∷ []))) ≡ none
+    by true = short-text (crypted key iv (b ∷ [])) (length-crypted key iv (b ∷ []))
+    by false = refl
+
+pub record RequestWitnesses : Type 0 where
+  pub one : judged (sending 2 fields []) [] .number ≡ 1
+  pub two : judged (sending (2 ^ 56) fields []) (emptyTable 1) .number ≡ 2
+  pub three : judged (sending 2 fields []) marked .number ≡ 3
+  pub four : judged (sending 2 [] []) (emptyTable 1) .number ≡ 4
+  pub five : judged (sending 2 offer []) (emptyTable 1) .number ≡ 5
+  pub six : judged (sending 2 fields (codes "Host")) (emptyTable 1) .number ≡ 6
+  pub seven : judged (sending 2 fields (host ++ host)) (emptyTable 1) .number ≡ 7
+  pub eight : judged (sending 0 fields []) (emptyTable 1) .number ≡ 8
+  pub nine : judged (sending 2 fields []) (emptyTable 1) .number ≡ 9
+
+pub request-witnesses : RequestWitnesses
+unfolding judged requestChecks requestFits tableFits ordersBad ordersGood goodExtra extraNames goodNames wellFormed fitting sound same records recordOf number codes Value.grammar Value.fieldsOf Value.fieldsIn Value.fieldOf Value.allGood Value.fieldGood Value.carried Pieces.pieces Pieces.upTo Pieces.after decoded full two one ending coded sixBits placeIn alphabet counted obeys ruleOf ruleAt keyNumber placeOf keys isMask isNumeral isNumber plain requestFields required once times contents only nonceBit the maskOf fieldsOf goodBlock linesIn linesUpTo startsLine frontLine lineText textOf goodLine valueByte isToken tokenByte hasByte all leading twice repeated timesNamed sameName lower coveredNames chosen headerNames asOrdered maskBytes numberBytes shortest bytesOf openedOf ivOf
+request-witnesses = record {
+  one = refl;
+  two = refl;
+  three = refl;
+  four = refl;
+  five = refl;
+  six = refl;
+  seven = refl;
+  eight = refl;
+  nine = rw (unopened (zeros 32) (zeros 12) (zeros 16) 0);
+}
