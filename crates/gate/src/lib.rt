@@ -2,6 +2,7 @@
 // Each call takes any numbers and bytes, and answers its number plus 256 times the reply's length.
 ghost use mathlib.Core.Path.{_≡_};
 ghost use mathlib.Core.List.{[]};
+ghost use Rattle.table.specs.Record.{recordBytes};
 ghost use Rattle.gate.specs.Calls.{ordersOf, setupOf, requestOf};
 ghost use Rattle.gate.specs.Outcome.{outcome};
 ghost use Rattle.gate.specs.Setup.{setUp};
@@ -11,10 +12,11 @@ use setup::Start;
 use table::place;
 use table::place::Place;
 use table::rule;
-use table::session;
+use table::session::Record;
 
 mod admitting;
 mod judge;
+pub mod one;
 mod reading;
 mod records;
 mod setup;
@@ -109,6 +111,47 @@ pub extern "C" fn gate_judge<'a>(
         reply,
     );
     judge::apply(decision, table, reply)
+}
+
+// Judges a request over one session's record, which the host lends: the new record stands there afterwards.
+#[no_mangle]
+pub extern "C" fn gate_judge_one<'a>(
+    mask: u64,
+    extra: &[u8],
+    request_life: u32,
+    idle: u32,
+    session_life: u32,
+    clock: u32,
+    server_key: &[u8],
+    value: &[u8],
+    head: &'a [u8],
+    aside: &'a [u8],
+    path: &[u8],
+    body: &[u8],
+    record: &mut Record,
+    reply: &mut [u8],
+) -> u32
+    ensures { λ r. ⌜ outcome r (now (reply .exit)) (recordBytes (now («record» .exit))) ≡ judged (requestOf (ordersOf mask (now (extra .entry)) «request_life» idle «session_life») clock (now («server_key» .entry)) (now (value .entry)) (now (head .entry)) (now (aside .entry)) (now (path .entry)) (now (body .entry)) (now (reply .entry))) (recordBytes (now («record» .entry))) ⌝ }
+{
+    let held = *record;
+    let judged = one::judge(
+        mask,
+        extra,
+        request_life,
+        idle,
+        session_life,
+        clock,
+        server_key,
+        value,
+        head,
+        aside,
+        path,
+        body,
+        held,
+        reply,
+    );
+    *record = judged.next;
+    judged.answer
 }
 
 // Ends the session that has this IV.

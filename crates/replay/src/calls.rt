@@ -1,5 +1,6 @@
 // The calls that a line can ask, each on the table and the reply buffer that it is lent.
 ghost use mathlib.Core.Path.{_≡_};
+ghost use Prim.Native.Nat.{_≤_};
 ghost use lib.ListN.{length};
 ghost use Rattle.io.specs.Counts.{Counts};
 ghost use Rattle.replay.specs.Runs.{SetupWithin, RequestWithin};
@@ -11,9 +12,8 @@ use crate::fields::Flaw;
 use crate::fields::no_run;
 use crate::fields::part;
 use crate::fields::read_run;
-
-// The bytes of a record.
-const RECORD: usize = 30;
+use table::session;
+use table::session::SIZE;
 
 // For a table, of at most 546 records.
 pub fn table_room() -> [u8; 16384]
@@ -154,12 +154,45 @@ fn judge(request: Request, runs: &[u8], table: &mut [u8], reply: &mut [u8]) -> u
     )
 }
 
-// one, with the words of judge. The gate has no thin entry yet, which is to answer as a table of the first record alone would.
+// one, with the words of judge: over the table's first record alone
 fn ask_one(line: &[u8], runs: &mut [u8], table: &mut [u8], reply: &mut [u8]) -> Asked {
-    if table.len() < RECORD {
+    if table.len() < SIZE {
         return Asked::Malformed(Flaw::Record);
     }
-    ask_judge(line, runs, &mut table[..RECORD], reply)
+    if words::words(line) != 13 {
+        return Asked::Malformed(Flaw::Count);
+    }
+    let request = arguments::read_request(line, runs);
+    if !request.path_and_body.second.good {
+        return Asked::Malformed(Flaw::Word);
+    }
+    Asked::Answer(judge_one(request, runs, table, reply))
+}
+
+fn judge_one(request: Request, runs: &[u8], table: &mut [u8], reply: &mut [u8]) -> u32
+    requires { ⌜ RequestWithin (length (now runs)) request × (30 ≤ length (now table)) ⌝ }
+{
+    let orders = request.orders;
+    let lines = request.lines;
+    let path_and_body = request.path_and_body;
+    let judged = gate::one::judge(
+        orders.mask,
+        part(runs, orders.extra),
+        orders.request_life,
+        orders.idle,
+        orders.session_life,
+        orders.clock,
+        part(runs, orders.server_key),
+        part(runs, request.value),
+        part(runs, lines.first),
+        part(runs, lines.second),
+        part(runs, path_and_body.first),
+        part(runs, path_and_body.second),
+        session::read(table, 0),
+        reply,
+    );
+    session::store(table, 0, judged.next);
+    judged.answer
 }
 
 // end IV

@@ -11,6 +11,7 @@ use window::Window;
 use window::time::Time;
 
 // The marks are bytes, since a host may lend any.
+#[repr(C)]
 pub struct Record {
     pub used: u8,
     pub iv: [u8; 12],
