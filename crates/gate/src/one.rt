@@ -50,10 +50,8 @@ pub fn judge<'a>(
         &mut table,
         reply,
     );
-    Judged {
-        answer,
-        next: only_record(&table),
-    }
+    let next = only_record(&table);
+    Judged { answer, next }
 }
 
 // The table of one record.

@@ -1,6 +1,5 @@
 -- `one::table_of` meets its contract: the table is written over whole.
 use mathlib.Core.Path.{_≡_, _∙_}
-use native.Mathlib.Omega.{arith}
 use lib.ListN.{length, replicate}
 use borrow.Author.Needs.{needs}
 use Rattle.cells.proofs.Runs.{spliced-front, fronted-whole}
