@@ -187,3 +187,7 @@ answered n l reply table h = ap₂ (λ (m k : ℕ). record { number = m; length 
 -- without a reply it is the number
 pub answered-plain : (n : ℕ) (reply table : List ℕ) → n < 256 → outcome n reply table ≡ untouched n reply table
 answered-plain n reply table h = ap₂ (λ (m k : ℕ). record { number = m; length = k; reply = reply; table = table }) (omega arith) (omega arith)
+
+pub answer-is : (answer n l : ℕ) (reply table : List ℕ) → answer ≡ n + 256 * l → n < 256
+    → outcome answer reply table ≡ record { number = n; length = l; reply = reply; table = table }
+answer-is answer n l reply table e h = rw e (answered n l reply table h)

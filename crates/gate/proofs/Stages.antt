@@ -4,7 +4,7 @@ use mathlib.Core.Path.{_≡_, refl, sym, ap, subst, _∙_}
 use mathlib.Core.Bool.{Bool, true, false, true≢false, cond, not, _&&_, _||_}
 use mathlib.Core.List.{List, [], _∷_, _++_}
 use mathlib.Core.Option.{Option, none, some, Option·getD}
-use Prim.Native.Nat.{ℕ, _+_, _*_, _≤_, _<_}
+use Prim.Native.Nat.{ℕ, _+_, _≤_}
 use native.Mathlib.Omega.{arith}
 use borrow.Author.Tests.{ne-eqb, eqb-true, leb-true}
 use lib.Dec.{eqb, leb}
@@ -36,13 +36,13 @@ use Rattle.gate.specs.declared.vouching.Vouched.{Vouched}
 use Rattle.gate.specs.declared.admitting.Admitted.{Admitted}
 use Rattle.gate.specs.declared.judge.Decision.{Decision}
 use Rattle.gate.specs.Calls.{Request}
-use Rattle.gate.specs.Outcome.{Outcome, outcome}
+use Rattle.gate.specs.Outcome.{Outcome}
 use Rattle.gate.specs.Sizes.{between, exactly, tableFits, requestFits}
 use Rattle.gate.specs.Checks.{Check, check, first, ordersBad, missing, nowhere}
 use Rattle.gate.specs.Session.{placeOf, heldAt, with-record, steppedIn}
 use Rattle.gate.specs.Judge.{fieldsOf, ivOf, nonceOf, timeOf, lastTimeOf, signatureOf, openedOf, tokenOf, limits, twice, textOf, codeOf, recordOf, stepped, windowSays, requestChecks, tableOf, accepted, invalidated, invalidates, requestOutcome, judged}
 use Rattle.gate.specs.Stages.{compareChecks, readChecks, vouchChecks, admitChecks, steppedAt, tokenIn, settleChecks, tells, decisionOf, About, VouchIs, AdmitIs, Settles, Decides, acceptance, invalidating, applied}
-use Rattle.gate.proofs.Numbers.{first-append, answered}
+use Rattle.gate.proofs.Numbers.{first-append}
 
 -- what reading a value says of its grammar and its fields
 pub grammar-broken : (v : List ℕ) → requestAnswer v ≡ Answer.Grammar → missing (grammar v) ≡ true
@@ -326,8 +326,3 @@ applied-judged q table d h =
     choose-same (eqb (d .number) 0) (λ z. accepted-same q table d h (eqb-true (d .number) 0 z))
     (λ refusal. choose-same (invalidates (d .number)) (λ z. invalidated-same q table d h (told (d .number) z)) (λ other. refl))
     ∙ ap (λ (n : ℕ). requestOutcome n q table) (h .is)
-
--- one answer holds a call's number and its reply's length
-pub answer-is : (a n l : ℕ) (reply table : List ℕ) → a ≡ n + 256 * l → n < 256
-    → outcome a reply table ≡ record { number = n; length = l; reply = reply; table = table }
-answer-is a n l reply table e h = ap (λ (x : ℕ). outcome x reply table) e ∙ answered n l reply table h

@@ -4,7 +4,7 @@ use mathlib.Core.Path.{_≡_, refl, _∙_}
 use mathlib.Core.Bool.{Bool, true, false, cond, not}
 use mathlib.Core.List.{List, [], _∷_, _++_}
 use mathlib.Core.Option.{Option, none, some, Option·getD}
-use Prim.Native.Nat.{ℕ, _+_, _*_, _≤_, _<_}
+use Prim.Native.Nat.{ℕ, _+_, _*_, _≤_}
 use native.Mathlib.Omega.{arith}
 use borrow.Author.Tests.{leb-true, eqb-true, ne-eqb, not-false}
 use lib.Dec.{eqb, leb}
@@ -30,7 +30,7 @@ use Rattle.gate.specs.Outcome.{outcome, replied}
 use Rattle.gate.specs.Setup.{offered, expiryOf, setupChecks, tokenOf, sealedOf, replyOf, tableOf, setUp}
 use Rattle.gate.specs.Sizes.{tableFits, setupFits}
 use Rattle.gate.specs.Starts.{untilChecks, offerChecks, roomChecks, RefusedBy, LastsUntil, UntilIs, OfferIs, RoomIs, Starts, StartIs, startAt}
-use Rattle.gate.proofs.Numbers.{first-append, first-exactly, setup-numbered, answered}
+use Rattle.gate.proofs.Numbers.{first-append, first-exactly, setup-numbered, answer-is}
 
 -- reading a value decides 4 and 5, and leaves its mask to 19 and 20
 abbrev pub Tells : ℕ → ℕ → SetupRead → List Check → Type 0
@@ -107,14 +107,9 @@ pub record Opened (s : Setup) (table : List ℕ) : Type 0 where
   pub orders : wellOrdered s ≡ true
   pub formed : wellFormed (records table) ≡ true
 
--- an answer with its number and its length apart
-split : (answer n l : ℕ) (reply table : List ℕ) → answer ≡ n + 256 * l → n < 256
-    → outcome answer reply table ≡ record { number = n; length = l; reply = reply; table = table }
-split answer n l reply table e h = rw e (answered n l reply table h)
-
 -- a reply that is written, with its length in the answer
 pub writes : (text reply out table : List ℕ) (len : ℕ) → len ≡ length text → out ≡ fronted text reply → outcome (256 * len) out table ≡ replied 0 text reply table
-writes text reply out table len e f = rw (e, f) (split (256 * length text) 0 (length text) (fronted text reply) table (omega arith) (omega arith))
+writes text reply out table len e f = rw (e, f) (answer-is (256 * length text) 0 (length text) (fronted text reply) table (omega arith) (omega arith))
 
 module _ (s : Setup) (table : List ℕ) where
   -- 1 to 3
@@ -176,4 +171,4 @@ module _ (s : Setup) (table : List ℕ) where
 
   pub refuses : (n : ℕ) → RefusedBy (setupChecks s table) n → outcome n (s .reply) table ≡ setUp s table
   unfolding setUp
-  refuses n r = rw (r .is, ne-eqb n 0 (λ z. omega (arith, r .some))) (split n n 0 (s .reply) table (omega arith) (omega (arith, r .most)))
+  refuses n r = rw (r .is, ne-eqb n 0 (λ z. omega (arith, r .some))) (answer-is n n 0 (s .reply) table (omega arith) (omega (arith, r .most)))

@@ -4,7 +4,7 @@ use native.Mathlib.Omega.{arith}
 use borrow.Author.Needs.{needs}
 use lib.ListN.{length, take, length-take}
 use Rattle.gate.specs.Stages.{acceptance}
-use Rattle.gate.proofs.Stages.{answer-is}
+use Rattle.gate.proofs.Numbers.{answer-is}
 use Rattle.gate.proofs.judge.accept.Statement.{statement}
 use Rattle.gate.proofs.judge.accept.Tie as tie
 

@@ -4,7 +4,7 @@ use native.Mathlib.Omega.{arith}
 use borrow.Author.Needs.{needs}
 use borrow.Author.Tests.{eq-eqb, ne-eqb}
 use Rattle.gate.specs.Stages.{tells, applied}
-use Rattle.gate.proofs.Stages.{answer-is}
+use Rattle.gate.proofs.Numbers.{answer-is}
 use Rattle.gate.proofs.judge.apply.Statement.{statement}
 use Rattle.gate.proofs.judge.apply.Tie as tie
 

@@ -6,7 +6,7 @@ use lib.ListN.{length}
 use Rattle.reply.specs.Replies.{invalidation}
 use Rattle.reply.proofs.Lengths.{length-invalidation}
 use Rattle.gate.specs.Stages.{invalidating}
-use Rattle.gate.proofs.Stages.{answer-is}
+use Rattle.gate.proofs.Numbers.{answer-is}
 use Rattle.gate.proofs.judge.invalidate.Statement.{statement}
 use Rattle.gate.proofs.judge.invalidate.Tie as tie
 
