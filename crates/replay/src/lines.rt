@@ -32,7 +32,7 @@ pub fn play(fd: i32, text: &mut [u8], runs: &mut [u8], table: &mut [u8], reply: 
         }
         lines = ran.lines;
         lent = ran.lent;
-        held = keep(text, ran.end, end);
+        held = words::keep(text, ran.end, end);
         left -= 1;
     }
     cut_off(lines);
@@ -66,19 +66,6 @@ fn ended(lines: u64, held: usize, room: usize)
         return;
     }
     fields::reported(lines + 1, Flaw::Room);
-}
-
-// The bytes of text from done to end, moved to its front; how many.
-fn keep(text: &mut [u8], done: usize, end: usize) -> usize
-    requires { ⌜ (done ≤ end) × (end ≤ length (now text)) ⌝ }
-    ensures { λ r. ⌜ r ≡ end - done ⌝ }
-{
-    let mut i = done;
-    while i < end {
-        text[i - done] = text[i];
-        i += 1;
-    }
-    end - done
 }
 
 // What whole lines came to: how many lines of the file are read, where the last ends, and what is lent from then on.

@@ -1,7 +1,7 @@
 // Header lines: each function runs the line of its kind.
-use crate::Ran;
 use crate::fields;
 use words::Number;
+use words::Ran;
 
 // block LINES: 0 or 6
 pub fn block(line: &[u8]) -> Ran {

@@ -1,11 +1,11 @@
 // The code of a request's signed text: runs the lines of its kind.
 ghost use Prim.Native.Nat.{_≤_};
 ghost use lib.ListN.{length};
-use crate::Ran;
 use crate::fields;
 use window::Nonce;
 use window::time::Time;
 use words::Number;
+use words::Ran;
 
 // The mask, the nonce, the two times and the session key of a line.
 struct Asked {

@@ -8,16 +8,8 @@ mod parts;
 mod site;
 mod values;
 
-ghost use Prim.Native.Nat.{_+_, _^_, _≤_, _<_};
-ghost use lib.ListN.{length};
 use libc::STDOUT_FILENO;
-
-// What became of a line.
-pub enum Ran {
-    Case,
-    Comment,
-    Malformed,
-}
+use words::Ran;
 
 fn main() {
     file(b"orders.txt");
@@ -60,24 +52,10 @@ fn lines(text: &[u8]) -> u64 {
             io::write_all(STDOUT_FILENO, b"malformed end\n");
             return count;
         }
-        count = counted(count, line(&text[at..feed]));
+        count = words::counted(count, line(&text[at..feed]));
         at = feed + 1;
     }
     count
-}
-
-fn counted(count: u64, ran: Ran) -> u64
-    requires { ⌜ count < 2 ^ 63 ⌝ }
-    ensures { λ r. ⌜ r ≤ count + 1 ⌝ }
-{
-    match ran {
-        Ran::Case => count + 1,
-        Ran::Comment => count,
-        Ran::Malformed => {
-            io::write_all(STDOUT_FILENO, b"malformed line\n");
-            count
-        }
-    }
 }
 
 // Runs one line by its kind.

@@ -1,10 +1,10 @@
 // Numbers, masks and base64: each function runs the line of its kind.
-use crate::Ran;
 use crate::fields;
 use crate::fields::Narrow;
 use base64::Decoded;
 use libc::STDOUT_FILENO;
 use words::Number;
+use words::Ran;
 
 // number N: its bytes
 pub fn number(line: &[u8]) -> Ran {

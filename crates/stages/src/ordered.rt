@@ -1,10 +1,10 @@
 // What the orders cover: runs the lines of its kind.
 ghost use Prim.Native.Nat.{_≤_};
 ghost use lib.ListN.{length};
-use crate::Ran;
 use crate::fields;
 use armor::Answer;
 use words::Number;
+use words::Ran;
 
 // coverage MASK EXTRA VALUE: 0, 2, 4, 5 or 8
 pub fn coverage(line: &[u8]) -> Ran {

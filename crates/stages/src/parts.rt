@@ -1,11 +1,11 @@
 // Netstrings: each function runs the line of its kind.
 ghost use Prim.Native.Nat.{_≤_};
 ghost use lib.ListN.{length};
-use crate::Ran;
 use crate::fields;
 use libc::STDOUT_FILENO;
 use netstring::Part;
 use words::Number;
+use words::Ran;
 
 // read AT RUN: the place after the netstring that stands there and its bytes, or that none does
 pub fn read(line: &[u8]) -> Ran {

@@ -1,9 +1,9 @@
 // Orders: runs the lines of their kind.
-use crate::Ran;
 use crate::fields;
 use libc::STDOUT_FILENO;
 use orders::Checked;
 use words::Number;
+use words::Ran;
 
 // orders MASK EXTRA REQUEST_LIFE IDLE SESSION_LIFE: 0 and the limits, or 2
 pub fn orders(line: &[u8]) -> Ran {

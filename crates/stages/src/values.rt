@@ -1,12 +1,12 @@
 // The X-S-Armor value: each function runs the line of its kind.
 ghost use Prim.Native.Nat.{_≤_};
 ghost use lib.ListN.{length};
-use crate::Ran;
 use crate::fields;
 use armor::Answer;
 use armor::Request;
 use armor::SetupRead;
 use libc::STDOUT_FILENO;
+use words::Ran;
 
 // request VALUE: 0 and what it carries, 4 or 5
 pub fn request(line: &[u8]) -> Ran {

@@ -2,9 +2,9 @@
 ghost use mathlib.Core.Path.{_≡_};
 ghost use Prim.Native.Nat.{_≤_, _<_};
 ghost use lib.ListN.{length};
-use crate::Ran;
 use sha2::Sha512;
 use words::Number;
+use words::Ran;
 
 // whole MESSAGE
 pub fn whole(line: &[u8]) -> Ran {
@@ -20,7 +20,7 @@ pub fn whole(line: &[u8]) -> Ran {
     let mut out = [0u8; 64];
     primitives::prim_sha512(&message[..n], &mut out);
     words::print_line(&out);
-    Ran::Vector
+    Ran::Case
 }
 
 // parts SIZE MESSAGE: the message is taken in by parts of that many bytes
@@ -42,7 +42,7 @@ pub fn parts(line: &[u8]) -> Ran {
     let n = run.size;
     let digest = by_parts(&message[..n], size as usize);
     words::print_line(&digest);
-    Ran::Vector
+    Ran::Case
 }
 
 fn by_parts(message: &[u8], size: usize) -> [u8; 64]
@@ -92,7 +92,7 @@ pub fn repeated(line: &[u8]) -> Ran {
     }
     let digest = of_equal(byte[0], count, size as usize);
     words::print_line(&digest);
-    Ran::Vector
+    Ran::Case
 }
 
 fn of_equal(byte: u8, count: u64, size: usize) -> [u8; 64]
@@ -132,7 +132,7 @@ pub fn monte(line: &[u8]) -> Ran {
         words::print_line(&seed);
         i += 1;
     }
-    Ran::Vector
+    Ran::Case
 }
 
 // A thousand digests, each of the three before it; the last one is the next seed.
@@ -191,5 +191,5 @@ pub fn hmac(line: &[u8]) -> Ran {
     primitives::prim_hmac_sha512(&key[..key_size], &text[..text_size], &mut out);
     let n = shown as usize;
     words::print_line(&out[..n]);
-    Ran::Vector
+    Ran::Case
 }

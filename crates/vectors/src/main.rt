@@ -4,16 +4,10 @@ mod sealing;
 mod texts;
 
 ghost use mathlib.Core.Path.{_≡_};
-ghost use Prim.Native.Nat.{_+_, _-_, _^_, _≤_, _<_};
+ghost use Prim.Native.Nat.{_≤_};
 ghost use lib.ListN.{length};
 use libc::STDOUT_FILENO;
-
-// What became of a line.
-pub enum Ran {
-    Vector,
-    Comment,
-    Malformed,
-}
+use words::Ran;
 
 fn main() {
     let mut room = io::large_buffer();
@@ -57,7 +51,7 @@ fn chunks(fd: i32, room: &mut [u8]) -> u64
         }
         let ran = lines(room, end);
         count += ran.count;
-        held = keep(room, ran.done, end);
+        held = words::keep(room, ran.done, end);
         left -= 1;
     }
     ended(count, held)
@@ -78,19 +72,6 @@ fn fill(fd: i32, room: &mut [u8], held: usize) -> usize
     held + io::read_full(fd, &mut room[held..])
 }
 
-// The bytes of room from done to end, moved to its front; how many.
-fn keep(room: &mut [u8], done: usize, end: usize) -> usize
-    requires { ⌜ (done ≤ end) × (end ≤ length (now room)) ⌝ }
-    ensures { λ r. ⌜ r ≡ end - done ⌝ }
-{
-    let mut i = done;
-    while i < end {
-        room[i - done] = room[i];
-        i += 1;
-    }
-    end - done
-}
-
 // How many vectors were run, and where the last whole line ends.
 struct Chunk {
     count: u64,
@@ -109,24 +90,10 @@ fn lines(text: &[u8], end: usize) -> Chunk
         if end <= feed {
             break;
         }
-        count = counted(count, line(&text[at..feed]));
+        count = words::counted(count, line(&text[at..feed]));
         at = feed + 1;
     }
     Chunk { count, done: at }
-}
-
-fn counted(count: u64, ran: Ran) -> u64
-    requires { ⌜ count < 2 ^ 63 ⌝ }
-    ensures { λ r. ⌜ r ≤ count + 1 ⌝ }
-{
-    match ran {
-        Ran::Vector => count + 1,
-        Ran::Comment => count,
-        Ran::Malformed => {
-            io::write_all(STDOUT_FILENO, b"malformed line\n");
-            count
-        }
-    }
 }
 
 // Runs one line by its kind.

@@ -1,6 +1,6 @@
 // AES-256 and AES-256-GCM: each function runs the line of its kind.
-use crate::Ran;
 use libc::STDOUT_FILENO;
+use words::Ran;
 
 // Whether a word writes as many bytes as out has, which are then in out.
 fn filled(word: &[u8], out: &mut [u8]) -> bool {
@@ -24,7 +24,7 @@ pub fn aes(line: &[u8]) -> Ran {
     let keys = aes::expand(&key);
     let out = aes::encrypt(&keys, block);
     words::print_line(&out);
-    Ran::Vector
+    Ran::Case
 }
 
 // seal KEY IV TEXT: the sealed text and the tag
@@ -58,7 +58,7 @@ fn print_sealed(key: &[u8], iv: &[u8], text: &[u8], out: &mut [u8]) -> Ran {
     words::print(out);
     io::write_all(STDOUT_FILENO, b" ");
     words::print_line(&tag);
-    Ran::Vector
+    Ran::Case
 }
 
 // open KEY IV CIPHER TAG: the text, or that the tag is wrong
@@ -96,5 +96,5 @@ fn print_opened(key: &[u8], iv: &[u8], cipher: &[u8], tag: &[u8], out: &mut [u8]
         }
         _ => return Ran::Malformed,
     }
-    Ran::Vector
+    Ran::Case
 }

@@ -1,9 +1,9 @@
 // Base64: each function runs the line of its kind.
 ghost use Prim.Native.Nat.{_≤_};
 ghost use lib.ListN.{length};
-use crate::Ran;
 use base64::Decoded;
 use libc::STDOUT_FILENO;
+use words::Ran;
 
 // encode RUN: its text
 pub fn encode(line: &[u8]) -> Ran {
@@ -17,7 +17,7 @@ pub fn encode(line: &[u8]) -> Ran {
     }
     let n = run.size;
     print_encoded(&bytes[..n]);
-    Ran::Vector
+    Ran::Case
 }
 
 fn print_encoded(bytes: &[u8])
@@ -48,11 +48,11 @@ fn print_decoded(text: &[u8]) -> Ran {
     match base64::decode(text, &mut bytes) {
         Decoded::Bytes(n) => {
             words::print_line(&bytes[..n]);
-            Ran::Vector
+            Ran::Case
         }
         Decoded::Bad => {
             io::write_all(STDOUT_FILENO, b"bad\n");
-            Ran::Vector
+            Ran::Case
         }
         Decoded::TooLong => Ran::Malformed,
     }

@@ -1,7 +1,7 @@
 // Text files of the test programs: lines of words between single spaces; numbers in decimal, byte runs in hexadecimal,
 // `-` for an empty one.
 ghost use mathlib.Core.Path.{_≡_};
-ghost use Prim.Native.Nat.{_≤_};
+ghost use Prim.Native.Nat.{_+_, _-_, _^_, _<_, _≤_};
 ghost use lib.ListN.{length};
 ghost use Rattle.io.specs.Counts.{Counts};
 use libc::STDOUT_FILENO;
@@ -179,4 +179,39 @@ pub fn print(run: &[u8]) {
 pub fn print_line(run: &[u8]) {
     print(run);
     io::write_all(STDOUT_FILENO, b"\n");
+}
+
+// The bytes of room from done to end, moved to its front; how many.
+pub fn keep(room: &mut [u8], done: usize, end: usize) -> usize
+    requires { ⌜ (done ≤ end) × (end ≤ length (now room)) ⌝ }
+    ensures { λ r. ⌜ r ≡ end - done ⌝ }
+{
+    let mut i = done;
+    while i < end {
+        room[i - done] = room[i];
+        i += 1;
+    }
+    end - done
+}
+
+// What became of a line.
+pub enum Ran {
+    Case,
+    Comment,
+    Malformed,
+}
+
+// How many cases were run with this line; a malformed one is reported.
+pub fn counted(count: u64, ran: Ran) -> u64
+    requires { ⌜ count < 2 ^ 63 ⌝ }
+    ensures { λ r. ⌜ r ≤ count + 1 ⌝ }
+{
+    match ran {
+        Ran::Case => count + 1,
+        Ran::Comment => count,
+        Ran::Malformed => {
+            io::write_all(STDOUT_FILENO, b"malformed line\n");
+            count
+        }
+    }
 }

@@ -5,14 +5,14 @@ use mathlib.Core.Path.{_≡_}
 use Prim.Native.Nat.{_-_, _≤_}
 use native.Mathlib.Omega.{arith}
 use lib.ListN.{length, length-set}
-use Rattle.replay.proofs.lines.keep.Statement.{statement}
-use Rattle.replay.proofs.lines.keep.Tie as tie
+use Rattle.words.proofs.keep.Statement.{statement}
+use Rattle.words.proofs.keep.Tie as tie
 
 abbrev Inv-loop : tie.InvT-loop
-Inv-loop text₀ done end i₀ text i = (done ≤ i) × (i ≤ end) × (length text ≡ length text₀)
+Inv-loop room₀ done end i₀ room i = (done ≤ i) × (i ≤ end) × (length room ≡ length room₀)
 
 abbrev μ-loop : tie.MeasureT-loop
-μ-loop text₀ done end i₀ text i = end - i
+μ-loop room₀ done end i₀ room i = end - i
 
 loop-again : tie.Need-loop-again Inv-loop μ-loop
 loop-again c = simp length-set (omega arith)
