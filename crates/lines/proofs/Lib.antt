@@ -5,3 +5,4 @@ pub mod Trims
 pub mod Named
 pub mod Places
 pub mod Bytes
+pub mod Passing

@@ -4,7 +4,7 @@ ghost use mathlib.Core.Bool.{true};
 ghost use Prim.Native.Nat.{_≤_};
 ghost use lib.ListN.{length, getD};
 ghost use lib.Dec.{ltb};
-ghost use Rattle.orders.specs.Spans.{Spans};
+ghost use Rattle.orders.specs.Spans.{cut, all, Spans};
 ghost use Rattle.orders.specs.Extra.{goodExtra};
 ghost use Rattle.orders.specs.Orders.{chosen, coveredNames};
 ghost use Rattle.orders.specs.Walk.{namesFrom};
@@ -149,7 +149,7 @@ fn value_end(block: &[u8], at: usize) -> usize
     requires { ⌜ at ≤ length (now block) ⌝ }
     ensures { λ r. ⌜ Spans valueByte (now (block .entry)) at r ⌝ }
 {
-    let mut i = at;
+    let mut i = past_sixteens(block, at);
     while i < block.len() {
         if !value_byte(block[i]) {
             return i;
@@ -159,16 +159,37 @@ fn value_end(block: &[u8], at: usize) -> usize
     i
 }
 
+// How far from byte at on sixteen bytes after sixteen are all of a value. The compiler looks at the sixteen at once.
+fn past_sixteens(block: &[u8], at: usize) -> usize
+    requires { ⌜ at ≤ length (now block) ⌝ }
+    ensures { λ r. ⌜ (at ≤ r) × (r ≤ length (now (block .entry))) × (all valueByte (cut (now (block .entry)) at r) ≡ true) ⌝ }
+{
+    let mut i = at;
+    while 16 <= block.len() - i {
+        if !all_of_value(&block[i..i + 16]) {
+            return i;
+        }
+        i += 16;
+    }
+    i
+}
+
+fn all_of_value(run: &[u8]) -> bool
+    ensures { λ r. ⌜ r ≡ all valueByte (now (run .entry)) ⌝ }
+{
+    let mut good = true;
+    let mut i: usize = 0;
+    while i < run.len() {
+        good = good & value_byte(run[i]);
+        i += 1;
+    }
+    good
+}
+
 fn value_byte(b: u8) -> bool
     ensures { λ r. ⌜ r ≡ valueByte b ⌝ }
 {
-    if b == 9 {
-        return true;
-    }
-    if b < 32 {
-        return false;
-    }
-    b != 127
+    (b == 9) | ((32 <= b) & (b != 127))
 }
 
 struct Span {

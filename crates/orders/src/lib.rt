@@ -213,6 +213,10 @@ pub enum Next {
 pub fn next_name(run: &[u8], wanted: u64, at: usize) -> Next
     ensures { λ r. ⌜ NextIs (now (run .entry)) wanted at r ⌝ }
 {
+    // Saves the walk to the end of the run.
+    if wanted == 0 {
+        return Next::End;
+    }
     let mut left = wanted;
     let mut place = at;
     while place <= run.len() {

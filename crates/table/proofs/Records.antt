@@ -121,7 +121,7 @@ onward xs at n next e =
     ap (λ (l : List ℕ). part xs at n ++ l) (ap (λ (k : ℕ). drop k xs) e ∙ sym (drop-drop n at xs)) ∙ take-append-drop n (drop at xs)
 
 -- a part of a part
-part-part : (xs : List ℕ) (at n k m : ℕ) → at + n ≤ length xs → k + m ≤ n → part (part xs at n) k m ≡ part xs (at + k) m
+pub part-part : (xs : List ℕ) (at n k m : ℕ) → at + n ≤ length xs → k + m ≤ n → part (part xs at n) k m ≡ part xs (at + k) m
 part-part xs at n k m h j =
     let l = drop at xs in
     let long : length (take n l) ≡ n = length-part xs at n h in

@@ -1,7 +1,8 @@
 // The places of the table that a call looks for.
 ghost use mathlib.Core.Path.{_≡_};
-ghost use Prim.Native.Nat.{_*_, _<_, _≤_};
-ghost use lib.ListN.{drop};
+ghost use Prim.Native.Nat.{_+_, _*_, _<_, _≤_};
+ghost use lib.ListN.{length, drop};
+ghost use Rattle.cells.specs.Runs.{part, same};
 ghost use Rattle.table.specs.Table.{places, recordAt, records, firstFrom, holds, isFree, lapsed, found, taken, Placed};
 use super::session::SIZE;
 use window::time::Time;
@@ -20,7 +21,21 @@ fn has_iv(table: &[u8], place: usize, iv: &[u8]) -> bool
     if table[at] != 1 {
         return false;
     }
-    cells::same(&table[at + 1..at + 13], iv)
+    same_iv(table, at + 1, iv)
+}
+
+// Whether the IV stands in the table from byte at on. An IV is no secret, and two numbers are compared sooner than twelve bytes.
+fn same_iv(table: &[u8], at: usize, iv: &[u8]) -> bool
+    requires { ⌜ at + 12 ≤ length (now table) ⌝ }
+    ensures { λ r. ⌜ r ≡ same (part (now (table .entry)) at 12) (now (iv .entry)) ⌝ }
+{
+    if iv.len() != 12 {
+        return false;
+    }
+    if cells::load64(table, at) != cells::load64(iv, 0) {
+        return false;
+    }
+    cells::load32(table, at + 8) == cells::load32(iv, 8)
 }
 
 // The lowest place from `start` on that has a used record with this IV.

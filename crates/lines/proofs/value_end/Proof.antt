@@ -6,7 +6,8 @@ use mathlib.Core.Path.{sym, _∙_}
 use Prim.Native.Nat.{_-_}
 use lib.ListN.{length}
 use Rattle.lines.specs.Lines.{valueByte}
-use Rattle.orders.proofs.Spans.{Passed, passed-none, passed-more, passed-stop, passed-end}
+use Rattle.orders.proofs.Spans.{Passed, passed-more, passed-stop, passed-end}
+use Rattle.lines.proofs.Passing.{passed-part}
 use Rattle.lines.proofs.value_end.Statement.{statement}
 use Rattle.lines.proofs.value_end.Tie as tie
 
@@ -17,7 +18,9 @@ abbrev μ-loop : tie.MeasureT-loop
 μ-loop block at i₀ i = length block - i
 
 loop-holds : tie.Need-loop-holds Inv-loop μ-loop
-loop-holds c = passed-none valueByte _ _ (c .before .pre)
+loop-holds c =
+    let told = c .past-sixteens .ensures in
+    passed-part valueByte _ _ _ (told .0) (told .1) (told .2)
 
 returns : tie.Need-returns Inv-loop μ-loop
 returns c =
@@ -38,6 +41,7 @@ value-end-spec =
     (tie.spec
     Inv-loop
     μ-loop
+    (λ c κs. search needs)
     loop-holds
     (λ c. search needs)
     (λ c κs. search needs)

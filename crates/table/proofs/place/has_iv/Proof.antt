@@ -1,12 +1,12 @@
 -- `table::place::has_iv` meets its contract.
-use Prim.Native.Nat.{ℕ, _+_, _-_, _*_}
+use Prim.Native.Nat.{ℕ, _*_}
 use mathlib.Core.Path.{_≡_, sym, ap, _∙_}
 use mathlib.Core.List.{List}
 use native.Mathlib.Omega.{arith}
 use lib.ListN.{getD}
 use borrow.Author.Tests.{eq-eqb, ne-eqb}
 use borrow.Author.Needs.{needs}
-use Rattle.cells.specs.Runs.{part, same}
+use Rattle.cells.specs.Runs.{same}
 use Rattle.table.proofs.Records.{used-at, iv-at}
 use Rattle.table.proofs.place.has_iv.Statement.{statement}
 use Rattle.table.proofs.place.has_iv.Tie as tie
@@ -19,12 +19,10 @@ returns c =
 
 returns-2 : tie.Need-returns-2
 returns-2 c =
-    let start = c .before .before .before .before .before .before in
+    let start = c .before .before .before .before .before in
     let a = start .args in
-    let long : 30 * a .place + 13 - (30 * a .place + 1) ≡ 12 = omega arith in
-    c .same .ensures
-    ∙ ap (λ (n : ℕ). same (part (a .table .now) (30 * a .place + 1) n) (a .iv .now)) long
-    ∙ rw (used-at (a .table .now) (a .place) (start .pre), eq-eqb _ _ (c .before .before .if1 .left))
+    c .same-iv .ensures
+    ∙ rw (used-at (a .table .now) (a .place) (start .pre), eq-eqb _ _ (c .before .if1 .left))
     (ap (λ (l : List ℕ). same l (a .iv .now)) (sym (iv-at (a .table .now) (a .place) (start .pre))))
 
 pub has-iv-spec : {M : Type 1} → statement M
@@ -35,9 +33,5 @@ has-iv-spec =
     (λ c. search needs)
     returns
     (λ c. search needs)
-    (λ c. search needs)
-    (λ c. search needs)
-    (λ c. search needs)
-    (λ c. search needs)
-    (λ c κs. search needs)
+    (λ c κs. omega arith)
     returns-2)

@@ -1,0 +1,149 @@
+"""The calls that tests/speed measures: written to a call file, or timed on the second program's model.
+
+    python3 tests/speed/requests.py accepted FILE   the calls, in the format of tests/second/README.md, and their names in FILE.names
+    python3 tests/speed/requests.py all FILE        the same, and some that take other ways and more stack
+    python3 tests/speed/requests.py time            what each accepted one takes in the model
+
+Each call stands behind its own table and reply lines.
+"""
+
+import os
+import random
+import statistics
+import sys
+import time
+
+sys.path.insert(0, os.path.join(os.path.dirname(os.path.abspath(__file__)), "..", "second"))
+
+import calls  # noqa: E402
+import client  # noqa: E402
+import drafts  # noqa: E402
+import model  # noqa: E402
+import record as rec  # noqa: E402
+
+CLOCK = 1_760_000_000
+EXPIRY = CLOCK + 86_400
+REPLY = (1_024, 0)
+EXTRA = b",".join(b"X-Dealer-Name-%d" % place for place in range(8))
+LINE = 64  # bytes of a line that nobody covers
+TURNS = 9
+TURN = 0.02  # seconds
+
+
+class Maker:
+    def __init__(self, seed):
+        self.rng = random.Random(seed)
+
+    def run(self, count):
+        return self.rng.randbytes(count)
+
+    def text(self, count):
+        return bytes(self.rng.choice(b"abcdefghijklmnopqrstuvwxyz0123456789 ") for _ in range(count)).strip().ljust(count, b".")
+
+    def table(self, used, iv, free=0):
+        """So many used records, the one with this IV in the middle, and then free ones."""
+        records = [rec.Record(1, self.run(12), EXPIRY, 1, 1_000, 1) for _ in range(used)]
+        if iv:
+            records[used // 2] = rec.Record(1, iv, EXPIRY, 1, 1_000, 0x5555)
+        return rec.table_of(records + [rec.FREE] * free)
+
+    def lines(self, named, size=0):
+        """A line for each of the first names, spread among others up to so many bytes."""
+        named = [client.line(name, b" " + self.text(20)) for name in model.NAMES[:named]]
+        others = []
+        while sum(map(len, named + others)) + LINE <= size:
+            name = b"X-Other-%03d" % len(others)
+            others.append(client.line(name, b" " + self.text(LINE - len(name) - 4)))
+        for place, text in enumerate(named):
+            others.insert(place * (len(others) + 1) // len(named), text)
+        return others
+
+    def judge(self, covered=8, lines=None, records=64, body=200, extra=b"", expiry=EXPIRY, lt=CLOCK - 40):
+        """A request that covers the first names; its head has a line for each, and no other, unless lines are given."""
+        iv = self.run(12)
+        mask = 1 | sum(2 << place for place in range(covered))
+        draft = drafts.Request(
+            kind="judge", table=self.table(records, iv), iv=iv, place=records // 2, reply=REPLY,
+            orders=model.Orders(mask, extra, 0, 0, 0), clock=CLOCK, server_key=self.run(32),
+            key=self.run(32), session_id=self.text(32), expiry=expiry, t=CLOCK - 2, lt=lt, n=1_001,
+            head_lines=self.lines(covered) if lines is None else lines, path=b"/order/17?part=4711", body=self.run(body),
+        )
+        return drafts.build(draft, [], self.rng)
+
+    def setup(self, records=63, extra=b""):
+        draft = drafts.Setup(
+            kind="setup", table=self.table(records, None, free=1), iv=self.run(12), reply=REPLY,
+            orders=model.Orders(0x1FF, extra, 0, 0, 0), clock=CLOCK, server_key=self.run(32),
+            session_key=self.run(32), session_id=self.text(32), offer=client.encoded_mask(4),
+        )
+        return drafts.build(draft, [], self.rng)
+
+    def end(self, records=64):
+        iv = self.run(12)
+        return drafts.End(kind="end", table=self.table(records, iv), iv=iv, reply=REPLY).call()
+
+
+def measured():
+    """Names and calls; each call is accepted."""
+    maker = Maker(20261115)
+    yield "setup", maker.setup()
+    yield "judge, small", maker.judge()
+    yield "judge, body of 64 KiB", maker.judge(body=65_536)
+    yield "end", maker.end()
+    for records in (1, 8, 64):
+        yield f"judge, {records} records", maker.judge(records=records)
+    for size in (1, 4, 16):
+        yield f"judge, head of {size} KiB", maker.judge(lines=maker.lines(8, size * 1_024))
+    for covered in (0, 8, 55):
+        yield f"judge, {covered} of 55 names covered", maker.judge(covered=covered, lines=maker.lines(55))
+    yield "judge, 55 names, head of 16 KiB", maker.judge(covered=55, lines=maker.lines(55, 16_384))
+    yield "judge, 55 names, lines of 4 bytes", maker.judge(covered=55, lines=[b"a:\r\n"] * 4_096)
+    yield "judge, all of it", maker.judge(covered=55, lines=maker.lines(55, 16_384), body=65_536)
+
+
+def others():
+    """Calls with extra names, and those that invalidate a session."""
+    maker = Maker(20261116)
+    yield "setup, 8 extra names", maker.setup(extra=EXTRA)
+    yield "judge, 8 extra names", maker.judge(extra=EXTRA)
+    yield "judge, token expired", maker.judge(expiry=CLOCK)
+    yield "judge, idle", maker.judge(lt=CLOCK - 2_000)
+
+
+def write(path, named_calls):
+    with open(path, "w", encoding="ascii") as to, open(path + ".names", "w", encoding="ascii") as names:
+        for name, call in named_calls:
+            to.write(f"table {calls.run_text(call.table)}\n")
+            to.write("reply {} {}\n".format(*call.reply))
+            to.write(" ".join([call.kind, *map(calls.field_text, call.arguments)]) + "\n")
+            names.write(name + "\n")
+
+
+def turn(call, reply):
+    """Seconds of one call, over enough calls to fill a turn."""
+    count, start = 0, time.perf_counter()
+    while time.perf_counter() - start < TURN:
+        calls.answered(call, call.table, reply)
+        count += 1
+    return (time.perf_counter() - start) / count
+
+
+def time_model():
+    for name, call in measured():
+        reply = bytes([call.reply[1]]) * call.reply[0]
+        outcome = calls.answered(call, call.table, reply)
+        assert outcome.number == 0, (name, outcome.number)
+        median = statistics.median(turn(call, reply) for _ in range(TURNS))
+        print(f"{name:<36} {median * 1e6:10.1f} us")
+
+
+if __name__ == "__main__":
+    match sys.argv[1:]:
+        case ["time"]:
+            time_model()
+        case ["accepted", path]:
+            write(path, measured())
+        case ["all", path]:
+            write(path, [*measured(), *others()])
+        case _:
+            sys.exit(__doc__)
