@@ -12,9 +12,14 @@ WORD = 8
 CALLS = ["gate_setup", "gate_judge", "gate_end"]
 
 
+def number(text):
+    """A hexadecimal number of 64 bits, with its sign."""
+    return (int(text, 16) + (1 << 63)) % (1 << 64) - (1 << 63)
+
+
 def listing(program):
     """Lines of (function, instruction, operands)."""
-    text = subprocess.run(["objdump", "-d", "--no-show-raw-insn", program], check=True, capture_output=True, text=True).stdout
+    text = subprocess.run(["x86_64-linux-gnu-objdump", "-d", "--no-show-raw-insn", program], check=True, capture_output=True, text=True).stdout
     function = None
     for line in text.splitlines():
         named = re.match(r"[0-9a-f]+ <(.*)>:$", line)
@@ -34,15 +39,15 @@ def frames(lines):
         if function != before:
             before, frame, depth = function, 0, WORD
             own[function], called[function] = WORD, {}
-        moved = re.match(r"\$(-?0x[0-9a-f]+),%rsp$", operands)
+        moved = re.match(r"\$(0x[0-9a-f]+),%rsp$", operands)
         if instruction == "push":
             depth += WORD
         elif instruction == "pop":
             depth -= WORD
         elif instruction == "sub" and moved:
-            depth += int(moved[1], 16)
+            depth += number(moved[1])
         elif instruction == "add" and moved:
-            depth -= int(moved[1], 16)
+            depth -= number(moved[1])
         elif instruction == "ret":
             depth = frame  # what follows is reached from within
         frame = max(frame, depth)
