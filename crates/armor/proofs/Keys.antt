@@ -1,6 +1,6 @@
 -- A name is a key's exactly if its number is the key's place.
 -- Assumes nothing.
-use mathlib.Core.Path.{_≡_, refl, sym, ap, ap₂, subst, _∙_}
+use mathlib.Core.Path.{_≡_, refl, sym, ap, subst, _∙_}
 use mathlib.Core.Bool.{Bool, true, false, cond}
 use mathlib.Core.List.{List, [], _∷_}
 use Prim.Native.Nat.{ℕ, zero, suc, _<_, _≤_}
@@ -8,11 +8,10 @@ use native.Mathlib.Nat.{not-suc-le-zero, le-of-suc-le-suc}
 use native.Mathlib.Omega.{arith}
 use lib.Dec.{eqb}
 use lib.ListN.{length, getD}
-use borrow.Author.Tests.{eqb-true, eq-eqb, ne-eqb}
+use borrow.Author.Tests.{eq-eqb, ne-eqb}
 use Rattle.armor.specs.Keys.{number, mask, free, Key, key, keys, placeOf, keyNumber, ruleAt}
 use Rattle.cells.specs.Runs.{same}
-use Rattle.cells.proofs.Equality.{same-self, same-equal}
-use Rattle.armor.proofs.Numerals.{both, at-once}
+use Rattle.cells.proofs.Equality.{same-equal}
 
 abbrev pub nameAt : ℕ → List ℕ
 nameAt k = getD keys k (key [] free) .name

@@ -142,6 +142,10 @@ pub length-numberBytes : (n : ℕ) → (1 ≤ length (numberBytes n)) × (length
 unfolding numberBytes bytesOf
 length-numberBytes n = length-shortest (n / 2 ^ (8 * 7) % 256) (bytesOf 7 n)
 
+pub length-maskBytes : (m : ℕ) → length (maskBytes m) ≤ 9
+unfolding maskBytes
+length-maskBytes m = omega (arith, length-numberBytes m .1)
+
 -- a number's bytes, cut from eight of them
 pub cut-bytes : (n k : ℕ) {eight : List ℕ} → eight ≡ spliced (replicate 8 0) 0 (bytesOf 8 n) → k ≡ length (numberBytes n)
     → take (8 - (8 - k)) (drop (8 - k) eight) ≡ numberBytes n

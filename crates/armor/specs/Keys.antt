@@ -1,9 +1,9 @@
 -- The keys that have a meaning, and the rule for what each holds: document 01, The X-S-Armor value.
 -- Assumes nothing.
-use mathlib.Core.Bool.{Bool, true, false, cond, _&&_}
+use mathlib.Core.Bool.{Bool, true, cond, _&&_}
 use mathlib.Core.List.{List, [], _∷_}
 use Prim.Native.Nat.{ℕ, suc}
-use lib.Dec.{eqb, leb}
+use lib.Dec.{leb}
 use lib.ListN.{length, getD}
 use Rattle.cells.specs.Runs.{same}
 use Rattle.armor.specs.Numerals.{isNumber, isMask}

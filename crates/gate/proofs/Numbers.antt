@@ -5,43 +5,30 @@ use mathlib.Core.Bool.{Bool, true, false, true≢false, cond, _&&_}
 use mathlib.Core.List.{List, [], _∷_, _++_, map, List·Memᴰ, List·Memᴰ·head, List·Memᴰ·tail}
 use Prim.Native.Nat.{ℕ, zero, suc, _+_, _*_, _≤_, _<_}
 use native.Mathlib.Omega.{arith}
-use borrow.Author.Tests.{leb-true, ltb-true, ne-eqb}
-use lib.Dec.{eqb, leb, ltb}
+use borrow.Author.Tests.{leb-true, ne-eqb}
+use lib.Dec.{eqb, leb}
 use lib.ListN.{length, getD, drop}
 use Rattle.table.proofs.Tests.{both}
 use Rattle.gate.specs.Calls.{Setup, Request}
-use Rattle.gate.specs.Outcome.{outcome, untouched}
+use Rattle.gate.specs.Outcome.{outcome}
 use Rattle.gate.specs.Checks.{Check, check, first}
 use Rattle.gate.specs.Setup.{setupChecks}
 use Rattle.gate.specs.Judge.{requestChecks}
 use Rattle.gate.specs.End.{endChecks}
 
--- the checks' numbers are 1 to 255
+-- the checks' numbers are not 0
 abbrev pub numbered : List Check → Bool
 numbered [] = true
-numbered (c ∷ cs) = leb 1 (c .number) && (ltb (c .number) 256 && numbered cs)
+numbered (c ∷ cs) = leb 1 (c .number) && numbered cs
 
 pub record Numbered (c : Check) (cs : List Check) : Type 0 where
   pub low : 1 ≤ c .number
-  pub high : c .number < 256
   pub rest : numbered cs ≡ true
 
 numbered-parts : (c : Check) (cs : List Check) → numbered (c ∷ cs) ≡ true → Numbered c cs
 numbered-parts c cs e =
-    let p = both (leb 1 (c .number)) (ltb (c .number) 256 && numbered cs) e in
-    let q = both (ltb (c .number) 256) (numbered cs) (p .1) in
-    record { low = leb-true 1 (c .number) (p .0); high = ltb-true (c .number) 256 (q .0); rest = q .1 }
-
--- so a call's number fits below the length
-pub first-small : (cs : List Check) → numbered cs ≡ true → first cs < 256
-first-small [] e = omega arith
-first-small (c ∷ cs) e =
-    let parts = numbered-parts c cs e in
-    by (c .holds) (parts .high) (first-small cs (parts .rest))
-  where
-    by : (t : Bool) → c .number < 256 → first cs < 256 → cond t (c .number) (first cs) < 256
-    by true h k = h
-    by false h k = k
+    let p = both (leb 1 (c .number)) (numbered cs) e in
+    record { low = leb-true 1 (c .number) (p .0); rest = p .1 }
 
 -- checks after others are looked at where none of those holds
 pub first-append : (xs ys : List Check) → numbered xs ≡ true → first (xs ++ ys) ≡ cond (eqb (first xs) 0) (first ys) (first xs)
@@ -88,11 +75,6 @@ pub record Exactly (cs : List Check) (n : ℕ) : Type 0 where
   pub only : (k : ℕ) → Given k cs → n ≡ k
   pub passed : n ≡ 0 → NoneHolds cs
   pub none : NoneHolds cs → n ≡ 0
-
--- so the order leaves no choice of a number
-pub exactly-one : (cs : List Check) (m n : ℕ) → Exactly cs m → Exactly cs n → m ≡ n
-exactly-one cs zero n x y = sym (y .none (x .passed refl))
-exactly-one cs (suc k) n x y = sym (y .only (suc k) (x .given (suc k) (omega arith) refl))
 
 given-later : (k : ℕ) (c : Check) (cs : List Check) → c .holds ≡ false → Given k cs → Given k (c ∷ cs)
 given-later k c cs e g = record {
@@ -170,23 +152,10 @@ pub end-numbered : (iv table : List ℕ) → numbered (endChecks iv table) ≡ t
 unfolding endChecks
 end-numbered iv table = refl
 
-pub setup-small : (s : Setup) (table : List ℕ) → first (setupChecks s table) < 256
-setup-small s table = first-small (setupChecks s table) (setup-numbered s table)
-
-pub request-small : (q : Request) (table : List ℕ) → first (requestChecks q table) < 256
-request-small q table = first-small (requestChecks q table) (request-numbered q table)
-
-pub end-small : (iv table : List ℕ) → first (endChecks iv table) < 256
-end-small iv table = first-small (endChecks iv table) (end-numbered iv table)
-
 -- an answer holds a call's number and its reply's length
 pub answered : (n l : ℕ) (reply table : List ℕ) → n < 256
     → outcome (n + 256 * l) reply table ≡ record { number = n; length = l; reply = reply; table = table }
 answered n l reply table h = ap₂ (λ (m k : ℕ). record { number = m; length = k; reply = reply; table = table }) (omega arith) (omega arith)
-
--- without a reply it is the number
-pub answered-plain : (n : ℕ) (reply table : List ℕ) → n < 256 → outcome n reply table ≡ untouched n reply table
-answered-plain n reply table h = ap₂ (λ (m k : ℕ). record { number = m; length = k; reply = reply; table = table }) (omega arith) (omega arith)
 
 pub answer-is : (answer n l : ℕ) (reply table : List ℕ) → answer ≡ n + 256 * l → n < 256
     → outcome answer reply table ≡ record { number = n; length = l; reply = reply; table = table }

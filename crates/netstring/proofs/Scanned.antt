@@ -7,7 +7,7 @@ use Prim.Native.Nat.{ℕ, suc, _+_, _-_, _*_, _/_, _≤_, _<_}
 use native.Mathlib.Nat.{add-zero, eq-or-lt-of-le}
 use native.Mathlib.Numerals.{add-one}
 use native.Mathlib.Omega.{arith}
-use lib.ListN.{length, getD, take, drop, length-append, length-take, length-drop, List·getD-append, take-append-drop}
+use lib.ListN.{length, getD, take, drop, length-append, length-drop, List·getD-append, take-append-drop}
 use lib.Seq.{take-append-le, take-append-seam, getD-take, getD-drop, getD-append-seam, take-suc, length-take-le, drop-drop, drop-cons}
 use Rattle.netstring.specs.Decimal.{decimal, valueAfter}
 use Rattle.netstring.specs.Netstring.{colon}

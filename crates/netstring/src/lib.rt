@@ -1,7 +1,7 @@
 // Netstrings: the length in decimal, a colon, the bytes, and a comma.
 ghost use mathlib.Core.Path.{_≡_};
 ghost use Prim.Native.Nat.{_+_, _^_, _≤_, _<_};
-ghost use lib.ListN.{length, drop};
+ghost use lib.ListN.{length};
 ghost use Rattle.cells.specs.Runs.{spliced};
 ghost use Rattle.hmac.specs.Keyed as K;
 ghost use Rattle.netstring.specs.Decimal.{decimal};

@@ -13,7 +13,7 @@ use Rattle.orders.specs.Text.{codes}
 use Rattle.armor.specs.Numerals.{shortest, numberBytes, maskBytes, hashMask}
 use Rattle.armor.specs.Keys.{nameEah}
 use Rattle.armor.specs.Value.{Field, fieldText}
-use Rattle.armor.proofs.Numerals.{length-numberBytes}
+use Rattle.armor.proofs.Numerals.{length-maskBytes}
 use Rattle.reply.specs.Replies.{field, nameI, extraField, setupReply, invalidation}
 use Rattle.reply.specs.Laid.{following}
 use Rattle.reply.proofs.Laying.{setup-fields}
@@ -21,10 +21,6 @@ use Rattle.reply.proofs.Laying.{setup-fields}
 length-field : (name content : List ℕ) → length (fieldText (field name content)) ≡ length name + 1 + 4 * ((length content + 2) / 3)
 unfolding fieldText
 length-field name content = simp (length-append, length-encoded) (omega arith)
-
-pub length-mask : (m : ℕ) → length (maskBytes m) ≤ 9
-unfolding maskBytes
-length-mask m = omega (arith, length-numberBytes m .1)
 
 length-hash : length (maskBytes hashMask) ≡ 2
 unfolding maskBytes numberBytes shortest bytesOf
@@ -45,7 +41,7 @@ length-extra (b ∷ bs) h = omega (arith, length-following nameEah (b ∷ bs) []
 pub setup-short : (s iv tag key : List ℕ) (mask : ℕ) (extra : List ℕ) → length s ≤ 118 → length iv ≡ 12 → length tag ≡ 16 → length key ≡ 32
     → length extra ≤ 128 → length (setupReply s iv tag key mask extra) ≤ 459
 setup-short s iv tag key mask extra hs hiv htag hkey hextra =
-    rw setup-fields (simp (length-append, length-field, length-following) (omega (arith, length-hash, length-mask mask, length-extra extra hextra)))
+    rw setup-fields (simp (length-append, length-field, length-following) (omega (arith, length-hash, length-maskBytes mask, length-extra extra hextra)))
 
 -- an invalidation has 90 bytes
 pub length-invalidation : (key : List ℕ) → length (invalidation key) ≡ 90

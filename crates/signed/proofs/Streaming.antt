@@ -14,7 +14,6 @@ use Rattle.netstring.specs.Netstring.{netstring, netstrings}
 use Rattle.netstring.proofs.Numerals.{decimal-length}
 use Rattle.netstring.proofs.Laid.{length-netstring, took-both}
 use Rattle.armor.specs.Numerals.{numberBytes, maskBytes, hashMask}
-use Rattle.armor.proofs.Numerals.{length-numberBytes}
 use Rattle.orders.specs.Names.{headerNames}
 use Rattle.orders.specs.Extra.{pieces, extraNames, goodNames, goodExtra}
 use Rattle.orders.specs.Orders.{chosen}
@@ -116,10 +115,6 @@ unfolding requestText signedText signedParts signedOf
 parts-joined mask n t lt extra aside head path body =
     ap (λ (l : List (List ℕ)). netstrings (maskBytes hashMask ∷ maskBytes mask ∷ extra ∷ l))
     (append-assoc (carried (nonceOf mask n)) (numberBytes t ∷ numberBytes lt ∷ []) (coveredValues mask extra aside head ++ (path ∷ body ∷ [])))
-
-pub length-mask : (m : ℕ) → length (maskBytes m) ≤ 9
-unfolding maskBytes
-length-mask m = omega (arith, length-numberBytes m .1)
 
 pub extra-short : (run : List ℕ) → goodExtra run ≡ true → length run ≤ 128
 unfolding goodExtra

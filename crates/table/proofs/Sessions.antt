@@ -2,7 +2,7 @@
 -- Assumes nothing.
 use mathlib.Core.Path.{_≡_, refl, ap}
 use mathlib.Core.List.{List}
-use mathlib.Core.Logic.{inl, inr, ⊎-elim}
+use mathlib.Core.Logic.{inl, inr}
 use mathlib.Core.Bool.{Bool, true, false}
 use Prim.Native.Nat.{ℕ, _+_, _*_, _≤_, _<_, _^_}
 use native.Mathlib.Omega.{arith}
@@ -14,14 +14,14 @@ use Rattle.cells.specs.Numbers.{number}
 use Rattle.cells.proofs.Runs.{length-part}
 use Rattle.cells.proofs.Numbers.{number-below}
 use Rattle.window.specs.declared.Window.{Window}
-use Rattle.window.specs.Window.{fresh, stepOf}
+use Rattle.window.specs.Window.{stepOf}
 use Rattle.window.specs.History.{isAccepted}
 use Rattle.window.proofs.Steps.{accepted-any, accepted-lowest, bits-fit, highest-fits}
 use Rattle.table.specs.declared.session.Record.{Record}
 use Rattle.table.specs.Record.{size, Fits, begun, mark, windowOf, withWindow, recordOf}
 use Rattle.table.specs.Table.{places, recordAt}
 use Rattle.table.specs.WellFormed.{Sound}
-use Rattle.table.proofs.Records.{alike, bytes-part}
+use Rattle.table.proofs.Records.{bytes-part}
 
 -- a new session
 pub begun-sound : (iv : List ℕ) (expiry : ℕ) → Sound (begun iv expiry)
@@ -49,7 +49,7 @@ stepped-sound r n s u e =
       lowest = λ o a. accepted-lowest (windowOf r) n (λ p. s .lowest u (eqb-true (r .any) 1 p)) e;
     }
 
--- a record holds the window that it is given, and a new session a fresh one
+-- a record holds the window that it is given
 pub windowOf-with : (r : Record) (w : Window) → windowOf (withWindow r w) ≡ w
 windowOf-with r w = ap (λ (t : Bool). windowed t (w .highest .0) (w .bits)) (told (w .any))
   where
@@ -59,13 +59,6 @@ windowOf-with r w = ap (λ (t : Bool). windowed t (w .highest .0) (w .bits)) (to
     told : (t : Bool) → eqb (mark t) 1 ≡ t
     told true = refl
     told false = refl
-
-pub windowOf-begun : (iv : List ℕ) (expiry : ℕ) → windowOf (begun iv expiry) ≡ fresh
-windowOf-begun iv expiry = refl
-
--- a sound record with its own window is itself
-pub with-windowOf : (r : Record) → Sound r → withWindow r (windowOf r) ≡ r
-with-windowOf r s = alike r refl refl refl (⊎-elim (λ a. rw a) (λ a. rw a) (s .any)) refl refl
 
 pub mark-fits : (t : Bool) → mark t < 256
 mark-fits true = lit< tt

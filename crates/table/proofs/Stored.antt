@@ -5,19 +5,17 @@ use mathlib.Core.List.{List}
 use mathlib.Core.Logic.{_⊎_, inl, inr}
 use mathlib.Core.Bool.{Bool, true, false, true≢false}
 use Prim.Native.Nat.{ℕ, _<_}
-use native.Mathlib.Omega.{arith}
 use borrow.Author.Tests.{eqb-true, eqb-false}
 use lib.Dec.{eqb}
 use lib.ListN.{length, getD, set, length-set}
 use lib.Seq.{getD-set-same, getD-set-other}
 use Rattle.table.specs.declared.session.Record.{Record}
-use Rattle.table.specs.declared.place.Place.the-variants.{At, Nowhere}
+use Rattle.table.specs.declared.place.Place.the-variants.{Nowhere}
 use Rattle.table.specs.Record.{freed}
 use Rattle.table.specs.Table.{holds, found}
 use Rattle.table.specs.WellFormed.{Sound, WellFormed}
 use Rattle.table.proofs.Tests.{refuted, holds-used, used-holds}
-use Rattle.table.proofs.Found.{scan-set, found-nowhere, nowhere-found, at-found}
-use Rattle.table.proofs.Meaning.{freed-sound}
+use Rattle.table.proofs.Found.{scan-set, found-nowhere, nowhere-found}
 
 equal-or-not : (i j : ℕ) → (i ≡ j) ⊎ (i ≡ j → ⊥)
 equal-or-not i j = by (eqb i j) refl
@@ -75,10 +73,6 @@ module _ (table : List Record) (i : ℕ) (r : Record) (h : i < length table) whe
   unfolding found
   found-kept iv e = scan-set (holds iv) 0 i r table e
 
-  -- under an IV that the new record alone holds
-  pub found-new : (iv : List ℕ) → WellFormed (set table i r) → holds iv r ≡ true → found (set table i r) iv ≡ At i
-  found-new iv w e = at-found (set table i r) iv i w (rw length-set h) (ap (holds iv) stored-here ∙ e)
-
   -- and under one that the old record held and the new one does not
   pub found-gone : (iv : List ℕ) → WellFormed table → holds iv (getD table i freed) ≡ true → holds iv r ≡ false
       → found (set table i r) iv ≡ Nowhere
@@ -103,11 +97,3 @@ alone-new table i r e u j l n v p =
 pub alone-same : (table : List Record) (i : ℕ) (r : Record) → WellFormed table → i < length table
     → getD table i freed .used ≡ 1 → getD table i freed .iv ≡ r .iv → Alone table i r
 alone-same table i r w h v e u j l n x p = n (w .apart j i l h x v (p ∙ sym e))
-
--- a freed record keeps the table well formed, and is found no more
-pub freed-well : (table : List Record) (i : ℕ) → i < length table → WellFormed table → WellFormed (set table i freed)
-freed-well table i h w = stored-well table i freed h w freed-sound (λ u. absurd (omega arith))
-
-pub freed-gone : (table : List Record) (i : ℕ) (iv : List ℕ) → i < length table → WellFormed table → holds iv (getD table i freed) ≡ true
-    → found (set table i freed) iv ≡ Nowhere
-freed-gone table i iv h w e = found-gone table i freed h iv w e refl

@@ -1,8 +1,7 @@
--- Times and limits in seconds: document 01, "Age, idleness and the window" and "Orders, records and sizes".
+-- Times in seconds: document 01, "Age, idleness and the window".
 -- Assumes nothing.
 use Prim.Native.Nat.{ℕ}
-use mathlib.Core.Bool.{Bool, true, false}
-use lib.Dec.{eqb}
+use mathlib.Core.Bool.{Bool}
 use lib.IntN.{ℤ, pos, _-ℤ_}
 use lib.Signed.{ltZ}
 
@@ -13,11 +12,3 @@ difference later earlier = pos later -ℤ pos earlier
 -- the difference is more than the limit: so is a request too old, and so is a session idle
 unfoldable pub exceeds : ℕ → ℕ → ℕ → Bool
 exceeds later earlier limit = ltZ (pos limit) (difference later earlier)
-
-abbrev pub choose : Bool → ℕ → ℕ → ℕ
-choose true a b = a
-choose false a b = b
-
--- 0 means the default
-unfoldable pub limitOf : ℕ → ℕ → ℕ
-limitOf ordered default = choose (eqb ordered 0) default ordered

@@ -1,6 +1,6 @@
 // Times, and how far apart two of them are.
 ghost use mathlib.Core.Path.{_≡_};
-ghost use Rattle.window.specs.Time.{difference, exceeds, limitOf};
+ghost use Rattle.window.specs.Time.{difference, exceeds};
 
 // Seconds, as a request or the host tells them.
 pub struct Time(pub u32);
@@ -32,11 +32,4 @@ pub fn idle(t: Time, lt: Time, limit: u32) -> bool
     ensures { λ r. ⌜ r ≡ exceeds (t .0) (lt .0) limit ⌝ }
 {
     apart(t, lt, limit)
-}
-
-// The limit that holds: 0 means the default.
-pub fn limit(ordered: u32, default: u32) -> u32
-    ensures { λ r. ⌜ r ≡ limitOf ordered default ⌝ }
-{
-    if ordered == 0 { default } else { ordered }
 }

@@ -6,9 +6,9 @@ use mathlib.Core.List.{List, [], _∷_}
 use Prim.Native.Nat.{ℕ}
 use native.Mathlib.Omega.{arith}
 use lib.ListN.{length}
+use Rattle.armor.proofs.Numerals.{length-maskBytes}
 use Rattle.reply.specs.Replies.{field}
 use Rattle.reply.specs.Laid.{Laid, following}
-use Rattle.reply.proofs.Lengths.{length-mask}
 use Rattle.reply.proofs.put_mask.Statement.{statement}
 use Rattle.reply.proofs.put_mask.Tie as tie
 
@@ -16,12 +16,12 @@ array-share-prefix-bytes : tie.Need-array-share-prefix-bytes
 array-share-prefix-bytes c =
     let m = c .before .before .mask-bytes in
     let n : length (m .result .bytes) ≡ 9 = search needs in
-    omega (arith, m .ensures .0, length-mask (c .before .before .before .before .before .args .mask))
+    omega (arith, m .ensures .0, length-maskBytes (c .before .before .before .before .before .args .mask))
 
 put-next-requires : tie.Need-put-next-requires
 put-next-requires c κs =
     let start = c .before .before .before .before .before .before in
-    omega (arith, start .pre, ap length (c .before .before .before .mask-bytes .ensures .1), length-mask (start .args .mask))
+    omega (arith, start .pre, ap length (c .before .before .before .mask-bytes .ensures .1), length-maskBytes (start .args .mask))
 
 returns : tie.Need-returns
 returns c =
@@ -29,7 +29,7 @@ returns c =
     let a = start .args in
     let held = c .before .before .before .before .before .before .mask-bytes .ensures .1 in
     let f = c .before .before .put-next in (
-      omega (arith, f .ensures .0, ap length held, length-mask (a .mask)),
+      omega (arith, f .ensures .0, ap length held, length-maskBytes (a .mask)),
       subst (λ (l : List ℕ). Laid (a .out .now) (f .last .0) (a .at) (f .result) (following (field (a .name .now) l ∷ []))) held (f .ensures .1),
     )
 

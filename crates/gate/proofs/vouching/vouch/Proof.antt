@@ -1,9 +1,13 @@
 -- `vouching::vouch` meets its contract, one test after the other.
 use mathlib.Core.Path.{_≡_, refl, sym, _∙_}
+use mathlib.Core.Bool.{cond, not}
+use mathlib.Core.List.{List}
 use native.Mathlib.Omega.{arith}
 use borrow.Author.Needs.{needs}
 use borrow.Author.Tests.{not-true, not-false, le-leb, lt-leb}
-use lib.ListN.{length, length-take}
+use lib.ListN.{length, take, length-take}
+use Rattle.signed.specs.SignedText.{requestText}
+use Rattle.gate.specs.Checks.{Check, first}
 use Rattle.gate.specs.Stages.{vouchChecks}
 use Rattle.gate.proofs.vouching.vouch.Statement.{statement}
 use Rattle.gate.proofs.vouching.vouch.Tie as tie
@@ -52,46 +56,43 @@ returns-2 c =
       holds = λ z. held;
     }
 
-returns-3 : tie.Need-returns-3
+abbrev checked : tie.Start → List Check
+checked s =
+    let r = s .args .request in
+    vouchChecks (s .args .server-key .now) (s .args .clock) (r .iv) (take (r .«s_len») (r .s)) (r .tag) (r .c)
+    (requestText (s .args .mask) (s .args .extra .now) (r .n) (r .t) (r .lt) (s .args .aside .now) (s .args .head .now) (s .args .path .now) (s .args .body .now))
+
+compared : (c : tie.After-same-code) → first (checked (c .before .before .before .before .before .before .before .before .before .before .before .before .before .before .before .before .before .before .before .before .before .before)) ≡ cond (not (c .same-code .result)) 11 0
 unfolding vouchChecks
+compared c =
+    let opened = c .before .before .before .before .before .before .before .before .before .unseal .ensures in
+    let good = not-false (c .before .before .before .before .before .before .before .before .before .unseal .result .good) (c .before .before .before .before .before .before .before .if1 .left) in
+    let token = opened .holds good in
+    simp (
+      sym (opened .is) ∙ good,
+      ← (token .expiry),
+      lt-leb _ _ (c .before .before .before .before .before .if2 .left),
+      ← (token .key),
+      ← (c .before .before .code .ensures),
+      ← (c .same-code .ensures),
+    )
+
+returns-3 : tie.Need-returns-3
 returns-3 c =
-    let opened = c .before .before .before .before .before .before .before .before .before .before .unseal .ensures in
-    let good = not-false (c .before .before .before .before .before .before .before .before .before .before .unseal .result .good) (c .before .before .before .before .before .before .before .before .if1 .left) in
-    let held = opened .holds good in
-    let compared = c .before .same-code in
+    let opened = c .before .before .before .before .before .before .before .before .before .before .unseal in
     record {
-      is = simp (
-        sym (opened .is) ∙ good,
-        ← (held .expiry),
-        lt-leb _ _ (c .before .before .before .before .before .before .if2 .left),
-        ← (held .key),
-        ← (c .before .before .before .code .ensures),
-        ← (compared .ensures),
-        not-true (compared .result) (c .if3 .taken),
-      );
+      is = sym (compared (c .before) ∙ simp (not-true (c .before .same-code .result) (c .if3 .taken)));
       most = omega arith;
-      holds = λ z. held;
+      holds = λ z. opened .ensures .holds (not-false (opened .result .good) (c .before .before .before .before .before .before .before .before .if1 .left));
     }
 
 returns-4 : tie.Need-returns-4
-unfolding vouchChecks
 returns-4 c =
-    let opened = c .before .before .before .before .before .before .before .before .before .before .unseal .ensures in
-    let good = not-false (c .before .before .before .before .before .before .before .before .before .before .unseal .result .good) (c .before .before .before .before .before .before .before .before .if1 .left) in
-    let held = opened .holds good in
-    let compared = c .before .same-code in
+    let opened = c .before .before .before .before .before .before .before .before .before .before .unseal in
     record {
-      is = simp (
-        sym (opened .is) ∙ good,
-        ← (held .expiry),
-        lt-leb _ _ (c .before .before .before .before .before .before .if2 .left),
-        ← (held .key),
-        ← (c .before .before .before .code .ensures),
-        ← (compared .ensures),
-        not-false (compared .result) (c .if3 .left),
-      );
+      is = sym (compared (c .before) ∙ simp (not-false (c .before .same-code .result) (c .if3 .left)));
       most = omega arith;
-      holds = λ z. held;
+      holds = λ z. opened .ensures .holds (not-false (opened .result .good) (c .before .before .before .before .before .before .before .before .if1 .left));
     }
 
 pub vouch-spec : {M : Type 1} → statement M
