@@ -5,14 +5,14 @@ use mathlib.Core.Path.{_≡_, sym}
 use native.Mathlib.Omega.{arith}
 use lib.ListN.{length}
 use lib.Seq.{length-take-le}
-use Rattle.signed.proofs.Streaming.{length-mask}
+use Rattle.armor.proofs.Numerals.{length-maskBytes}
 use Rattle.stages.proofs.numbers.print_mask.Statement.{statement}
 use Rattle.stages.proofs.numbers.print_mask.Tie as tie
 
 array-share-prefix-bytes : tie.Need-array-share-prefix-bytes
 array-share-prefix-bytes c =
     let size : length (c .before .mask-bytes .result .bytes) ≡ 9 = search needs in
-    omega (arith, c .before .mask-bytes .ensures .0, length-mask (c .before .before .args .m))
+    omega (arith, c .before .mask-bytes .ensures .0, length-maskBytes (c .before .before .args .m))
 
 pub print-mask-spec : {M : Type 1} → statement M
 print-mask-spec =
