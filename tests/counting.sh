@@ -1,34 +1,37 @@
 # How a test script counts: `expect` and `tally` add to the counts, and `counted` prints its last line.
 passed=0 failed=0
-log=$(mktemp)
-trap 'rm -f "$log"' EXIT
 
 # expect WHAT COMMAND..: one test; what the command prints is shown only if it fails
 expect() {
-  if "${@:2}" > "$log" 2>&1; then
+  local said
+  if said=$("${@:2}" 2>&1); then
     echo "ok: $1"
     passed=$((passed + 1))
   else
     echo "FAILED: $1"
-    cut -c -300 "$log"
+    cut -c -300 <<<"$said"
     failed=$((failed + 1))
   fi
 }
 
-# tally WHAT COMMAND..: the tests that the command's own last line counts, 'N passed, M failed'; a command that ends
-# otherwise, or whose exit status contradicts its counts, is a failure
+# tally WHAT COMMAND..: the tests that the command's own last line counts; what it prints is shown only if one fails
 tally() {
-  local status=0 last
-  "${@:2}" > "$log" 2>&1 || status=$?
-  last=$(tail -n 1 "$log")
-  echo "$1: $last"
-  if [[ $last =~ ^([0-9]+)\ passed,\ ([0-9]+)\ failed$ ]]; then
+  local said status=0 before=$failed
+  said=$("${@:2}" 2>&1) || status=$?
+  count "$1" "$status" "$(tail -n 1 <<<"$said")"
+  [[ $failed -eq $before ]] || cut -c -300 <<<"$said"
+}
+
+# count WHAT STATUS LAST: adds the counts of a command's last line, 'N passed, M failed'. A command that ends otherwise, or
+# whose exit status contradicts its counts, is a failure.
+count() {
+  echo "$1: $3"
+  if [[ $3 =~ ^([0-9]+)\ passed,\ ([0-9]+)\ failed$ ]]; then
     passed=$((passed + BASH_REMATCH[1]))
     failed=$((failed + BASH_REMATCH[2]))
-    [[ ${BASH_REMATCH[2]} -eq 0 ]] || cut -c -300 "$log"
-    [[ $status -eq 0 || ${BASH_REMATCH[2]} -gt 0 ]] && return
+    [[ $2 -eq 0 || ${BASH_REMATCH[2]} -gt 0 ]] && return
   fi
-  cut -c -300 "$log"
+  echo "$1 ended with status $2 and no such count"
   failed=$((failed + 1))
 }
 
