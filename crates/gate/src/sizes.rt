@@ -20,19 +20,13 @@ const LEAST_REPLY: usize = 1024;
 fn between(low: usize, high: usize, run: &[u8]) -> bool
     ensures { λ r. ⌜ r ≡ between low high (now (run .entry)) ⌝ }
 {
-    if run.len() < low {
-        return false;
-    }
-    run.len() <= high
+    (low <= run.len()) & (run.len() <= high)
 }
 
 fn table_fits(table: &[u8]) -> bool
     ensures { λ r. ⌜ r ≡ tableFits (now (table .entry)) ⌝ }
 {
-    if table.len() % SIZE != 0 {
-        return false;
-    }
-    between(SIZE, MOST_RECORDS * SIZE, table)
+    (table.len() % SIZE == 0) & between(SIZE, MOST_RECORDS * SIZE, table)
 }
 
 pub fn setup_fits(
@@ -46,25 +40,12 @@ pub fn setup_fits(
 ) -> bool
     ensures { λ r. ⌜ SetupFits (now («server_key» .entry)) (now («session_key» .entry)) (now (iv .entry)) (now («session_id» .entry)) (now (value .entry)) (now (table .entry)) (now (reply .entry)) r ⌝ }
 {
-    if server_key.len() != 32 {
-        return false;
-    }
-    if session_key.len() != 32 {
-        return false;
-    }
-    if iv.len() != 12 {
-        return false;
-    }
-    if !between(1, 64, session_id) {
-        return false;
-    }
-    if MOST_VALUE < value.len() {
-        return false;
-    }
-    if !table_fits(table) {
-        return false;
-    }
-    LEAST_REPLY <= reply.len()
+    (server_key.len() == 32)
+        & ((session_key.len() == 32)
+            & ((iv.len() == 12)
+                & (between(1, 64, session_id)
+                    & ((value.len() <= MOST_VALUE)
+                        & (table_fits(table) & (LEAST_REPLY <= reply.len()))))))
 }
 
 pub fn request_fits(
@@ -79,35 +60,17 @@ pub fn request_fits(
 ) -> bool
     ensures { λ r. ⌜ RequestFits (now («server_key» .entry)) (now (value .entry)) (now (head .entry)) (now (aside .entry)) (now (path .entry)) (now (body .entry)) (now (table .entry)) (now (reply .entry)) r ⌝ }
 {
-    if server_key.len() != 32 {
-        return false;
-    }
-    if MOST_VALUE < value.len() {
-        return false;
-    }
-    if MOST_LINES < head.len() {
-        return false;
-    }
-    if MOST_LINES < aside.len() {
-        return false;
-    }
-    if !between(1, MOST_PATH, path) {
-        return false;
-    }
-    if MOST_BODY < body.len() {
-        return false;
-    }
-    if !table_fits(table) {
-        return false;
-    }
-    LEAST_REPLY <= reply.len()
+    (server_key.len() == 32)
+        & ((value.len() <= MOST_VALUE)
+            & ((head.len() <= MOST_LINES)
+                & ((aside.len() <= MOST_LINES)
+                    & (between(1, MOST_PATH, path)
+                        & ((body.len() <= MOST_BODY)
+                            & (table_fits(table) & (LEAST_REPLY <= reply.len())))))))
 }
 
 pub fn end_fits(iv: &[u8], table: &[u8]) -> bool
     ensures { λ r. ⌜ r ≡ endFits (now (iv .entry)) (now (table .entry)) ⌝ }
 {
-    if iv.len() != 12 {
-        return false;
-    }
-    table_fits(table)
+    (iv.len() == 12) & table_fits(table)
 }
