@@ -7,8 +7,9 @@
  *     host heap CALLS     each is an allocation of just its size, which valgrind watches
  *
  * In the first two, a run that is lent to be read cannot be written to during its call, and each call has a stack of its
- * own, whose depth is measured. A touch that is not allowed, or a stack that grows too deep, ends the program with a line
- * that names the call. Last, the deepest stack of each kind of call is told on standard error.
+ * own, whose depth is measured. A touch that is not allowed ends the program with status 1; a malformed line, or a stack that
+ * grows too deep, with status 2; either with a message on standard error that names the line. Last, the deepest stack of each
+ * kind of call is told there.
  */
 #define _GNU_SOURCE
 #include "gate.h"
@@ -29,6 +30,9 @@
 #define STACK ((size_t)1 << 16)
 #define UNTOUCHED 0xa5
 #define DEEPEST 12288
+
+/* Of a line: a judge and its twelve arguments. */
+#define MOST_WORDS 13
 
 enum place { AT_END, AT_BEGIN, ON_HEAP };
 
@@ -60,7 +64,8 @@ static uint8_t table[ROOM], reply[ROOM];
 static size_t table_length, reply_length;
 
 static void give_up(const char *why) {
-    fprintf(stderr, "line %lu: %s\n", line_number, why);
+    if (line_number > 0) fprintf(stderr, "line %lu: ", line_number);
+    fprintf(stderr, "%s\n", why);
     exit(2);
 }
 
@@ -82,7 +87,6 @@ static void protect(struct run *run, int how) {
 /* Room for a run of this length, to be filled before it is lent. */
 static uint8_t *room_for(enum which which, size_t length) {
     struct run *run = &runs[which];
-    if (length > ROOM) give_up("a run is too long");
     run->length = length;
     if (place == ON_HEAP) {
         free(run->bytes);
@@ -128,46 +132,71 @@ static void watch(void) {
 
 /* ---- Reading ---- */
 
-static const char *word(void) {
-    const char *found = strtok(NULL, " \n");
-    if (found == NULL) give_up("a word is missing");
-    return found;
+/* The words of the line that is read, and the next of them. */
+static const char *words[MOST_WORDS];
+static size_t word_count, next_word;
+
+/* One space stands between words: two in a row hold an empty word, which is neither a number nor a byte run. */
+static void split(char *line) {
+    word_count = next_word = 0;
+    for (char *rest = line; rest != NULL;) {
+        if (word_count == MOST_WORDS) give_up("wrong number of words");
+        words[word_count++] = rest;
+        rest = strchr(rest, ' ');
+        if (rest != NULL) *rest++ = 0;
+    }
 }
 
-static uint64_t number(void) { return strtoull(word(), NULL, 10); }
-
-static uint32_t number32(void) { return (uint32_t)number(); }
-
-static uint8_t digit(char c) {
-    const char *digits = "0123456789abcdef", *found = strchr(digits, c);
-    if (c == 0 || found == NULL) give_up("no hexadecimal digit");
-    return (uint8_t)(found - digits);
+static uint64_t number_up_to(uint64_t most) {
+    const char *text = words[next_word++];
+    uint64_t value = 0;
+    if (*text == 0) give_up("no number");
+    for (; *text != 0; text++) {
+        if (*text < '0' || *text > '9') give_up("no number");
+        uint64_t digit = (uint64_t)(*text - '0');
+        if (digit > most || value > (most - digit) / 10) give_up("a number is out of range");
+        value = 10 * value + digit;
+    }
+    return value;
 }
 
-static size_t hex_length(const char *hex) { return strcmp(hex, "-") == 0 ? 0 : strlen(hex) / 2; }
+static uint32_t number32(void) { return (uint32_t)number_up_to(UINT32_MAX); }
 
-static void read_hex(const char *hex, uint8_t *out) {
-    size_t length = hex_length(hex);
-    for (size_t i = 0; i < length; i++) out[i] = (uint8_t)(digit(hex[2 * i]) << 4 | digit(hex[2 * i + 1]));
+static uint8_t hex_digit(char c) {
+    if (c >= '0' && c <= '9') return (uint8_t)(c - '0');
+    if (c >= 'a' && c <= 'f') return (uint8_t)(c - 'a' + 10);
+    give_up("no byte run");
+    return 0;
+}
+
+static size_t hex_length(const char *hex) {
+    size_t digits = strlen(hex);
+    if (strcmp(hex, "-") == 0) return 0;
+    if (digits == 0 || digits % 2 != 0) give_up("no byte run");
+    if (digits / 2 > ROOM) give_up("a byte run is too long");
+    return digits / 2;
+}
+
+static void read_hex(const char *hex, uint8_t *out, size_t length) {
+    for (size_t i = 0; i < length; i++) out[i] = (uint8_t)(hex_digit(hex[2 * i]) << 4 | hex_digit(hex[2 * i + 1]));
 }
 
 static void lend_next(enum which which) {
-    const char *hex = word();
-    read_hex(hex, room_for(which, hex_length(hex)));
+    const char *hex = words[next_word++];
+    size_t length = hex_length(hex);
+    read_hex(hex, room_for(which, length), length);
     filled(which);
 }
 
 static void set_table(void) {
-    const char *hex = word();
+    const char *hex = words[next_word++];
     table_length = hex_length(hex);
-    if (table_length > sizeof table) give_up("the table is too long");
-    read_hex(hex, table);
+    read_hex(hex, table, table_length);
 }
 
 static void set_reply(void) {
-    reply_length = (size_t)number();
-    if (reply_length > sizeof reply) give_up("the reply is too long");
-    memset(reply, (int)number(), reply_length);
+    reply_length = (size_t)number_up_to(ROOM);
+    memset(reply, (int)number_up_to(UINT8_MAX), reply_length);
 }
 
 /* ---- Answering ---- */
@@ -257,7 +286,7 @@ static void ask(enum kind kind) {
 }
 
 static void read_site(void) {
-    call.orders.mask = number();
+    call.orders.mask = number_up_to(UINT64_MAX);
     lend_next(EXTRA);
     call.orders.extra = lent(EXTRA);
     call.orders.request_life = number32();
@@ -321,12 +350,15 @@ static void play_end(void) {
 static void play(char *line) {
     static const struct {
         const char *name;
+        size_t words;
         void (*play)(void);
-    } kinds[] = {{"table", set_table}, {"reply", set_reply}, {"setup", play_setup},
-                 {"judge", play_judge}, {"one", play_one},   {"end", play_end}};
-    const char *kind = strtok(line, " \n");
-    for (size_t i = 0; kind != NULL && i < sizeof kinds / sizeof kinds[0]; i++) {
+    } kinds[] = {{"table", 2, set_table},   {"reply", 3, set_reply}, {"setup", 12, play_setup},
+                 {"judge", 13, play_judge}, {"one", 13, play_one},   {"end", 2, play_end}};
+    split(line);
+    const char *kind = words[next_word++];
+    for (size_t i = 0; i < sizeof kinds / sizeof kinds[0]; i++) {
         if (strcmp(kind, kinds[i].name) == 0) {
+            if (word_count != kinds[i].words) give_up("wrong number of words");
             kinds[i].play();
             return;
         }
@@ -342,19 +374,24 @@ static enum place place_named(const char *name) {
     return ON_HEAP;
 }
 
-int main(int count, char **words) {
+int main(int count, char **arguments) {
     if (count != 3) give_up("usage: host end|begin|heap CALLS");
-    place = place_named(words[1]);
-    FILE *calls = fopen(words[2], "r");
+    place = place_named(arguments[1]);
+    FILE *calls = fopen(arguments[2], "r");
     if (calls == NULL) give_up("no such file");
     make_rooms();
     watch();
     char *line = NULL;
     size_t size = 0;
-    while (getline(&line, &size, calls) > 0) {
+    ssize_t length;
+    while ((length = getline(&line, &size, calls)) > 0) {
         line_number++;
+        if (line[length - 1] != '\n') give_up("no line feed at its end");
+        line[length - 1] = 0;
+        if (strlen(line) != (size_t)length - 1) give_up("a zero byte");
         play(line);
     }
+    if (!feof(calls)) give_up("the file cannot be read");
     if (place != ON_HEAP) print_deepest();
     return 0;
 }

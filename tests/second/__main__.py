@@ -7,19 +7,34 @@ import os
 import sys
 
 import calls
+import sentences
 from histories import History
 
 
 def generate(arguments):
-    """Write a call file, the answers to it and, beside it, the name of each call."""
+    """Write the calls of a history."""
     print(f"seed {arguments.seed}", flush=True)
-    paths = (arguments.calls, arguments.answers, names_beside(arguments.calls))
-    with contextlib.ExitStack() as stack:
-        files = [stack.enter_context(open(path, "w", encoding="ascii", newline="\n")) for path in paths]
-        history = History(arguments.seed, calls.Writer(*files))
+    with writing(arguments) as writer:
+        history = History(arguments.seed, writer)
         history.generate(arguments.count)
     print(f"{history.written} calls")
     return report_numbers(history.counts)
+
+
+def write_sentences(arguments):
+    """Write the calls of document 01's sentences."""
+    with writing(arguments) as writer:
+        written = sentences.write(writer)
+    print(f"{written} calls")
+    return True
+
+
+@contextlib.contextmanager
+def writing(arguments):
+    """A writer of a call file, the answers to it and, beside it, the name of each call."""
+    paths = (arguments.calls, arguments.answers, names_beside(arguments.calls))
+    with contextlib.ExitStack() as stack:
+        yield calls.Writer(*(stack.enter_context(open(path, "w", encoding="ascii", newline="\n")) for path in paths))
 
 
 def compare(arguments):
@@ -85,11 +100,14 @@ def command_line():
     parser = argparse.ArgumentParser(prog="second", description=__doc__)
     commands = parser.add_subparsers(required=True)
 
-    command = commands.add_parser("generate", help="write calls and the answers to them")
+    command = commands.add_parser("generate", help="write the calls of a history, and the answers to them")
     add_seed_and_count(command)
-    command.add_argument("--calls", required=True)
-    command.add_argument("--answers", required=True)
+    add_files(command)
     command.set_defaults(run=generate)
+
+    command = commands.add_parser("sentences", help="write calls by document 01's sentences, and the answers to them")
+    add_files(command)
+    command.set_defaults(run=write_sentences)
 
     command = commands.add_parser("compare", help="compare a program's answers with the expected ones")
     command.add_argument("--calls", required=True)
@@ -109,6 +127,11 @@ def command_line():
 def add_seed_and_count(command):
     command.add_argument("--seed", type=int, required=True)
     command.add_argument("--count", type=int, required=True)
+
+
+def add_files(command):
+    command.add_argument("--calls", required=True)
+    command.add_argument("--answers", required=True)
 
 
 if __name__ == "__main__":

@@ -79,7 +79,7 @@ def netstring(run):
 
 
 def decimal(text):
-    """Digits without a leading zero; `0` itself is good (READINGS I1, I2)."""
+    """Digits without a leading zero; `0` itself is good (docs/DECISIONS.md)."""
     if not text or any(letter not in DIGITS for letter in text):
         return None
     if len(text) > 1 and text[:1] == b"0":

@@ -23,7 +23,7 @@ KINDS_IN_PAIRS = ["judge"] * 14 + ["one"] * 3 + ["setup"] * 8 + ["end"]
 
 
 class Disagreement(Exception):
-    """The model answers otherwise than the catalogue says."""
+    """The model answers otherwise than the maker of the call says."""
 
 
 @dataclass

@@ -1,7 +1,7 @@
 """The login gate of document 01 as pure functions: setup, judge, judge_one and end.
 
 Each takes everything lent and answers an Outcome. The checks stand in 01's order, one short function for each number;
-a comment names READINGS.md where 01 can be read in two ways.
+a comment names docs/DECISIONS.md where 01 can be read in two ways.
 """
 
 import hashlib
@@ -226,12 +226,12 @@ def session_id_size_bad(session_id):
 
 
 def value_size_bad(value):
-    """No lower end: an empty value is 4 (READINGS A2)."""
+    """No lower end: an empty value is 4 (docs/DECISIONS.md)."""
     return len(value) > MOST_VALUE
 
 
 def lines_size_bad(block):
-    """The whole block, CR LF counted (READINGS A3)."""
+    """The whole block, CR LF counted (docs/DECISIONS.md)."""
     return len(block) > MOST_LINES
 
 
@@ -275,7 +275,7 @@ def extra_names_bad(extra):
 
 
 def extra_names(extra):
-    """An empty run is no name; otherwise an empty name between commas stays, and is no token (READINGS B2)."""
+    """An empty run is no name; otherwise an empty name between commas stays, and is no token (docs/DECISIONS.md)."""
     return extra.split(b",") if extra else []
 
 
@@ -319,7 +319,7 @@ def fields_of(value):
 
 
 def contents_bad(key, contents):
-    """The rules of the known keys, which hold for setup and request alike (READINGS D6)."""
+    """The rules of the known keys, which hold for setup and request alike (docs/DECISIONS.md)."""
     if key in (b"t", b"lt", b"n"):
         return encoding.number(contents) is None
     if key in (b"r", b"h", b"ah"):
@@ -346,7 +346,7 @@ def setup_fields_wrong(fields):
 def request_fields_wrong(fields):
     """'s, c, t, lt, h, ah, iv, tag, each once; eah or not; n exactly if bit 0 of ah is set.'
 
-    The request's own ah decides over n (READINGS E1).
+    The request's own ah decides over n (docs/DECISIONS.md).
     """
     keys = [key for key, _ in fields]
     must = [b"s", b"c", b"t", b"lt", b"h", b"ah", b"iv", b"tag"]
@@ -387,7 +387,7 @@ def covered_names(orders):
 
 
 def covered_name_twice(orders, lines):
-    """In one block, whether or not the block is the chosen one (READINGS G2)."""
+    """In one block, whether or not the block is the chosen one (docs/DECISIONS.md)."""
     names = [name for name, _ in lines]
     return any(names.count(name) > 1 for name in covered_names(orders))
 
@@ -445,7 +445,7 @@ def token_text(token):
 
 
 def expired(clock, token):
-    """By the token alone; the record's expiry is not read (READINGS J2)."""
+    """By the token alone; the record's expiry is not read (docs/DECISIONS.md)."""
     return clock >= token.expiry
 
 
@@ -486,7 +486,7 @@ def too_old(orders, clock, field):
 
 
 def place_for_setup(records, clock):
-    """'The lowest free record, else the lowest whose expiry is at or before now', by place (READINGS K2)."""
+    """'The lowest free record, else the lowest whose expiry is at or before now', by place (docs/DECISIONS.md)."""
     for place, record in enumerate(records):
         if record.used == 0:
             return place

@@ -76,7 +76,7 @@ def marks_good(record):
 
 
 def contents_good(record):
-    """The conditions on a single record; bits for nonces below 0 are not among them (READINGS C2)."""
+    """The conditions on a single record; bits for nonces below 0 are not among them (docs/DECISIONS.md)."""
     if record.used == 0:
         return record == FREE
     if record.begun == 0:

@@ -1,6 +1,6 @@
 -- Each number of document 01 is given by some call, so no check is idle: here every number of a setup and of an ending, and 1 to 9 of a
--- request. 0 and 10 to 16 of a request need a token that opens, and AES takes more steps than a proof may compute: the program `replay`
--- runs calls that give them.
+-- request. 0 and 10 to 16 of a request need a token that opens, and AES takes more steps than a proof may compute: the stored
+-- calls of tests/host give them.
 -- Assumes nothing.
 use mathlib.Core.Path.{_≡_, refl, ap, _∙_}
 use mathlib.Core.Bool.{Bool, true, false}

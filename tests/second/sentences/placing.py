@@ -1,0 +1,258 @@
+"""Places a case in whole calls, where what it comes to shows in a call's number, reply or table.
+
+Each function takes a case and yields calls: a note, the call, and the numbers that it can get. But for what the case puts in, a
+call is good. What a request decodes to shows by its signature, which is over those very bytes, and by its age and its idle
+gap, which meet the limits to the second.
+"""
+
+import random
+
+import client
+import drafts
+import encoding
+import model
+import record as rec
+from encoding import netstring
+from faults.catalogue import Fault, nothing
+
+HIGHEST = model.HIGHEST
+
+SERVER_KEY = bytes(range(100, 132))
+KEY = bytes(range(32))
+IV = bytes(range(200, 212))
+SESSION_ID = b"brandt-1"
+CLOCK = 1_505_773_000
+NONCE = 5
+REPLY = (model.LEAST_REPLY, 170)
+OFFER = client.setup_value(model.SHA_512)
+MOST_SEALED = 118  # bytes of s
+IV_LETTERS = 16  # of its base64
+
+
+def ordered(mask, extra=b"", request_life=0, idle=0, session_life=0):
+    return model.Orders(mask, extra, request_life, idle, session_life)
+
+
+ORDERS = ordered(3)  # nonces and Host
+
+
+# Calls
+
+
+def setup_call(orders=ORDERS, value=OFFER, session_id=SESSION_ID):
+    draft = drafts.Setup(
+        kind="setup",
+        table=rec.to_bytes(rec.FREE),
+        iv=IV,
+        reply=REPLY,
+        orders=orders,
+        clock=CLOCK,
+        server_key=SERVER_KEY,
+        session_key=KEY,
+        session_id=session_id,
+        value=value,
+    )
+    return draft.call()
+
+
+def request_call(*alterations, orders=ORDERS, iv=IV, head=b"", aside=b"", **planned):
+    """A request of the session that the table's one record is for, altered at some stages of its draft."""
+    plan = {"clock": CLOCK, "key": KEY, "session_id": SESSION_ID, "t": CLOCK, "lt": CLOCK, "n": NONCE, **planned}
+    draft = drafts.Request(
+        kind="judge",
+        table=rec.to_bytes(rec.fresh(iv, HIGHEST)),
+        iv=iv,
+        place=0,
+        reply=REPLY,
+        orders=orders,
+        server_key=SERVER_KEY,
+        expiry=HIGHEST,
+        head_lines=head.splitlines(keepends=True),
+        aside_lines=aside.splitlines(keepends=True),
+        **plan,
+    )
+    return drafts.build(draft, alterations, random.Random(0))
+
+
+def at(stage, alter):
+    """An alteration of a draft at one of its stages."""
+    return Fault(name="", number=0, at=stage, on=(), needs=nothing, alter=lambda draft, rng: alter(draft), long=False)
+
+
+def replaced(stage, name, contents):
+    return at(stage, lambda draft: setattr(draft, name, contents))
+
+
+# Orders
+
+
+def orders(*settings):
+    asked = model.Orders(*settings)
+    if model.orders_bad(asked):
+        yield "a setup", setup_call(asked), (2,)
+        yield "a request", request_call(orders=asked), (2,)
+        return
+    yield "a setup", setup_call(asked), (0,)
+    head = b"".join(client.line(name, b"v%d" % place) for place, name in enumerate(model.covered_names(asked)))
+    life, idle = model.request_life(asked), model.idle_limit(asked)
+    for note, age, number in (("as old as can be", min(life, HIGHEST - 1), 0), ("a second too old", life + 1, 14)):
+        t = max(0, CLOCK - age)
+        if t + age < HIGHEST:  # no token outlives that
+            yield f"a request {note}", request_call(orders=asked, head=head, clock=t + age, t=t, lt=t), (number,)
+    for note, gap, number in (("idle for the limit", idle, 0), ("idle for a second more", idle + 1, 13)):
+        t = max(gap, CLOCK)
+        if t <= HIGHEST:
+            yield f"a request {note}", request_call(orders=asked, head=head, t=t, lt=t - gap), (number,)
+
+
+# Values
+
+
+def setup(value):
+    yield "as the value of a setup", setup_call(value=value), (0, 4, 5, 19)
+
+
+def request(value):
+    """Under orders that agree with what it covers, where such orders are good."""
+    fields = request_fields(value)
+    own = ordered(encoding.mask(fields[b"ah"]), fields.get(b"eah", b"")) if fields else ORDERS
+    orders = ORDERS if model.orders_bad(own) else own
+    yield "as the value of a request", valued(value, orders), (4, 5, 8, 9)
+    if not fields:
+        return
+    t, lt = encoding.number(fields[b"t"]), encoding.number(fields[b"lt"])
+    at_limit = orders._replace(idle=max(0, t - lt))
+    last = min(t + model.request_life(orders), HIGHEST - 1)  # no token outlives that
+    yield "vouched for, at its limits", vouched(value, at_limit, last), (0, 8)
+    if last < HIGHEST - 1:
+        yield "vouched for, a second too old", vouched(value, at_limit, last + 1), (8, 14)
+    if t - lt > 1:
+        yield "vouched for, a second too idle", vouched(value, orders._replace(idle=t - lt - 1), last), (8, 13)
+
+
+def coverage(mask, extra, value):
+    orders = ordered(mask, extra, HIGHEST, HIGHEST)
+    yield "as the value of a request", valued(value, orders), (2, 4, 5, 8, 9)
+    if request_fields(value):
+        yield "vouched for", vouched(value, orders, CLOCK), (0, 2, 8)
+
+
+def request_fields(value):
+    """Contents by key, or None where the value is no request's."""
+    fields = model.fields_of(value)
+    return None if fields is None or model.request_fields_wrong(fields) else dict(fields)
+
+
+def valued(value, orders):
+    return request_call(replaced("value", "value", value), orders=orders)
+
+
+def vouched(value, orders, clock):
+    """A request with this value, but with s, iv and tag of the session and with c over what it carries."""
+    carried = model.fields_of(value)
+
+    def carry(draft):
+        own = {key: contents for key, contents in draft.fields if key in (b"s", b"iv", b"tag")}
+        draft.fields = [(key, own.get(key, contents)) for key, contents in carried if key != b"c"]
+
+    def close(draft):
+        draft.value += b";" if value.endswith(b";") else b""
+
+    return request_call(at("fields", carry), at("value", close), orders=orders, clock=clock)
+
+
+# Lines
+
+
+def block(lines):
+    yield "as the head", request_call(head=lines), (0, 6)
+    yield "as the set-aside lines", request_call(aside=lines), (0, 6)
+
+
+def names(mask, extra, head, aside):
+    yield "a request", request_call(orders=ordered(mask, extra), head=head, aside=aside), (0, 2, 6, 7)
+
+
+def covered(name, head, aside):
+    """By its bit if the name is listed, as an extra name otherwise."""
+    listed = [known.lower() for known in model.NAMES]
+    orders = ordered(2 << listed.index(name.lower()) | 1) if name.lower() in listed else ordered(1, name)
+
+    def sign_other(draft):
+        """The covered value is the last part but path and body."""
+        _, value = draft.parts[-3]
+        draft.parts[-3] = (name, value + b"x")
+
+    yield "signed", request_call(orders=orders, head=head, aside=aside), (0,)
+    yield "another value signed", request_call(at("parts", sign_other), orders=orders, head=head, aside=aside), (11,)
+
+
+# Netstrings
+
+
+def read(place, run):
+    """As what a token seals, cut to the longest that fits: whole, and from its place on as each of the three parts."""
+    key, session_id, expiry = (netstring(part) for part in (KEY, SESSION_ID, b"%d" % HIGHEST))
+    part = run[place:]
+    for note, text in (
+        ("as a token's text", run),
+        ("as a token's session key", part + session_id + expiry),
+        ("as a token's session id", key + part + expiry),
+        ("as a token's expiry", key + session_id + part),
+    ):
+        sealed = text[:MOST_SEALED]
+        yield note, request_call(replaced("token text", "token_text", sealed)), (0, 9, 11) if sealed else (4,)
+
+
+def written(part):
+    """As a session id, which a setup seals and a request opens, and as what is signed."""
+    yield "as the session id of a setup", setup_call(session_id=part), (0, 1)
+    yield "as the session id of a request", request_call(session_id=part), (0, 4, 9)
+    yield "as the path", request_call(path=part), (0, 1)
+    yield "as the body", request_call(body=part), (0,)
+
+
+# The code
+
+
+def code(mask, extra, n, t, lt, key, head, aside, path, body):
+    """Within limits that nothing exceeds."""
+    request = {"orders": ordered(mask, extra, HIGHEST, HIGHEST), "n": n, "t": t, "lt": lt, "key": key}
+    request |= {"head": head, "aside": aside, "path": path, "body": body}
+
+    def alter(draft):
+        c = dict(draft.fields)[b"c"]
+        draft.set_field(b"c", c[:-1] + bytes([c[-1] ^ 1]))
+
+    yield "signed", request_call(**request), (0, 2)
+    yield "the last byte of c altered", request_call(at("signed", alter), **request), (2, 11)
+
+
+# Numbers, masks and base64
+
+
+def number(n):
+    yield "as t, lt and n", request_call(orders=ordered(3, b"", HIGHEST, HIGHEST), t=n, lt=n, n=n), (0,)
+
+
+def mask(m):
+    yield "as the mask of a setup's orders", setup_call(ordered(m)), (0, 2)
+    yield "as the mask of a request's orders", request_call(orders=ordered(m)), (0, 2)
+    yield "as ah, under other orders", request_call(replaced("lent", "orders", ORDERS), orders=ordered(m)), (0, 8)
+    yield "as r", setup_call(value=client.setup_value(m)), (0, 19)
+
+
+def decode(text):
+    """As n it shows in the table; at the front of iv, by the token and the record, which the right IV alone opens and finds."""
+    yield "of an unknown key", setup_call(value=b"x:" + text), (4, 5)
+    yield "as n", with_text(b"n", text), (0, 4)
+    if len(text) <= IV_LETTERS:
+        front = text.ljust(IV_LETTERS, b"A")
+        yield "at the front of iv", with_text(b"iv", front, iv=encoding.base64_bytes(front) or IV), (0, 4)
+
+
+def with_text(key, text, **planned):
+    """A request whose field of this key has this text, signed over what it decodes to."""
+    contents = encoding.base64_bytes(text) or b""
+    carry = at("fields", lambda draft: draft.set_field(key, contents))
+    return request_call(carry, at("pieces", lambda draft: draft.set_text(key, lambda made: text)), **planned)
