@@ -1,25 +1,26 @@
 # How a test script counts: `expect` and `tally` add to the counts, and `counted` prints its last line.
 passed=0 failed=0
+said=$(mktemp)
+trap 'rm -f "$said"' EXIT
 
 # expect WHAT COMMAND..: one test; what the command prints is shown only if it fails
 expect() {
-  local said
-  if said=$("${@:2}" 2>&1); then
+  if "${@:2}" > "$said" 2>&1; then
     echo "ok: $1"
     passed=$((passed + 1))
   else
     echo "FAILED: $1"
-    cut -c -300 <<<"$said"
+    cut -c -300 "$said"
     failed=$((failed + 1))
   fi
 }
 
 # tally WHAT COMMAND..: the tests that the command's own last line counts; what it prints is shown only if one fails
 tally() {
-  local said status=0 before=$failed
-  said=$("${@:2}" 2>&1) || status=$?
-  count "$1" "$status" "$(tail -n 1 <<<"$said")"
-  [[ $failed -eq $before ]] || cut -c -300 <<<"$said"
+  local status=0 before=$failed
+  "${@:2}" > "$said" 2>&1 || status=$?
+  count "$1" "$status" "$(tail -n 1 "$said")"
+  [[ $failed -eq $before ]] || cut -c -300 "$said"
 }
 
 # count WHAT STATUS LAST: adds the counts of a command's last line, 'N passed, M failed'. A command that ends otherwise, or
