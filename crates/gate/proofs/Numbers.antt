@@ -1,19 +1,22 @@
 -- The first of several checks that holds, and a number and a length that one answer holds: document 01, 'The numbers a call returns'.
 -- Assumes nothing.
 use mathlib.Core.Path.{_≡_, refl, sym, ap, ap₂, _∙_}
-use mathlib.Core.Bool.{Bool, true, false, true≢false, cond, _&&_}
+use mathlib.Core.Bool.{Bool, true, false, true≢false, cond, not, _&&_}
 use mathlib.Core.List.{List, [], _∷_, _++_, map, List·Memᴰ, List·Memᴰ·head, List·Memᴰ·tail}
 use Prim.Native.Nat.{ℕ, zero, suc, _+_, _*_, _≤_, _<_}
 use native.Mathlib.Omega.{arith}
-use borrow.Author.Tests.{leb-true, ne-eqb}
-use lib.Dec.{eqb, leb}
-use lib.ListN.{length, getD, drop}
+use borrow.Author.Tests.{leb-true, ltb-true, eqb-true, eqb-false, ne-eqb, not-true}
+use lib.Dec.{eqb, leb, ltb}
+use lib.ListN.{length, getD}
 use Rattle.table.proofs.Tests.{both}
-use Rattle.gate.specs.Calls.{Setup, Request}
+use Rattle.table.specs.Table.{records}
+use Rattle.table.specs.WellFormed.{wellFormed}
+use Rattle.gate.specs.Calls.{Orders, Setup, Request}
 use Rattle.gate.specs.Outcome.{outcome}
-use Rattle.gate.specs.Checks.{Check, check, first}
-use Rattle.gate.specs.Setup.{setupChecks}
-use Rattle.gate.specs.Judge.{requestChecks}
+use Rattle.gate.specs.Checks.{Check, check, first, ordersBad, tableChecks, entryChecks}
+use Rattle.gate.specs.Setup as S
+use Rattle.gate.specs.Setup.{offerPart, lastingPart, roomPart, setupChecks}
+use Rattle.gate.specs.Judge.{entryPart, readingPart, coveringPart, tokenPart, signaturePart, vouchingPart, sessionPart, noncePart, requestChecks}
 use Rattle.gate.specs.End.{endChecks}
 
 -- the checks' numbers are not 0
@@ -41,6 +44,65 @@ first-append (c ∷ cs) ys e =
         → cond t (c .number) (first (cs ++ ys)) ≡ cond (eqb (cond t (c .number) (first cs)) 0) (first ys) (cond t (c .number) (first cs))
     by true h k = rw (ne-eqb (c .number) 0 (λ z. omega arith))
     by false h k = k
+
+-- no check has this number
+abbrev pub lacks : ℕ → List Check → Bool
+lacks n [] = true
+lacks n (c ∷ cs) = not (eqb (c .number) n) && lacks n cs
+
+pub first-lacks : (n : ℕ) (cs : List Check) → (n ≡ 0 → ⊥) → lacks n cs ≡ true → first cs ≡ n → ⊥
+first-lacks n [] nz e f = nz (sym f)
+first-lacks n (c ∷ cs) nz e f =
+    let parts = both (not (eqb (c .number) n)) (lacks n cs) e in
+    by (c .holds) f (not-true (eqb (c .number) n) (parts .0)) (first-lacks n cs nz (parts .1))
+  where
+    by : (t : Bool) → cond t (c .number) (first cs) ≡ n → eqb (c .number) n ≡ false → (first cs ≡ n → ⊥) → ⊥
+    by true g other later = eqb-false (c .number) n other g
+    by false g other later = later g
+
+-- a number that none of the checks at the front has is given by those after them
+pub record Later (xs ys : List Check) (n : ℕ) : Type 0 where
+  pub none : first xs ≡ 0
+  pub later : first ys ≡ n
+
+pub comes-later : (xs ys : List Check) (n : ℕ) → numbered xs ≡ true → lacks n xs ≡ true → first (xs ++ ys) ≡ n → Later xs ys n
+comes-later xs ys n e l f = by (eqb (first xs) 0) refl (sym (first-append xs ys e) ∙ f)
+  where
+    by : (t : Bool) → eqb (first xs) 0 ≡ t → cond t (first ys) (first xs) ≡ n → Later xs ys n
+    by true z g = record { none = eqb-true (first xs) 0 z; later = g }
+    by false z g = absurd (first-lacks n xs (λ o. eqb-false (first xs) 0 z (g ∙ o)) l g)
+
+-- where none of all holds, none of either holds
+numbered-lacks : (cs : List Check) → numbered cs ≡ true → lacks 0 cs ≡ true
+numbered-lacks [] e = refl
+numbered-lacks (c ∷ cs) e =
+    let parts = numbered-parts c cs e in
+    rw (ne-eqb (c .number) 0 (λ z. omega (arith, parts .low))) (numbered-lacks cs (parts .rest))
+
+pub none-holds : (xs ys : List Check) → numbered xs ≡ true → first (xs ++ ys) ≡ 0 → Later xs ys 0
+none-holds xs ys e z = comes-later xs ys 0 e (numbered-lacks xs e) z
+
+-- where none of the checks at the front holds, those after them decide
+pub passed-by : (xs ys : List Check) → numbered xs ≡ true → first xs ≡ 0 → first (xs ++ ys) ≡ first ys
+passed-by xs ys e z = first-append xs ys e ∙ rw z
+
+pub stopped-by : (xs ys : List Check) → numbered xs ≡ true → (first xs ≡ 0 → ⊥) → first (xs ++ ys) ≡ first xs
+stopped-by xs ys e nz = first-append xs ys e ∙ rw (ne-eqb (first xs) 0 nz)
+
+-- checks with numbers below 256 come to one
+abbrev pub small : List Check → Bool
+small [] = true
+small (c ∷ cs) = ltb (c .number) 256 && small cs
+
+pub first-small : (cs : List Check) → small cs ≡ true → first cs < 256
+first-small [] e = omega arith
+first-small (c ∷ cs) e =
+    let parts = both (ltb (c .number) 256) (small cs) e in
+    by (c .holds) (ltb-true (c .number) 256 (parts .0)) (first-small cs (parts .1))
+  where
+    by : (t : Bool) → c .number < 256 → first cs < 256 → cond t (c .number) (first cs) < 256
+    by true h g = h
+    by false h g = g
 
 -- the number of a call is 0 or that of one of its checks
 pub first-among : (cs : List Check) → List·Memᴰ (first cs) (0 ∷ map (λ (c : Check). c .number) cs)
@@ -133,24 +195,68 @@ first-exactly (c ∷ cs) e = by (c .holds) refl (first-exactly cs (parts .rest))
         skipped n zero l = p
         skipped n (suc j) l = n j (omega arith)
 
--- checks that do not hold, at the front, may be left out
-pub first-drop : (k : ℕ) (cs : List Check) → ((j : ℕ) → j < k → getD cs j unchecked .holds ≡ false) → first cs ≡ first (drop k cs)
-first-drop zero cs h = refl
-first-drop (suc k) [] h = refl
-first-drop (suc k) (c ∷ cs) h = rw (h 0 (omega arith)) (first-drop k cs (λ j l. h (suc j) (omega arith)))
-
--- the checks of the three calls
+-- the checks of the three calls, and their parts
 pub setup-numbered : (s : Setup) (table : List ℕ) → numbered (setupChecks s table) ≡ true
-unfolding setupChecks
+unfolding setupChecks S.entryPart offerPart lastingPart roomPart entryChecks tableChecks
 setup-numbered s table = refl
 
+pub setup-small : (s : Setup) (table : List ℕ) → small (setupChecks s table) ≡ true
+unfolding setupChecks S.entryPart offerPart lastingPart roomPart entryChecks tableChecks
+setup-small s table = refl
+
 pub request-numbered : (q : Request) (table : List ℕ) → numbered (requestChecks q table) ≡ true
-unfolding requestChecks
+unfolding requestChecks entryPart readingPart coveringPart tokenPart signaturePart sessionPart noncePart entryChecks tableChecks
 request-numbered q table = refl
 
+pub request-small : (q : Request) (table : List ℕ) → small (requestChecks q table) ≡ true
+unfolding requestChecks entryPart readingPart coveringPart tokenPart signaturePart sessionPart noncePart entryChecks tableChecks
+request-small q table = refl
+
 pub end-numbered : (iv table : List ℕ) → numbered (endChecks iv table) ≡ true
-unfolding endChecks
+unfolding endChecks tableChecks
 end-numbered iv table = refl
+
+pub entry-numbered : (fits : Bool) (o : Orders) (table : List ℕ) → numbered (entryChecks fits o table) ≡ true
+unfolding entryChecks tableChecks
+entry-numbered fits o table = refl
+
+-- what 1 to 3 let through
+pub record Entered (fits : Bool) (o : Orders) (table : List ℕ) : Type 0 where
+  pub sizes : fits ≡ true
+  pub orders : ordersBad o ≡ false
+  pub formed : wellFormed (records table) ≡ true
+
+pub entry-passed : (fits : Bool) (o : Orders) (table : List ℕ) → first (entryChecks fits o table) ≡ 0 → Entered fits o table
+unfolding entryChecks tableChecks
+entry-passed fits o table e = by fits (ordersBad o) (wellFormed (records table)) refl refl refl e
+  where
+    by : (a b c : Bool) → fits ≡ a → ordersBad o ≡ b → wellFormed (records table) ≡ c
+        → _≡_ {A = ℕ} (cond (not a) 1 (cond b 2 (cond (not c) 3 0))) 0 → Entered fits o table
+    by true false true p q r z = record { sizes = p; orders = q; formed = r }
+    by true false false p q r z = absurd (omega arith)
+    by true true c p q r z = absurd (omega arith)
+    by false b c p q r z = absurd (omega arith)
+
+pub reading-numbered : (q : Request) → numbered (readingPart q) ≡ true
+unfolding readingPart coveringPart
+reading-numbered q = refl
+
+-- none of them frees a record
+pub reading-ten : (q : Request) → lacks 10 (readingPart q) ≡ true
+unfolding readingPart coveringPart
+reading-ten q = refl
+
+pub reading-thirteen : (q : Request) → lacks 13 (readingPart q) ≡ true
+unfolding readingPart coveringPart
+reading-thirteen q = refl
+
+pub vouching-numbered : (q : Request) → numbered (vouchingPart q) ≡ true
+unfolding tokenPart signaturePart
+vouching-numbered q = refl
+
+pub offer-numbered : (s : Setup) → numbered (offerPart s) ≡ true
+unfolding offerPart lastingPart
+offer-numbered s = refl
 
 -- an answer holds a call's number and its reply's length
 pub answered : (n l : ℕ) (reply table : List ℕ) → n < 256

@@ -4,10 +4,10 @@ use mathlib.Core.Path.{_≡_, refl, _∙_}
 use mathlib.Core.Bool.{Bool, true, false, cond, not}
 use mathlib.Core.List.{List, [], _∷_, _++_}
 use mathlib.Core.Option.{Option, none, some, Option·getD}
-use Prim.Native.Nat.{ℕ, _+_, _*_, _≤_}
+use Prim.Native.Nat.{ℕ, _*_, _≤_}
 use native.Mathlib.Omega.{arith}
 use borrow.Author.Tests.{leb-true, eqb-true, ne-eqb, not-false}
-use lib.Dec.{eqb, leb}
+use lib.Dec.{leb}
 use lib.ListN.{length}
 use Rattle.cells.specs.Runs.{fronted}
 use Rattle.armor.specs.declared.SetupRead.{SetupRead}
@@ -25,44 +25,41 @@ use Rattle.gate.specs.declared.setup.Offer.the-variants as O
 use Rattle.gate.specs.declared.setup.Start.{Start}
 use Rattle.gate.specs.declared.setup.Start.the-variants as S
 use Rattle.gate.specs.Calls.{Setup}
-use Rattle.gate.specs.Checks.{Check, check, first, missing, ordersBad}
+use Rattle.gate.specs.Checks.{Check, check, first, missing, ordersBad, tableChecks, entryChecks}
 use Rattle.gate.specs.Outcome.{outcome, replied}
-use Rattle.gate.specs.Setup.{offered, expiryOf, setupChecks, tokenOf, sealedOf, replyOf, tableOf, setUp}
+use Rattle.gate.specs.Setup.{offered, expiryOf, entryPart, offerPart, lastingPart, roomPart, setupChecks, tokenOf, sealedOf, replyOf, tableOf, setUp}
 use Rattle.gate.specs.Sizes.{tableFits, setupFits}
-use Rattle.gate.specs.Starts.{untilChecks, offerChecks, roomChecks, RefusedBy, LastsUntil, UntilIs, OfferIs, RoomIs, Starts, StartIs, startAt}
-use Rattle.gate.proofs.Numbers.{first-append, first-exactly, setup-numbered, answer-is}
+use Rattle.gate.specs.Starts.{RefusedBy, LastsUntil, Lasts, Room, Starts, StartIs, startAt}
+use Rattle.gate.proofs.Numbers.{none-holds, passed-by, stopped-by, first-small, setup-small, entry-numbered, entry-passed, offer-numbered, answer-is}
 
 -- reading a value decides 4 and 5, and leaves its mask to 19 and 20
-abbrev pub Tells : ℕ → ℕ → SetupRead → List Check → Type 0
-Tells clock life SetupRead.Grammar checks = first checks ≡ 4
-Tells clock life SetupRead.Fields checks = first checks ≡ 5
-Tells clock life (SetupRead.Mask mask) checks = first checks ≡ first (untilChecks mask clock life)
+abbrev Told : ℕ → List Check → List Check → SetupRead → Type 0
+Told mask checks later SetupRead.Grammar = first checks ≡ 4
+Told mask checks later SetupRead.Fields = first checks ≡ 5
+Told mask checks later (SetupRead.Mask m) = (first checks ≡ first later) × (mask ≡ m)
 
-abbrev offersOf : Option (List Field) → ℕ → ℕ → List Check
-offersOf o clock life =
-    check 4 (missing o)
-    ∷ check 5 (not (setupFields (Option·getD o [])))
-    ∷ untilChecks (maskOf (the nameR (Option·getD o []))) clock life
-
-tells-of : (o : Option (List Field)) (clock life : ℕ) → Tells clock life (setupFrom o) (offersOf o clock life)
-tells-of none clock life = refl
-tells-of (some fs) clock life = by (setupFields fs)
+told-of : (o : Option (List Field)) (later : List Check)
+    → Told (maskOf (the nameR (Option·getD o []))) (check 4 (missing o) ∷ check 5 (not (setupFields (Option·getD o []))) ∷ later) later (setupFrom o)
+told-of none later = refl
+told-of (some fs) later = by (setupFields fs)
   where
     mask : ℕ
     mask = maskOf (the nameR fs)
 
-    by : (t : Bool) → Tells clock life (cond t (SetupRead.Mask mask) SetupRead.Fields) (check 4 false ∷ check 5 (not t) ∷ untilChecks mask clock life)
-    by true = refl
+    by : (t : Bool) → Told mask (check 4 false ∷ check 5 (not t) ∷ later) later (cond t (SetupRead.Mask mask) SetupRead.Fields)
+    by true = (refl, refl)
     by false = refl
 
-pub tells : (value : List ℕ) (clock life : ℕ) (r : SetupRead) → r ≡ setupAnswer value → Tells clock life r (offerChecks value clock life)
-unfolding setupAnswer offerChecks carried
-tells value clock life r e = rw e (tells-of (grammar value) clock life)
+abbrev pub Tells : Setup → SetupRead → Type 0
+Tells s r = Told (offered s) (offerPart s) (lastingPart s) r
 
-pub offer-until : (value : List ℕ) (clock life mask : ℕ) (r : Offer) → Tells clock life (SetupRead.Mask mask) (offerChecks value clock life)
-    → UntilIs mask clock life r → OfferIs value clock life r
-offer-until value clock life mask (O.Until expiry) t u = record { none = t ∙ u .none; is = u .is }
-offer-until value clock life mask (O.Refused number) t u = record { is = t ∙ u .is; some = u .some; most = u .most }
+pub tells : (s : Setup) (value : List ℕ) (r : SetupRead) → s .value ≡ value → r ≡ setupAnswer value → Tells s r
+unfolding setupAnswer offerPart offered carried
+tells s value r v e = rw (e, ← v) (told-of (grammar (s .value)) (lastingPart s))
+
+pub offer-lasts : (s : Setup) (end : ℕ) (r : Offer) → first (offerPart s) ≡ first (lastingPart s) → Lasts (lastingPart s) end r → Lasts (offerPart s) end r
+offer-lasts s end (O.Until expiry) t u = record { none = t ∙ u .none; is = u .is }
+offer-lasts s end (O.Refused number) t u = record { is = t ∙ u .is; some = u .some }
 
 -- what the sizes of a setup say
 pub record Lent (s : Setup) : Type 0 where
@@ -114,54 +111,46 @@ writes text reply out table len e f = rw (e, f) (answer-is (256 * length text) 0
 module _ (s : Setup) (table : List ℕ) where
   -- 1 to 3
   pub ill-fitting : setupFits s table ≡ false → RefusedBy (setupChecks s table) 1
-  unfolding setupChecks
-  ill-fitting e = record { is = simp e; some = omega arith; most = omega arith }
+  unfolding setupChecks entryPart entryChecks
+  ill-fitting e = record { is = simp e; some = omega arith }
 
   pub ill-ordered : setupFits s table ≡ true → wellOrdered s ≡ false → RefusedBy (setupChecks s table) 2
-  unfolding setupChecks ordersBad
-  ill-ordered e o = record { is = simp (e, o); some = omega arith; most = omega arith }
+  unfolding setupChecks entryPart entryChecks ordersBad
+  ill-ordered e o = record { is = simp (e, o); some = omega arith }
 
   pub ill-formed : setupFits s table ≡ true → wellOrdered s ≡ true → wellFormed (records table) ≡ false → RefusedBy (setupChecks s table) 3
-  unfolding setupChecks ordersBad
-  ill-formed e o w = record { is = simp (e, o, w); some = omega arith; most = omega arith }
+  unfolding setupChecks entryPart entryChecks tableChecks ordersBad
+  ill-formed e o w = record { is = simp (e, o, w); some = omega arith }
 
   -- after them the offer decides, and after it the room
-  module _ (life : ℕ) (o : Opened s table) (ordered : life ≡ lifeOf s) where
-    later : first (setupChecks s table) ≡ first (offerChecks (s .value) (s .clock) life ++ roomChecks table (s .iv) (s .clock))
-    unfolding setupChecks offerChecks untilChecks roomChecks offered expiryOf ordersBad
-    later = simp (ordered, o .sizes, o .orders, o .formed)
+  module _ (o : Opened s table) where
+    later : first (setupChecks s table) ≡ first (offerPart s ++ roomPart s table)
+    unfolding setupChecks entryPart entryChecks tableChecks ordersBad
+    later = simp (o .sizes, o .orders, o .formed)
 
-    by-stages : first (setupChecks s table)
-        ≡ cond (eqb (first (offerChecks (s .value) (s .clock) life)) 0) (first (roomChecks table (s .iv) (s .clock))) (first (offerChecks (s .value) (s .clock) life))
-    unfolding offerChecks untilChecks
-    by-stages = later ∙ first-append (offerChecks (s .value) (s .clock) life) (roomChecks table (s .iv) (s .clock)) refl
-
-    pub offer-refuses : (n : ℕ) → RefusedBy (offerChecks (s .value) (s .clock) life) n → RefusedBy (setupChecks s table) n
+    pub offer-refuses : (n : ℕ) → RefusedBy (offerPart s) n → RefusedBy (setupChecks s table) n
     offer-refuses n r = record {
-      is = by-stages ∙ rw (r .is, ne-eqb n 0 (λ z. omega (arith, r .some)));
+      is = later ∙ stopped-by (offerPart s) (roomPart s table) (offer-numbered s) (λ z. omega (arith, r .some, r .is)) ∙ r .is;
       some = r .some;
-      most = r .most;
     }
 
-    pub room-decides : (expiry : ℕ) (r : Start) → LastsUntil (offerChecks (s .value) (s .clock) life) (s .clock + life) expiry
-        → RoomIs table (s .iv) (s .clock) expiry r → StartIs s table r
-    unfolding expiryOf
+    pub room-decides : (expiry : ℕ) (r : Start) → LastsUntil (offerPart s) (expiryOf s) expiry
+        → Room (roomPart s table) table (s .clock) expiry r → StartIs s table r
     room-decides expiry (S.At place until) l h = record {
-      none = by-stages ∙ rw (l .none) (h .none);
+      none = later ∙ passed-by (offerPart s) (roomPart s table) (offer-numbered s) (l .none) ∙ h .none;
       is = h .is;
       within = h .within;
-      until = h .until ∙ l .is ∙ rw ordered;
+      until = h .until ∙ l .is;
     }
-    room-decides expiry (S.Refused n) l h = record { is = by-stages ∙ rw (l .none) (h .is); some = h .some; most = h .most }
+    room-decides expiry (S.Refused n) l h =
+        record { is = later ∙ passed-by (offerPart s) (roomPart s table) (offer-numbered s) (l .none) ∙ h .is; some = h .some }
 
   -- a setup that nothing refuses passes 1 and 2
-  pub fitting : first (setupChecks s table) ≡ 0 → setupFits s table ≡ true
-  unfolding setupChecks
-  fitting e = not-false (setupFits s table) (first-exactly (setupChecks s table) (setup-numbered s table) .passed e 0 (omega arith))
-
-  pub ordered : first (setupChecks s table) ≡ 0 → wellOrdered s ≡ true
-  unfolding setupChecks ordersBad
-  ordered e = not-false (wellOrdered s) (first-exactly (setupChecks s table) (setup-numbered s table) .passed e 1 (omega arith))
+  pub opened : first (setupChecks s table) ≡ 0 → Opened s table
+  unfolding setupChecks entryPart ordersBad
+  opened e =
+      let entry = entry-passed (setupFits s table) (s .orders) table (none-holds (entryPart s table) (offerPart s ++ roomPart s table) (entry-numbered (setupFits s table) (s .orders) table) e .none) in
+      record { sizes = entry .sizes; orders = not-false (wellOrdered s) (entry .orders); formed = entry .formed }
 
   -- the outcome of each decision
   pub starts : (place expiry : ℕ) → Starts s table place expiry
@@ -171,4 +160,6 @@ module _ (s : Setup) (table : List ℕ) where
 
   pub refuses : (n : ℕ) → RefusedBy (setupChecks s table) n → outcome n (s .reply) table ≡ setUp s table
   unfolding setUp
-  refuses n r = rw (r .is, ne-eqb n 0 (λ z. omega (arith, r .some))) (answer-is n n 0 (s .reply) table (omega arith) (omega (arith, r .most)))
+  refuses n r =
+      rw (r .is, ne-eqb n 0 (λ z. omega (arith, r .some)))
+      (answer-is n n 0 (s .reply) table (omega arith) (rw (r .is) at (first-small (setupChecks s table) (setup-small s table))))

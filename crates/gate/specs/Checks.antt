@@ -8,6 +8,8 @@ use Rattle.armor.specs.Value.{Field}
 use Rattle.orders.specs.Orders.{ordersGood}
 use Rattle.table.specs.declared.place.Place.{Place}
 use Rattle.table.specs.declared.place.Place.the-variants.{At, Nowhere}
+use Rattle.table.specs.Table.{records}
+use Rattle.table.specs.WellFormed.{wellFormed}
 use Rattle.gate.specs.Calls.{Orders}
 
 -- a number, and whether what it is given for holds
@@ -33,3 +35,11 @@ missing (some fs) = false
 abbrev pub nowhere : Place → Bool
 nowhere (At place) = false
 nowhere Nowhere = true
+
+-- 3
+unfoldable pub tableChecks : List ℕ → List Check
+tableChecks table = check 3 (not (wellFormed (records table))) ∷ []
+
+-- 1 to 3: what is lent has the right sizes, good orders and a well-formed table
+unfoldable pub entryChecks : Bool → Orders → List ℕ → List Check
+entryChecks fits orders table = check 1 (not fits) ∷ check 2 (ordersBad orders) ∷ tableChecks table

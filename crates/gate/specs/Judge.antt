@@ -1,7 +1,7 @@
 -- Judging a request: document 01, 'The numbers a call returns', 'Header lines and the signed text' and 'Age, idleness and the window'.
 -- Assumes nothing.
 use mathlib.Core.Bool.{Bool, cond, not, _&&_, _||_}
-use mathlib.Core.List.{List, [], _∷_}
+use mathlib.Core.List.{List, [], _∷_, _++_}
 use mathlib.Core.Option.{Option}
 use Prim.Native.Nat.{ℕ}
 use lib.Dec.{eqb, leb}
@@ -19,17 +19,15 @@ use Rattle.coverage.specs.Coverage.{asOrdered}
 use Rattle.token.specs.Token.{Token, openedToken, given, theToken}
 use Rattle.signed.specs.SignedText.{ordersNonce, requestText}
 use Rattle.reply.specs.Replies.{invalidation}
-use Rattle.table.specs.declared.session.Record.{Record}
 use Rattle.table.specs.Record.{windowOf}
-use Rattle.table.specs.Table.{records}
-use Rattle.table.specs.WellFormed.{wellFormed}
 use Rattle.window.specs.declared.Stepped.{Stepped}
+use Rattle.window.specs.declared.Window.{Window}
 use Rattle.window.specs.Time.{exceeds}
 use Rattle.window.specs.Window.{numberOf, stepOf}
 use Rattle.gate.specs.Calls.{Request}
 use Rattle.gate.specs.Outcome.{Outcome, untouched, replied}
 use Rattle.gate.specs.Sizes.{requestFits}
-use Rattle.gate.specs.Checks.{Check, check, first, ordersBad, missing, nowhere}
+use Rattle.gate.specs.Checks.{Check, check, first, missing, nowhere, entryChecks}
 use Rattle.gate.specs.Session.{placeOf, heldAt, steppedIn, without}
 
 -- what the value carries
@@ -61,10 +59,6 @@ tokenOf q = theToken (openedOf q)
 unfoldable pub limits : Request → Limits
 limits q = limitsOf (q .orders .request-life) (q .orders .idle) (q .orders .session-life)
 
--- the names that the orders cover, and whether one stands twice in a block
-unfoldable pub twice : Request → List ℕ → Bool
-twice q block = repeated (coveredNames (q .orders .mask) (q .orders .extra)) (linesIn block)
-
 unfoldable pub textOf : Request → List ℕ
 textOf q =
     requestText (q .orders .mask) (q .orders .extra) (nonceOf q) (timeOf q) (lastTimeOf q) (q .aside) (q .head) (q .path) (q .body)
@@ -73,57 +67,95 @@ textOf q =
 unfoldable pub codeOf : Request → List ℕ
 codeOf q = hmacSha512 (tokenOf q .key) (textOf q)
 
--- the session's record, and its window after the nonce
-unfoldable pub recordOf : Request → List ℕ → Record
-recordOf q table = heldAt table (placeOf table (ivOf q))
+-- the names that the orders cover, and whether one stands twice in a block
+unfoldable pub twice : Request → List ℕ → Bool
+twice q block = repeated (coveredNames (q .orders .mask) (q .orders .extra)) (linesIn block)
 
+-- whether the orders ask for a nonce
+abbrev pub ordered : Request → Bool
+ordered q = ordersNonce (q .orders .mask)
+
+-- the session's window after the nonce
 unfoldable pub stepped : Request → List ℕ → Stepped
-stepped q table = stepOf (windowOf (recordOf q table)) (nonceOf q)
+stepped q table = stepOf (windowOf (heldAt table (placeOf table (ivOf q)))) (nonceOf q)
 
--- whether the orders ask for a nonce, and the window answers it by this number
-unfoldable pub windowSays : ℕ → Request → List ℕ → Bool
-windowSays n q table = ordersNonce (q .orders .mask) && eqb (numberOf (stepped q table .verdict)) n
+-- whether the window is asked, and answers by this number
+abbrev pub windowSays : ℕ → Request → List ℕ → Bool
+windowSays n q table = ordered q && eqb (numberOf (stepped q table .verdict)) n
+
+-- 1 to 3: what is lent
+unfoldable pub entryPart : Request → List ℕ → List Check
+entryPart q table = entryChecks (requestFits q table) (q .orders) table
+
+-- 6 to 8: what the orders cover
+unfoldable pub coveringPart : Request → List Check
+coveringPart q =
+    check 6 (not (goodBlock (q .head) && goodBlock (q .aside)))
+    ∷ check 7 (twice q (q .head) || twice q (q .aside))
+    ∷ check 8 (not (asOrdered (q .orders .mask) (q .orders .extra) (fieldsOf q)))
+    ∷ []
+
+-- 4 to 8: what the request says
+unfoldable pub readingPart : Request → List Check
+readingPart q =
+    check 4 (missing (grammar (q .value)))
+    ∷ check 5 (not (requestFields (fieldsOf q)))
+    ∷ coveringPart q
+
+-- 9 and 10: the token
+unfoldable pub tokenPart : Request → List Check
+tokenPart q =
+    check 9 (not (given (openedOf q)))
+    ∷ check 10 (leb (tokenOf q .expiry) (q .clock))
+    ∷ []
+
+-- 11: the signature
+unfoldable pub signaturePart : Request → List Check
+signaturePart q = check 11 (not (same (signatureOf q) (codeOf q))) ∷ []
+
+-- 9 to 11: whether token and signature vouch for the request
+abbrev pub vouchingPart : Request → List Check
+vouchingPart q = tokenPart q ++ signaturePart q
+
+-- 12 to 14: the session
+unfoldable pub sessionPart : Request → List ℕ → List Check
+sessionPart q table =
+    check 12 (nowhere (placeOf table (ivOf q)))
+    ∷ check 13 (exceeds (timeOf q) (lastTimeOf q) (limits q .idle))
+    ∷ check 14 (exceeds (q .clock) (timeOf q) (limits q .«request_life»))
+    ∷ []
+
+-- 15 and 16: the nonce
+unfoldable pub noncePart : Request → List ℕ → List Check
+noncePart q table = check 15 (windowSays 15 q table) ∷ check 16 (windowSays 16 q table) ∷ []
+
+-- 12 to 16: whether the session admits the request
+abbrev pub admittingPart : Request → List ℕ → List Check
+admittingPart q table = sessionPart q table ++ noncePart q table
 
 -- 1 to 16
 unfoldable pub requestChecks : Request → List ℕ → List Check
-requestChecks q table =
-    check 1 (not (requestFits q table))
-    ∷ check 2 (ordersBad (q .orders))
-    ∷ check 3 (not (wellFormed (records table)))
-    ∷ check 4 (missing (grammar (q .value)))
-    ∷ check 5 (not (requestFields (fieldsOf q)))
-    ∷ check 6 (not (goodBlock (q .head) && goodBlock (q .aside)))
-    ∷ check 7 (twice q (q .head) || twice q (q .aside))
-    ∷ check 8 (not (asOrdered (q .orders .mask) (q .orders .extra) (fieldsOf q)))
-    ∷ check 9 (not (given (openedOf q)))
-    ∷ check 10 (leb (tokenOf q .expiry) (q .clock))
-    ∷ check 11 (not (same (signatureOf q) (codeOf q)))
-    ∷ check 12 (nowhere (placeOf table (ivOf q)))
-    ∷ check 13 (exceeds (timeOf q) (lastTimeOf q) (limits q .idle))
-    ∷ check 14 (exceeds (q .clock) (timeOf q) (limits q .«request_life»))
-    ∷ check 15 (windowSays 15 q table)
-    ∷ check 16 (windowSays 16 q table)
-    ∷ []
+requestChecks q table = entryPart q table ++ (readingPart q ++ (vouchingPart q ++ admittingPart q table))
 
--- where nonces are ordered, the session's record with the next window
-unfoldable pub tableOf : Request → List ℕ → List ℕ
-tableOf q table = steppedIn table (ivOf q) (ordersNonce (q .orders .mask)) (stepped q table .window)
-
--- the session id
-unfoldable pub accepted : Request → List ℕ → Outcome
-accepted q table = replied 0 (tokenOf q .id) (q .reply) (tableOf q table)
+-- the session id is the reply, and where nonces are ordered the session's record takes the next window
+unfoldable pub accepted : List ℕ → List ℕ → Bool → Window → List ℕ → List ℕ → Outcome
+accepted id iv ordered next reply table = replied 0 id reply (steppedIn table iv ordered next)
 
 -- the session's record is freed if there is one, and the reply tells the client
-unfoldable pub invalidated : ℕ → Request → List ℕ → Outcome
-invalidated n q table = replied n (invalidation (tokenOf q .key)) (q .reply) (without table (ivOf q))
+unfoldable pub invalidated : ℕ → List ℕ → List ℕ → List ℕ → List ℕ → Outcome
+invalidated n key iv reply table = replied n (invalidation key) reply (without table iv)
 
 -- 10 and 13
 abbrev pub invalidates : ℕ → Bool
 invalidates n = eqb n 10 || eqb n 13
 
-abbrev pub requestOutcome : ℕ → Request → List ℕ → Outcome
-requestOutcome n q table =
-    cond (eqb n 0) (accepted q table) (cond (invalidates n) (invalidated n q table) (untouched n (q .reply) table))
+-- what a number does, with the token's id and key, the session's IV and its next window
+unfoldable pub effect : ℕ → List ℕ → List ℕ → List ℕ → Bool → Window → List ℕ → List ℕ → Outcome
+effect n id key iv ordered next reply table =
+    cond (eqb n 0) (accepted id iv ordered next reply table)
+    (cond (invalidates n) (invalidated n key iv reply table)
+    (untouched n reply table))
 
 unfoldable pub judged : Request → List ℕ → Outcome
-judged q table = requestOutcome (first (requestChecks q table)) q table
+judged q table =
+    effect (first (requestChecks q table)) (tokenOf q .id) (tokenOf q .key) (ivOf q) (ordered q) (stepped q table .window) (q .reply) table

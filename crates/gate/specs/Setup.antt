@@ -1,7 +1,7 @@
 -- Setting up a session: document 01, 'The numbers a call returns' and 'The X-S-Armor value'.
 -- Assumes nothing.
 use mathlib.Core.Bool.{cond, not}
-use mathlib.Core.List.{List, [], _∷_}
+use mathlib.Core.List.{List, [], _∷_, _++_}
 use Prim.Native.Nat.{ℕ, _+_}
 use lib.Dec.{eqb, ltb}
 use Rattle.armor.specs.Numerals.{maskOf}
@@ -13,13 +13,12 @@ use Rattle.orders.specs.Orders.{limitsOf}
 use Rattle.reply.specs.Replies.{setupReply}
 use Rattle.table.specs.Record.{begun}
 use Rattle.table.specs.Table.{records, taken}
-use Rattle.table.specs.WellFormed.{wellFormed}
 use Rattle.token.specs.Token.{Token, sealedToken}
 use Rattle.window.specs.Window.{bit}
 use Rattle.gate.specs.Calls.{Setup}
 use Rattle.gate.specs.Outcome.{Outcome, untouched, replied}
 use Rattle.gate.specs.Sizes.{setupFits}
-use Rattle.gate.specs.Checks.{Check, check, first, ordersBad, missing, nowhere}
+use Rattle.gate.specs.Checks.{Check, check, first, missing, nowhere, entryChecks}
 use Rattle.gate.specs.Session.{placeOf, with-record}
 
 -- the mask that the client offers; SHA-512 is bit 2
@@ -30,19 +29,31 @@ offered s = maskOf (the nameR (carried (s .value)))
 unfoldable pub expiryOf : Setup → ℕ
 expiryOf s = s .clock + limitsOf (s .orders .request-life) (s .orders .idle) (s .orders .session-life) .«session_life»
 
--- 1, 2, 3, 4, 5, 19, 20, 17, 18
-unfoldable pub setupChecks : Setup → List ℕ → List Check
-setupChecks s table =
-    check 1 (not (setupFits s table))
-    ∷ check 2 (ordersBad (s .orders))
-    ∷ check 3 (not (wellFormed (records table)))
-    ∷ check 4 (missing (grammar (s .value)))
+-- 1 to 3: what is lent
+unfoldable pub entryPart : Setup → List ℕ → List Check
+entryPart s table = entryChecks (setupFits s table) (s .orders) table
+
+-- 19 and 20: a hash in common, and the session's end
+unfoldable pub lastingPart : Setup → List Check
+lastingPart s = check 19 (not (bit (offered s) 2)) ∷ check 20 (ltb 4294967295 (expiryOf s)) ∷ []
+
+-- 4, 5, 19, 20: what the client offers
+unfoldable pub offerPart : Setup → List Check
+offerPart s =
+    check 4 (missing (grammar (s .value)))
     ∷ check 5 (not (setupFields (carried (s .value))))
-    ∷ check 19 (not (bit (offered s) 2))
-    ∷ check 20 (ltb 4294967295 (expiryOf s))
-    ∷ check 17 (not (nowhere (placeOf table (s .iv))))
+    ∷ lastingPart s
+
+-- 17 and 18: room in the table
+unfoldable pub roomPart : Setup → List ℕ → List Check
+roomPart s table =
+    check 17 (not (nowhere (placeOf table (s .iv))))
     ∷ check 18 (nowhere (taken (records table) (s .clock)))
     ∷ []
+
+-- 1, 2, 3, 4, 5, 19, 20, 17, 18
+unfoldable pub setupChecks : Setup → List ℕ → List Check
+setupChecks s table = entryPart s table ++ (offerPart s ++ roomPart s table)
 
 unfoldable pub tokenOf : Setup → Token
 tokenOf s = record { key = s .session-key; id = s .session-id; expiry = expiryOf s }

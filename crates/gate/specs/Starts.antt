@@ -1,73 +1,58 @@
--- The checks of a setup as the code's stages make them, and what each stage's answer holds.
+-- What the code's stages answer for a setup, by the parts of its checks.
 -- Assumes nothing.
 use mathlib.Core.Path.{_≡_}
-use mathlib.Core.Bool.{not}
-use mathlib.Core.List.{List, [], _∷_}
-use Prim.Native.Nat.{ℕ, _+_, _*_, _<_, _≤_}
-use lib.Dec.{ltb}
+use mathlib.Core.List.{List}
+use Prim.Native.Nat.{ℕ, _*_, _<_, _≤_}
 use Rattle.cells.specs.Runs.{spliced}
-use Rattle.armor.specs.Numerals.{maskOf}
-use Rattle.armor.specs.Keys.{nameR}
-use Rattle.armor.specs.Value.{grammar, carried}
-use Rattle.armor.specs.Fields.{the, setupFields}
 use Rattle.reply.specs.Replies.{setupReply}
 use Rattle.table.specs.declared.place.Place.the-variants.{At as Place-At}
 use Rattle.table.specs.Record.{size, recordBytes, begun}
 use Rattle.table.specs.Table.{places, records, taken}
 use Rattle.token.specs.Token.{sealedToken}
-use Rattle.window.specs.Window.{bit}
 use Rattle.gate.specs.declared.setup.Start.{Start}
 use Rattle.gate.specs.declared.setup.Start.the-variants as S
 use Rattle.gate.specs.declared.setup.Offer.{Offer}
 use Rattle.gate.specs.declared.setup.Offer.the-variants as O
 use Rattle.gate.specs.Calls.{Setup}
 use Rattle.gate.specs.Outcome.{Outcome, replied}
-use Rattle.gate.specs.Checks.{Check, check, first, missing, nowhere}
-use Rattle.gate.specs.Session.{placeOf}
-use Rattle.gate.specs.Setup.{setupChecks, expiryOf}
-
--- 19 and 20
-unfoldable pub untilChecks : ℕ → ℕ → ℕ → List Check
-untilChecks mask clock life = check 19 (not (bit mask 2)) ∷ check 20 (ltb 4294967295 (clock + life)) ∷ []
+use Rattle.gate.specs.Checks.{Check, first}
+use Rattle.gate.specs.Setup.{offered, expiryOf, lastingPart, offerPart, roomPart, setupChecks}
 
 -- a refusal by one of some checks
 pub record RefusedBy (checks : List Check) (number : ℕ) : Type 0 where
   pub is : first checks ≡ number
   pub some : 1 ≤ number
-  pub most : number ≤ 20
 
+-- none of them holds, and the session would last until then
 pub record LastsUntil (checks : List Check) (end expiry : ℕ) : Type 0 where
   pub none : first checks ≡ 0
   pub is : expiry ≡ end
 
-abbrev pub UntilIs : ℕ → ℕ → ℕ → Offer → Type 0
-UntilIs mask clock life (O.Until expiry) = LastsUntil (untilChecks mask clock life) (clock + life) expiry
-UntilIs mask clock life (O.Refused number) = RefusedBy (untilChecks mask clock life) number
+abbrev pub Lasts : List Check → ℕ → Offer → Type 0
+Lasts checks end (O.Until expiry) = LastsUntil checks end expiry
+Lasts checks end (O.Refused number) = RefusedBy checks number
 
--- 4, 5, 19, 20
-unfoldable pub offerChecks : List ℕ → ℕ → ℕ → List Check
-offerChecks value clock life =
-    check 4 (missing (grammar value))
-    ∷ check 5 (not (setupFields (carried value)))
-    ∷ untilChecks (maskOf (the nameR (carried value))) clock life
+-- 19 and 20, of any setup with this mask and this end
+abbrev pub UntilIs : ℕ → ℕ → Offer → Type 0
+UntilIs mask end r = (s : Setup) → offered s ≡ mask → expiryOf s ≡ end → Lasts (lastingPart s) end r
 
-abbrev pub OfferIs : List ℕ → ℕ → ℕ → Offer → Type 0
-OfferIs value clock life (O.Until expiry) = LastsUntil (offerChecks value clock life) (clock + life) expiry
-OfferIs value clock life (O.Refused number) = RefusedBy (offerChecks value clock life) number
+-- 4, 5, 19, 20, of any with this value and this end
+abbrev pub OfferIs : List ℕ → ℕ → Offer → Type 0
+OfferIs value end r = (s : Setup) → s .value ≡ value → expiryOf s ≡ end → Lasts (offerPart s) end r
 
--- 17 and 18
-unfoldable pub roomChecks : List ℕ → List ℕ → ℕ → List Check
-roomChecks table iv clock = check 17 (not (nowhere (placeOf table iv))) ∷ check 18 (nowhere (taken (records table) clock)) ∷ []
-
-pub record HasRoom (table iv : List ℕ) (clock expiry place end : ℕ) : Type 0 where
-  pub none : first (roomChecks table iv clock) ≡ 0
+pub record HasRoom (checks : List Check) (table : List ℕ) (clock expiry place end : ℕ) : Type 0 where
+  pub none : first checks ≡ 0
   pub is : taken (records table) clock ≡ Place-At place
   pub within : place < places table
   pub until : end ≡ expiry
 
+abbrev pub Room : List Check → List ℕ → ℕ → ℕ → Start → Type 0
+Room checks table clock expiry (S.At place until) = HasRoom checks table clock expiry place until
+Room checks table clock expiry (S.Refused number) = RefusedBy checks number
+
+-- 17 and 18, of any with this IV at this time
 abbrev pub RoomIs : List ℕ → List ℕ → ℕ → ℕ → Start → Type 0
-RoomIs table iv clock expiry (S.At place until) = HasRoom table iv clock expiry place until
-RoomIs table iv clock expiry (S.Refused number) = RefusedBy (roomChecks table iv clock) number
+RoomIs table iv clock expiry r = (s : Setup) → s .iv ≡ iv → s .clock ≡ clock → Room (roomPart s table) table clock expiry r
 
 pub record Starts (s : Setup) (table : List ℕ) (place expiry : ℕ) : Type 0 where
   pub none : first (setupChecks s table) ≡ 0

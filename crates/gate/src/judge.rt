@@ -1,13 +1,13 @@
 // Judging a request: a decision that writes nothing, and its effect.
 ghost use mathlib.Core.Path.{_≡_};
 ghost use mathlib.Core.Bool.{true};
-ghost use Prim.Native.Nat.{_≤_};
-ghost use lib.ListN.{length};
+ghost use Prim.Native.Nat.{_≤_, _<_};
+ghost use lib.ListN.{length, take};
 ghost use Rattle.orders.specs.Extra.{goodExtra};
-ghost use Rattle.signed.specs.SignedText.{ordersNonce, requestText};
 ghost use Rattle.gate.specs.Calls.{ordersOf, requestOf};
 ghost use Rattle.gate.specs.Outcome.{outcome};
-ghost use Rattle.gate.specs.Stages.{tells, Decides, Settles, decisionOf, acceptance, invalidating, applied};
+ghost use Rattle.gate.specs.Judge.{accepted, invalidated};
+ghost use Rattle.gate.specs.Stages.{tells, Decides, SettleIs, decisionOf, applied};
 use super::admitting;
 use super::reading;
 use super::records;
@@ -109,7 +109,7 @@ fn settle<'a>(
     table: &[u8],
 ) -> Decision
     requires { ⌜ (goodExtra (now extra) ≡ true) × (length (now «server_key») ≡ 32) × (request .«s_len» ≤ 118) × (length (now head) ≤ 16384) × (length (now aside) ≤ 16384) × (length (now path) ≤ 2048) × (length (now body) ≤ 65536) ⌝ }
-    ensures { λ r. ⌜ Settles (now («server_key» .entry)) clock request (requestText mask (now (extra .entry)) (request .n) (request .t) (request .lt) (now (aside .entry)) (now (head .entry)) (now (path .entry)) (now (body .entry))) limits (ordersNonce mask) (now (table .entry)) r ⌝ }
+    ensures { λ r. ⌜ SettleIs mask (now (extra .entry)) clock (now («server_key» .entry)) request limits (now (head .entry)) (now (aside .entry)) (now (path .entry)) (now (body .entry)) (now (table .entry)) r ⌝ }
 {
     let vouched = vouching::vouch(
         mask,
@@ -160,7 +160,7 @@ fn decided(number: u32, iv: [u8; 12], token: Unsealed, nonce: bool, window: Wind
 
 // The effect of a decision.
 pub fn apply(decision: Decision, table: &mut [u8], reply: &mut [u8]) -> u32
-    requires { ⌜ (decision .number ≤ 16) × (tells (decision .number) ≡ true → (decision .«id_len» ≤ 64) × (1024 ≤ length (now reply))) ⌝ }
+    requires { ⌜ (decision .number < 256) × (tells (decision .number) ≡ true → (decision .«id_len» ≤ 64) × (1024 ≤ length (now reply))) ⌝ }
     ensures { λ r. ⌜ outcome r (now (reply .exit)) (now (table .exit)) ≡ applied decision (now (table .entry)) (now (reply .entry)) ⌝ }
 {
     if decision.number == 0 {
@@ -178,7 +178,7 @@ pub fn apply(decision: Decision, table: &mut [u8], reply: &mut [u8]) -> u32
 // The session id goes to the front of the reply, and where nonces are ordered the record takes the next window.
 fn accept(decision: Decision, table: &mut [u8], reply: &mut [u8]) -> u32
     requires { ⌜ (decision .«id_len» ≤ 64) × (1024 ≤ length (now reply)) ⌝ }
-    ensures { λ r. ⌜ outcome r (now (reply .exit)) (now (table .exit)) ≡ acceptance decision (now (table .entry)) (now (reply .entry)) ⌝ }
+    ensures { λ r. ⌜ outcome r (now (reply .exit)) (now (table .exit)) ≡ accepted (take (decision .«id_len») (decision .id)) (decision .iv) (decision .nonce) (decision .window) (now (reply .entry)) (now (table .entry)) ⌝ }
 {
     let iv = decision.iv;
     let id = decision.id;
@@ -190,8 +190,8 @@ fn accept(decision: Decision, table: &mut [u8], reply: &mut [u8]) -> u32
 
 // The session's record is freed, and the reply tells the client.
 fn invalidate(decision: Decision, table: &mut [u8], reply: &mut [u8]) -> u32
-    requires { ⌜ (decision .number ≤ 16) × (1024 ≤ length (now reply)) ⌝ }
-    ensures { λ r. ⌜ outcome r (now (reply .exit)) (now (table .exit)) ≡ invalidating decision (now (table .entry)) (now (reply .entry)) ⌝ }
+    requires { ⌜ (decision .number < 256) × (1024 ≤ length (now reply)) ⌝ }
+    ensures { λ r. ⌜ outcome r (now (reply .exit)) (now (table .exit)) ≡ invalidated (decision .number) (decision .key) (decision .iv) (now (reply .entry)) (now (table .entry)) ⌝ }
 {
     let iv = decision.iv;
     let key = decision.key;

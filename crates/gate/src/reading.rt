@@ -7,8 +7,7 @@ ghost use Rattle.orders.specs.Extra.{goodExtra};
 ghost use Rattle.armor.specs.Value.{carried};
 ghost use Rattle.armor.specs.Fields.{requestFields};
 ghost use Rattle.armor.specs.Answers.{Holds};
-ghost use Rattle.gate.specs.Checks.{first};
-ghost use Rattle.gate.specs.Stages.{compareChecks, ReadIs};
+ghost use Rattle.gate.specs.Stages.{CoversIs, ReadIs};
 use armor::Answer;
 use armor::Request;
 
@@ -45,18 +44,12 @@ fn compare(
     aside: &[u8],
 ) -> u32
     requires { ⌜ (goodExtra (now extra) ≡ true) × (length (now extra) ≤ 128) × (requestFields (carried (now value)) ≡ true) × Holds (now value) (carried (now value)) request ⌝ }
-    ensures { λ r. ⌜ r ≡ first (compareChecks mask (now (extra .entry)) (now (value .entry)) (now (head .entry)) (now (aside .entry))) ⌝ }
+    ensures { λ r. ⌜ CoversIs mask (now (extra .entry)) (now (value .entry)) (now (head .entry)) (now (aside .entry)) r ⌝ }
 {
-    if !lines::good(head) {
+    if !(lines::good(head) & lines::good(aside)) {
         return 6;
     }
-    if !lines::good(aside) {
-        return 6;
-    }
-    if lines::repeats(mask, extra, head) {
-        return 7;
-    }
-    if lines::repeats(mask, extra, aside) {
+    if lines::repeats(mask, extra, head) | lines::repeats(mask, extra, aside) {
         return 7;
     }
     if !coverage::as_ordered(value, request, mask, extra) {

@@ -1,6 +1,6 @@
 // Setting up a session: a decision that writes nothing, and its effect.
 ghost use mathlib.Core.Path.{_≡_};
-ghost use Prim.Native.Nat.{_<_, _≤_, _^_};
+ghost use Prim.Native.Nat.{_+_, _<_, _≤_, _^_};
 ghost use lib.ListN.{length};
 ghost use Rattle.table.specs.Table.{places};
 ghost use Rattle.gate.specs.Calls.{ordersOf, setupOf};
@@ -61,7 +61,7 @@ enum Offer {
 // What the client offers, and until when the session would last: checks 4, 5, 19 and 20.
 fn offered(value: &[u8], clock: u32, life: u32) -> Offer
     requires { ⌜ length (now value) ≤ 4096 ⌝ }
-    ensures { λ r. ⌜ OfferIs (now (value .entry)) clock life r ⌝ }
+    ensures { λ r. ⌜ OfferIs (now (value .entry)) (clock + life) r ⌝ }
 {
     let read = armor::read_setup(value);
     match read {
@@ -73,7 +73,7 @@ fn offered(value: &[u8], clock: u32, life: u32) -> Offer
 
 // Bit 2 of a client's mask is SHA-512.
 fn until(mask: u64, clock: u32, life: u32) -> Offer
-    ensures { λ r. ⌜ UntilIs mask clock life r ⌝ }
+    ensures { λ r. ⌜ UntilIs mask (clock + life) r ⌝ }
 {
     if (mask >> 2) % 2 != 1 {
         return Offer::Refused(19);

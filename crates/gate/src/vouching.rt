@@ -2,9 +2,8 @@
 ghost use mathlib.Core.Path.{_≡_};
 ghost use mathlib.Core.Bool.{true};
 ghost use Prim.Native.Nat.{_≤_};
-ghost use lib.ListN.{length, take};
+ghost use lib.ListN.{length};
 ghost use Rattle.orders.specs.Extra.{goodExtra};
-ghost use Rattle.signed.specs.SignedText.{requestText};
 ghost use Rattle.gate.specs.Stages.{VouchIs};
 use armor::Request;
 use token::Unsealed;
@@ -29,7 +28,7 @@ pub fn vouch<'a>(
     body: &[u8],
 ) -> Vouched
     requires { ⌜ (goodExtra (now extra) ≡ true) × (length (now «server_key») ≡ 32) × (request .«s_len» ≤ 118) × (length (now head) ≤ 16384) × (length (now aside) ≤ 16384) × (length (now path) ≤ 2048) × (length (now body) ≤ 65536) ⌝ }
-    ensures { λ r. ⌜ VouchIs (now («server_key» .entry)) clock (request .iv) (take (request .«s_len») (request .s)) (request .tag) (request .c) (requestText mask (now (extra .entry)) (request .n) (request .t) (request .lt) (now (aside .entry)) (now (head .entry)) (now (path .entry)) (now (body .entry))) r ⌝ }
+    ensures { λ r. ⌜ VouchIs mask (now (extra .entry)) clock (now («server_key» .entry)) request (now (head .entry)) (now (aside .entry)) (now (path .entry)) (now (body .entry)) r ⌝ }
 {
     let iv = request.iv;
     let s = request.s;

@@ -2,23 +2,24 @@
 use mathlib.Core.Path.{sym, _∙_}
 use borrow.Author.Needs.{needs}
 use borrow.Author.Tests.{not-true, not-false}
+use Rattle.gate.specs.Checks.{tableChecks}
 use Rattle.gate.specs.End.{endChecks, ended}
 use Rattle.gate.proofs.gate_end.Statement.{statement}
 use Rattle.gate.proofs.gate_end.Tie as tie
 
 returns : tie.Need-returns
-unfolding ended endChecks
+unfolding ended endChecks tableChecks
 returns c = simp (← (c .before .end-fits .ensures), not-true (c .before .end-fits .result) (c .if1 .taken))
 
 returns-2 : tie.Need-returns-2
-unfolding ended endChecks
+unfolding ended endChecks tableChecks
 returns-2 c =
     let fits = c .before .before .before .before .end-fits in
     let formed = c .before .well-formed in
     simp (← (fits .ensures), not-false (fits .result) (c .before .before .before .if1 .left), ← (formed .ensures), not-true (formed .result) (c .if2 .taken))
 
 returns-3 : tie.Need-returns-3
-unfolding ended endChecks
+unfolding ended endChecks tableChecks
 returns-3 c =
     let fits = c .before .before .before .before .before .before .before .before .end-fits in
     let formed = c .before .before .before .before .before .well-formed in
@@ -31,7 +32,7 @@ returns-3 c =
     )
 
 returns-4 : tie.Need-returns-4
-unfolding ended endChecks
+unfolding ended endChecks tableChecks
 returns-4 c =
     let fits = c .before .before .before .before .before .before .before .before .before .before .before .before .end-fits in
     let formed = c .before .before .before .before .before .before .before .before .before .well-formed in

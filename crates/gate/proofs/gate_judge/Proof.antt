@@ -2,7 +2,7 @@
 use mathlib.Core.Path.{_∙_}
 use borrow.Author.Needs.{needs}
 use Rattle.gate.specs.Calls.{Request, ordersOf, requestOf}
-use Rattle.gate.proofs.Stages.{applied-judged}
+use Rattle.gate.proofs.Stages.{decided-small, applied-judged}
 use Rattle.gate.proofs.gate_judge.Statement.{statement}
 use Rattle.gate.proofs.gate_judge.Tie as tie
 
@@ -14,7 +14,7 @@ asked c =
 apply-requires : tie.Need-apply-requires
 apply-requires c κs =
     let decided = c .before .before .decide .ensures in
-    (decided .most, λ t. (decided .knows t .id-fits, decided .room t))
+    (decided-small _ _ _ decided, λ t. (decided .knows t .id-fits, decided .room t))
 
 returns : tie.Need-returns
 returns c = c .before .before .before .before .apply .ensures ∙ applied-judged (asked (c .before .before .before .before .before .before .before .before .before .before .before .before .before .before .before .before .before .before .before)) _ _ (c .before .before .before .before .before .before .before .decide .ensures)

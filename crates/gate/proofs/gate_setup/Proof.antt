@@ -5,7 +5,7 @@ use borrow.Author.Needs.{needs}
 use Rattle.orders.proofs.Orders.{good-mask, good-extra, short-extra}
 use Rattle.gate.specs.Calls.{Setup, ordersOf, setupOf}
 use Rattle.gate.specs.Starts.{Starts}
-use Rattle.gate.proofs.Starting.{lent, fitting, ordered, starts, refuses}
+use Rattle.gate.proofs.Starting.{lent, opened, starts, refuses}
 use Rattle.gate.proofs.gate_setup.Statement.{statement}
 use Rattle.gate.proofs.gate_setup.Tie as tie
 
@@ -23,8 +23,9 @@ chosen c = rw (c .before .start .given .1) at (c .before .before .before .decide
 apply-requires : tie.Need-apply-requires
 apply-requires c κs =
     let start = chosen (c .before .before) in
-    let orders = ordered _ _ (start .none) in
-    let sizes = lent _ _ (fitting _ _ (start .none)) in (
+    let passed = opened _ _ (start .none) in
+    let orders = passed .orders in
+    let sizes = lent _ _ (passed .sizes) in (
       good-mask _ _ _ orders,
       short-extra _ (good-extra _ _ _ orders),
       sizes .server-key,

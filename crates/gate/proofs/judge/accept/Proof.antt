@@ -3,7 +3,7 @@ use mathlib.Core.Path.{_≡_, _∙_}
 use native.Mathlib.Omega.{arith}
 use borrow.Author.Needs.{needs}
 use lib.ListN.{length, take, length-take}
-use Rattle.gate.specs.Stages.{acceptance}
+use Rattle.gate.specs.Judge.{accepted}
 use Rattle.gate.proofs.Numbers.{answer-is}
 use Rattle.gate.proofs.judge.accept.Statement.{statement}
 use Rattle.gate.proofs.judge.accept.Tie as tie
@@ -25,7 +25,7 @@ put-front-requires c κs =
     omega (arith, c .before .before .before .before .before .before .before .before .before .before .before .pre, length-take (d .«id_len») (d .id))
 
 returns : tie.Need-returns
-unfolding acceptance
+unfolding accepted
 returns c =
     let d = c .before .before .before .before .before .before .before .before .before .before .before .before .before .before .args .decision in
     let n : length (d .id) ≡ 64 = search needs in

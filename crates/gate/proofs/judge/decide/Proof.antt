@@ -1,20 +1,18 @@
 -- `judge::decide` meets its contract, one stage after the other.
 use mathlib.Core.Path.{_≡_, refl, sym, ap, _∙_}
-use mathlib.Core.Bool.{true, not, cond}
-use Prim.Native.Nat.{ℕ}
-use native.Mathlib.Omega.{arith}
+use mathlib.Core.Bool.{true, not}
+use mathlib.Core.List.{[]}
 use borrow.Author.Needs.{needs}
-use borrow.Author.Tests.{not-true, not-false, ne-eqb}
-use lib.Dec.{eqb}
-use lib.ListN.{drop}
+use borrow.Author.Tests.{not-true, not-false}
 use Rattle.orders.specs.Extra.{goodExtra}
 use Rattle.orders.specs.Orders.{ordersGood, limitsOf}
 use Rattle.orders.proofs.Orders.{checked-good, checked-bad, good-extra, short-extra}
 use Rattle.gate.specs.Calls.{Request, ordersOf, requestOf}
 use Rattle.gate.specs.Sizes.{requestFits}
-use Rattle.gate.specs.Checks.{first, ordersBad}
-use Rattle.gate.specs.Judge.{fieldsOf, limits, requestChecks}
-use Rattle.gate.proofs.Stages.{sized, Entered, refused-as, tells-none, after-entry, decided-by}
+use Rattle.gate.specs.Checks.{ordersBad, tableChecks, entryChecks}
+use Rattle.gate.specs.Judge.{entryPart, requestChecks}
+use Rattle.gate.proofs.Numbers.{Entered}
+use Rattle.gate.proofs.Stages.{sized, refused-as, unread, decided-by}
 use Rattle.gate.proofs.judge.decide.Statement.{statement}
 use Rattle.gate.proofs.judge.decide.Tie as tie
 
@@ -24,18 +22,18 @@ asked c =
     (c .args .value .now) (c .args .head .now) (c .args .aside .now) (c .args .path .now) (c .args .body .now) (c .args .reply .now)
 
 returns : tie.Need-returns
-unfolding requestChecks
+unfolding requestChecks entryPart entryChecks
 returns c =
     let fits = c .before .before .request-fits in
-    refused-as (asked (c .before .before .before .before .before .before .before .before .before .before .before .before)) _ _ 1 (c .refused .ensures .0) refl (omega arith)
+    refused-as (asked (c .before .before .before .before .before .before .before .before .before .before .before .before)) _ _ 1 (c .refused .ensures .0) refl
     (simp (← (fits .ensures (asked (c .before .before .before .before .before .before .before .before .before .before .before .before) .orders) (asked (c .before .before .before .before .before .before .before .before .before .before .before .before) .clock)), not-true (fits .result) (c .before .if1 .taken)))
 
 returns-2 : tie.Need-returns-2
-unfolding requestChecks ordersBad
+unfolding requestChecks entryPart entryChecks ordersBad
 returns-2 c =
     let fits = c .before .before .before .before .before .request-fits in
     let bad = checked-bad _ _ _ _ _ (sym (c .before .before .before .check .ensures) ∙ c .before .enum-told .given .1) in
-    refused-as (asked (c .before .before .before .before .before .before .before .before .before .before .before .before .before .before .before)) _ _ 2 (c .refused2 .ensures .0) refl (omega arith)
+    refused-as (asked (c .before .before .before .before .before .before .before .before .before .before .before .before .before .before .before)) _ _ 2 (c .refused2 .ensures .0) refl
     (simp (← (fits .ensures (asked (c .before .before .before .before .before .before .before .before .before .before .before .before .before .before .before) .orders) (asked (c .before .before .before .before .before .before .before .before .before .before .before .before .before .before .before) .clock)), not-false (fits .result) (c .before .before .before .before .if1 .left), bad))
 
 fitting : (c : tie.After-known-told) → requestFits (asked (c .before .before .before .before .before .before .before .before .before .before .before .before .before .before .before)) (c .before .before .before .before .before .before .before .before .before .before .before .before .before .before .before .args .table .now) ≡ true
@@ -50,17 +48,20 @@ ordered : (c : tie.After-known-told)
 ordered c = checked-good _ _ _ _ _ _ (sym (c .before .before .before .check .ensures) ∙ c .before .limits .given .1)
 
 returns-3 : tie.Need-returns-3
-unfolding requestChecks ordersBad
+unfolding requestChecks entryPart entryChecks tableChecks ordersBad
 returns-3 c =
     let formed = c .before .before .well-formed in
-    refused-as (asked (c .before .before .before .before .before .before .before .before .before .before .before .before .before .before .before .before .before .before)) _ _ 3 (c .refused3 .ensures .0) refl (omega arith)
+    refused-as (asked (c .before .before .before .before .before .before .before .before .before .before .before .before .before .before .before .before .before .before)) _ _ 3 (c .refused3 .ensures .0) refl
     (simp (fitting (c .before .before .before), ordered (c .before .before .before) .0, ← (formed .ensures), not-true (formed .result) (c .before .if2 .taken)))
 
-entered : (c : tie.Else2) → Entered (asked (c .before .before .before .before .before .before .before .before .before .before .before .before .before .before .before .before .before)) (c .before .before .before .before .before .before .before .before .before .before .before .before .before .before .before .before .before .args .table .now)
+abbrev entry : tie.Else2 → tie.Start
+entry c = c .before .before .before .before .before .before .before .before .before .before .before .before .before .before .before .before .before
+
+entered : (c : tie.Else2) → Entered (requestFits (asked (entry c)) (entry c .args .table .now)) (asked (entry c) .orders) (entry c .args .table .now)
 unfolding ordersBad
 entered c = record {
-  fits = fitting (c .before .before);
-  good = ap not (ordered (c .before .before) .0);
+  sizes = fitting (c .before .before);
+  orders = ap not (ordered (c .before .before) .0);
   formed = sym (c .before .well-formed .ensures) ∙ not-false (c .before .well-formed .result) (c .if2 .left);
 }
 
@@ -69,31 +70,27 @@ extra-good c = good-extra _ _ _ (ordered (c .before .before) .0)
 
 read-requires : tie.Need-read-requires
 read-requires c κs =
-    (extra-good c, short-extra _ (extra-good c), sized (asked (c .before .before .before .before .before .before .before .before .before .before .before .before .before .before .before .before .before)) _ (entered c .fits) .value)
+    (extra-good c, short-extra _ (extra-good c), sized (asked (c .before .before .before .before .before .before .before .before .before .before .before .before .before .before .before .before .before)) _ (entered c .sizes) .value)
 
 returns-4 : tie.Need-returns-4
 returns-4 c =
     let read = c .before .before .before .read in
-    let n = read .result .number in
-    let refusal = ne-eqb n 0 (c .before .if3 .taken) in
-    refused-as (asked (c .before .before .before .before .before .before .before .before .before .before .before .before .before .before .before .before .before .before .before .before .before)) _ _ n (c .refused4 .ensures .0) (tells-none n (c .before .if3 .taken) (read .ensures .most)) (omega (arith, read .ensures .most))
-    (after-entry _ _ (entered (c .before .before .before .before))
-    ∙ ap (λ (m : ℕ). cond (eqb m 0) (first (drop 8 (requestChecks (asked (c .before .before .before .before .before .before .before .before .before .before .before .before .before .before .before .before .before .before .before .before .before)) (c .before .before .before .before .before .before .before .before .before .before .before .before .before .before .before .before .before .before .before .before .before .args .table .now)))) m) (sym (read .ensures .is))
-    ∙ simp refusal)
+    unread (asked (c .before .before .before .before .before .before .before .before .before .before .before .before .before .before .before .before .before .before .before .before .before)) _ _ (read .result .number)
+    (entered (c .before .before .before .before)) (c .refused4 .ensures .0) (read .ensures _ _ _ _ _ _ _ _ .is) (c .before .if3 .taken)
 
 settle-requires : tie.Need-settle-requires
 settle-requires c κs =
-    let size = sized (asked (c .before .before .before .before .before .before .before .before .before .before .before .before .before .before .before .before .before .before .before .before)) _ (entered (c .before .before .before) .fits) in
-    let held = c .before .before .read .ensures .holds (c .if3 .left) in
+    let size = sized (asked (c .before .before .before .before .before .before .before .before .before .before .before .before .before .before .before .before .before .before .before .before)) _ (entered (c .before .before .before) .sizes) in
+    let held = c .before .before .read .ensures 0 0 0 0 [] [] [] [] .holds (c .if3 .left) in
     (extra-good (c .before .before .before), size .key, held .token-fits, size .head, size .aside, size .path, size .body)
 
 returns-5 : tie.Need-returns-5
-unfolding limits fieldsOf
 returns-5 c =
     let q = asked (c .before .before .before .before .before .before .before .before .before .before .before .before .before .before .before .before .before .before .before .before .before) in
-    let read = c .before .before .before .read in
-    decided-by q _ (read .result .request) _ (entered (c .before .before .before .before)) (sym (read .ensures .is) ∙ c .before .if3 .left) (sized q _ (entered (c .before .before .before .before) .fits) .reply)
-    (read .ensures .holds (c .before .if3 .left)) (rw (ordered (c .before .before .before .before .before .before) .1) at (c .settle .ensures))
+    let read = c .before .before .before .read .ensures (q .orders .request-life) (q .orders .idle) (q .orders .session-life) (q .clock) (q .server-key) (q .path) (q .body) (q .reply) in
+    let size = sized q _ (entered (c .before .before .before .before) .sizes) in
+    decided-by q _ _ (entered (c .before .before .before .before)) (sym (read .is) ∙ c .before .if3 .left) (size .reply)
+    (c .settle .ensures _ _ _ _ _ (read .holds (c .before .if3 .left)) (ordered (c .before .before .before .before .before .before) .1))
 
 pub decide-spec : {M : Type 1} → statement M
 decide-spec =

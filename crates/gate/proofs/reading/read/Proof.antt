@@ -4,34 +4,30 @@ use mathlib.Core.Bool.{true, false}
 use Prim.Native.Nat.{ℕ, _≤_}
 use native.Mathlib.Omega.{arith}
 use borrow.Author.Needs.{needs}
-use Rattle.gate.specs.Stages.{readChecks}
-use Rattle.gate.proofs.Stages.{grammar-broken, fields-told, read-most}
+use Rattle.gate.specs.Judge.{fieldsOf, readingPart}
+use Rattle.gate.proofs.Stages.{grammar-broken, fields-told}
 use Rattle.gate.proofs.reading.read.Statement.{statement}
 use Rattle.gate.proofs.reading.read.Tie as tie
 
-at-most : (n m : ℕ) → n ≡ m → m ≤ 8 → n ≤ 8
-at-most n m e h = omega arith
-
 returns : tie.Need-returns
-unfolding readChecks
-returns c =
+unfolding readingPart fieldsOf
+returns c _ _ _ _ _ _ _ _ =
     let broken = grammar-broken _ (sym (c .before .before .before .read-request .ensures .is) ∙ c .enum-told .given .1) in
-    record { is = simp broken; most = omega arith; holds = λ z. absurd (omega arith) }
+    record { is = simp broken; holds = λ z. absurd (omega arith) }
 
 returns-2 : tie.Need-returns-2
-unfolding readChecks
-returns-2 c =
+unfolding readingPart fieldsOf
+returns-2 c _ _ _ _ _ _ _ _ =
     let wrong = fields-told _ false (sym (c .before .before .before .read-request .ensures .is) ∙ c .enum-told2 .given .1) in
-    record { is = simp (wrong .grammar, wrong .fields); most = omega arith; holds = λ z. absurd (omega arith) }
+    record { is = simp (wrong .grammar, wrong .fields); holds = λ z. absurd (omega arith) }
 
 returns-3 : tie.Need-returns-3
-unfolding readChecks
-returns-3 c =
+unfolding readingPart fieldsOf
+returns-3 c life idle session clock server-key path body reply =
     let told = c .before .before .before .before .read-request .ensures in
     let right = fields-told _ true (sym (told .is) ∙ c .before .enum-told3 .given .1) in
     record {
-      is = c .compare .ensures ∙ sym (simp (right .grammar, right .fields));
-      most = at-most _ _ (c .compare .ensures) (read-most _ _ _ _ _);
+      is = c .compare .ensures life idle session clock server-key path body reply ∙ sym (simp (right .grammar, right .fields));
       holds = λ z. told .holds (c .before .enum-told3 .given .1);
     }
 

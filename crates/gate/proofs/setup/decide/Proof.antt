@@ -1,12 +1,14 @@
 -- `setup::decide` meets its contract: each early return by its check, and the last two by the stages' answers.
 -- Assumes nothing.
-use mathlib.Core.Path.{_≡_, sym, ap, _∙_}
+use mathlib.Core.Path.{_≡_, refl, sym, ap, _∙_}
 use mathlib.Core.Bool.{true}
+use Prim.Native.Nat.{ℕ, _+_}
 use borrow.Author.Needs.{needs}
 use borrow.Author.Tests.{not-true, not-false}
 use Rattle.orders.specs.declared.Limits.{Limits}
 use Rattle.orders.proofs.Orders.{checked-good, checked-bad}
 use Rattle.gate.specs.Calls.{Setup, ordersOf, setupOf}
+use Rattle.gate.specs.Setup.{expiryOf}
 use Rattle.gate.specs.Sizes.{setupFits}
 use Rattle.gate.proofs.Starting.{wellOrdered, lifeOf, Opened, lent, ill-fitting, ill-ordered, ill-formed, offer-refuses, room-decides}
 use Rattle.gate.proofs.setup.decide.Statement.{statement}
@@ -32,6 +34,11 @@ good c =
     let checked = checked-good _ _ _ _ _ _ (sym (c .before .before .before .check .ensures) ∙ c .before .limits .given .1) in
     (checked .0, ap (λ (l : Limits). l .«session_life») (checked .1))
 
+-- the session would last from now on for the session life
+ends : (c : tie.After-known-told) → expiryOf (asked (entry (sized c))) ≡ entry (sized c) .args .clock + c .before .limits .given .0 .0 .«session_life»
+unfolding expiryOf
+ends c = ap (λ (life : ℕ). entry (sized c) .args .clock + life) (sym (good c .1))
+
 opened : (c : tie.Else2) → Opened (asked (entry (sized (c .before .before)))) (entry (sized (c .before .before)) .args .table .now)
 opened c = record {
   sizes = fits (sized (c .before .before));
@@ -56,15 +63,15 @@ offered-requires c κs = lent _ _ (opened c .sizes) .value
 returns-4 : tie.Need-returns-4
 returns-4 c =
     let passed = c .before .before .before .before in
-    offer-refuses _ _ _ (opened passed) (good (passed .before .before) .1) _
-    (rw (c .before .number .given .1) at (c .before .before .before .offered .ensures))
+    offer-refuses _ _ (opened passed) _
+    (rw (c .before .number .given .1) at (c .before .before .before .offered .ensures _ refl (ends (passed .before .before))))
 
 returns-5 : tie.Need-returns-5
 returns-5 c =
     let passed = c .before .before .before .before .before in
-    room-decides _ _ _ (opened passed) (good (passed .before .before) .1) _ (c .room .result)
-    (rw (c .before .before .expiry .given .1) at (c .before .before .before .before .offered .ensures))
-    (c .room .ensures)
+    room-decides _ _ (opened passed) _ (c .room .result)
+    (rw (c .before .before .expiry .given .1, ← ends (passed .before .before)) at (c .before .before .before .before .offered .ensures _ refl (ends (passed .before .before))))
+    (c .room .ensures _ refl refl)
 
 pub decide-spec : {M : Type 1} → statement M
 decide-spec =

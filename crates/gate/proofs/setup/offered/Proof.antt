@@ -3,35 +3,22 @@
 use mathlib.Core.Path.{sym, _∙_}
 use borrow.Author.Needs.{needs}
 use Rattle.armor.specs.declared.SetupRead.{SetupRead}
-use Rattle.gate.proofs.Starting.{tells, offer-until}
+use Rattle.gate.proofs.Starting.{tells, offer-lasts}
 use Rattle.gate.proofs.setup.offered.Statement.{statement}
 use Rattle.gate.proofs.setup.offered.Tie as tie
 
 returns : tie.Need-returns
-returns c =
-    let a = c .before .before .before .before .args in
-    record {
-      is = tells (a .value .now) (a .clock) (a .life) SetupRead.Grammar (sym (c .enum-told .given .1) ∙ c .before .before .read-setup .ensures);
-      some = search needs;
-      most = search needs;
-    }
+returns c s v e =
+    record { is = tells s _ SetupRead.Grammar v (sym (c .enum-told .given .1) ∙ c .before .before .read-setup .ensures); some = search needs }
 
 returns-2 : tie.Need-returns-2
-returns-2 c =
-    let a = c .before .before .before .before .args in
-    record {
-      is = tells (a .value .now) (a .clock) (a .life) SetupRead.Fields (sym (c .enum-told2 .given .1) ∙ c .before .before .read-setup .ensures);
-      some = search needs;
-      most = search needs;
-    }
+returns-2 c s v e =
+    record { is = tells s _ SetupRead.Fields v (sym (c .enum-told2 .given .1) ∙ c .before .before .read-setup .ensures); some = search needs }
 
 returns-3 : tie.Need-returns-3
-returns-3 c =
-    let a = c .before .before .before .before .before .before .args in
-    let mask = c .before .before .read .given .0 .0 in
-    offer-until (a .value .now) (a .clock) (a .life) mask (c .until .result)
-    (tells (a .value .now) (a .clock) (a .life) (SetupRead.Mask mask) (sym (c .before .before .read .given .1) ∙ c .before .before .before .before .read-setup .ensures))
-    (c .until .ensures)
+returns-3 c s v e =
+    let told = tells s _ (SetupRead.Mask (c .before .before .read .given .0 .0)) v (sym (c .before .before .read .given .1) ∙ c .before .before .before .before .read-setup .ensures) in
+    offer-lasts s _ (c .until .result) (told .0) (c .until .ensures s (told .1) e)
 
 pub offered-spec : {M : Type 1} → statement M
 offered-spec =
