@@ -2,9 +2,9 @@
 -- coverage, nonce, both times, every covered header value, path and body; an absent header counts as an empty one. If they also carry the same
 -- signature, token, IV and tag, and meet the same server key, orders, clock and table, they get the same verdict, reply and table after.'
 -- Assumes nothing.
-use mathlib.Core.Path.{_≡_, sym, ap, subst, _∙_}
-use mathlib.Core.List.{List, List·Memᴰ}
-use Prim.Native.Nat.{ℕ, zero, suc, _+_, _%_, _<_}
+use mathlib.Core.Path.{_≡_, sym, ap, _∙_}
+use mathlib.Core.List.{List, [], _++_, append-nil, List·Memᴰ}
+use Prim.Native.Nat.{ℕ, zero, suc, _%_, _<_}
 use native.Mathlib.Omega.{arith}
 use borrow.Author.Tests.{eq-eqb}
 use Rattle.cells.specs.Numbers.{number}
@@ -17,14 +17,14 @@ use Rattle.lines.specs.Values.{coveredValue}
 use Rattle.signed.specs.SignedText.{signedText}
 use Rattle.signed.proofs.SameText as Text
 use Rattle.gate.specs.Calls.{Request}
-use Rattle.gate.specs.Judge.{fieldsOf, ivOf, nonceOf, timeOf, lastTimeOf, signatureOf, openedOf, tokenOf, textOf, requestChecks, judged}
-use Rattle.gate.proofs.Numbers.{first-drop}
-use Rattle.demands.proofs.Checks.{Beyond, beyond-less, request-passed, request-late}
-use Rattle.demands.proofs.Answers.{judged-number}
+use Rattle.gate.specs.Judge.{fieldsOf, ivOf, nonceOf, timeOf, lastTimeOf, signatureOf, openedOf, tokenOf, textOf, entryPart, readingPart, tokenPart, judged}
+use Rattle.gate.proofs.Numbers.{none-holds, entry-numbered, reading-numbered}
+use Rattle.demands.specs.Passing.{Reaches}
+use Rattle.demands.proofs.Checks.{opens}
 use Rattle.demands.proofs.Passed.{Passed, all-passed}
 use Rattle.demands.proofs.Carried.{named, hash-ordered, mask-ordered, names-ordered, names-times, mask-fits, nonce-ordered, time-small, last-time-small, nonce-small}
 use Rattle.demands.proofs.SignedText.{carries, carriesTimes, signedBy, text-carried, time-carried, last-time-carried, nonce-carried}
-use Rattle.demands.proofs.Reading.{Reaches, Alike, ReadAlike, judged-alike, judged-same}
+use Rattle.demands.proofs.Reading.{Alike, ReadAlike, judged-alike, judged-same}
 
 -- the value of a header in the set-aside lines, or else in the head; an absent one is empty
 abbrev pub headerOf : Request → List ℕ → List ℕ
@@ -56,17 +56,12 @@ pub record MeetAlike (p q : Request) : Type 0 where
   pub orders : p .orders ≡ q .orders
   pub clock : p .clock ≡ q .clock
 
--- to reach the signature check is to get a number that is none of 1 to 10
-pub reaches : (q : Request) (table : List ℕ) → Beyond 10 (judged q table .number) → Reaches q table
-reaches q table b j l =
-    request-passed q table j (omega arith) (beyond-less (1 + j) 10 _ (omega arith) (subst (Beyond 10) (judged-number q table) b))
-
-pub reached : (q : Request) (table : List ℕ) → Reaches q table → Beyond 10 (judged q table .number)
-reached q table r =
-    subst (Beyond 10) (sym (judged-number q table ∙ first-drop 10 (requestChecks q table) r)) (request-late q table)
-
 reaching : (q : Request) (table : List ℕ) → Reaches q table → Passed q table
-reaching q table r = all-passed q table (λ j l. r j (omega arith))
+unfolding entryPart
+reaching q table r =
+    let read = none-holds (entryPart q table) (readingPart q ++ tokenPart q) (entry-numbered _ _ _) r in
+    let opened = none-holds (readingPart q) (tokenPart q) (reading-numbered q) (read .later) in
+    all-passed q table (read .none) (opened .none) (opens q [] 0 (rw append-nil (opened .later)) (λ z. omega arith))
 
 -- its signed text is document 01's, of the bytes that it carries
 pub signed-text : (q : Request) (table : List ℕ) → Reaches q table → textOf q ≡ signedText (signedBy q)

@@ -12,15 +12,13 @@ use Rattle.table.specs.declared.session.Record.{Record}
 use Rattle.table.specs.declared.place.Place.the-variants.{At}
 use Rattle.table.specs.Record.{size, recordBytes, begun, windowOf, withWindow}
 use Rattle.table.specs.Table.{records, recordAt, taken}
-use Rattle.signed.specs.SignedText.{ordersNonce}
 use Rattle.gate.specs.Calls.{Setup, Request}
 use Rattle.gate.specs.Outcome.{Outcome, untouched}
 use Rattle.gate.specs.Checks.{first}
 use Rattle.gate.specs.Session.{placeOf, without, steppedIn}
 use Rattle.gate.specs.Setup
 use Rattle.gate.specs.Setup.{expiryOf, setupChecks, setUp}
-use Rattle.gate.specs.Judge
-use Rattle.gate.specs.Judge.{ivOf, nonceOf, recordOf, stepped, requestChecks, accepted, invalidated, invalidates, judged}
+use Rattle.gate.specs.Judge.{ivOf, nonceOf, tokenOf, ordered, stepped, requestChecks, accepted, invalidated, invalidates, effect, judged}
 use Rattle.gate.specs.End.{endChecks, ended}
 
 -- the number and the table of the outcome that a number picks
@@ -61,36 +59,40 @@ module _ (iv table : List ℕ) where
 abbrev pub next : ℕ → Record → Record
 next nonce r = withWindow r (stepOf (windowOf r) nonce .window)
 
+-- the table with the session's next window, where nonces are ordered
+abbrev pub steppedFor : Request → List ℕ → List ℕ
+steppedFor q table = steppedIn table (ivOf q) (ordered q) (stepped q table .window)
+
 module _ (q : Request) (table : List ℕ) where
-  refused-number : (n : ℕ) (t : Bool) → cond t (invalidated n q table) (untouched n (q .reply) table) .number ≡ n
+  refused-number : (n : ℕ) (t : Bool) → cond t (invalidated n (tokenOf q .key) (ivOf q) (q .reply) table) (untouched n (q .reply) table) .number ≡ n
   unfolding invalidated
   refused-number n true = refl
   refused-number n false = refl
 
   pub judged-number : judged q table .number ≡ first (requestChecks q table)
-  unfolding judged accepted
+  unfolding judged effect accepted
   judged-number =
       let n = first (requestChecks q table) in
-      number-by n (accepted q table) _ refl (refused-number n (invalidates n)) (eqb n 0) refl
+      number-by n _ _ refl (refused-number n (invalidates n)) (eqb n 0) refl
 
   pub judged-table : judged q table .table
-      ≡ cond (eqb (first (requestChecks q table)) 0) (Judge.tableOf q table)
+      ≡ cond (eqb (first (requestChecks q table)) 0) (steppedFor q table)
       (cond (invalidates (first (requestChecks q table))) (without table (ivOf q)) table)
-  unfolding judged accepted invalidated
+  unfolding judged effect accepted invalidated
   judged-table =
       let n = first (requestChecks q table) in
-      table-by (eqb n 0) (accepted q table) _ ∙ ap (cond (eqb n 0) (Judge.tableOf q table)) (table-by (invalidates n) (invalidated n q table) _)
+      table-by (eqb n 0) _ _ ∙ ap (cond (eqb n 0) (steppedFor q table)) (table-by (invalidates n) _ _)
 
   -- with the place of the session
   pub found-step : (place : ℕ) → placeOf table (ivOf q) ≡ At place → stepped q table ≡ stepOf (windowOf (recordAt table place)) (nonceOf q)
-  unfolding stepped recordOf
+  unfolding stepped
   found-step place e = rw e
 
-  pub ordered-table : (place : ℕ) → placeOf table (ivOf q) ≡ At place → ordersNonce (q .orders .mask) ≡ true
-      → Judge.tableOf q table ≡ spliced table (size * place) (recordBytes (next (nonceOf q) (recordAt table place)))
-  unfolding Judge.tableOf steppedIn
+  pub ordered-table : (place : ℕ) → placeOf table (ivOf q) ≡ At place → ordered q ≡ true
+      → steppedFor q table ≡ spliced table (size * place) (recordBytes (next (nonceOf q) (recordAt table place)))
+  unfolding steppedIn
   ordered-table place e o = rw (o, found-step place e, e)
 
-  pub unordered-table : ordersNonce (q .orders .mask) ≡ false → Judge.tableOf q table ≡ table
-  unfolding Judge.tableOf steppedIn
+  pub unordered-table : ordered q ≡ false → steppedFor q table ≡ table
+  unfolding steppedIn
   unordered-table o = rw o

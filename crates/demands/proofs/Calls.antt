@@ -21,13 +21,11 @@ use Rattle.gate.specs.Checks.{first}
 use Rattle.gate.specs.Session.{without}
 use Rattle.gate.specs.Setup
 use Rattle.gate.specs.Setup.{expiryOf, setupChecks, setUp}
-use Rattle.gate.specs.Judge
 use Rattle.gate.specs.Judge.{ivOf, nonceOf, stepped, requestChecks, invalidates, judged}
 use Rattle.gate.specs.End.{endChecks, ended}
-use Rattle.gate.proofs.Numbers.{first-exactly, setup-numbered}
 use Rattle.demands.specs.History.{Call, setting-up, judging, ending, answer, withAccepted, withSetUp}
 use Rattle.demands.proofs.Checks.{accepted-passes}
-use Rattle.demands.proofs.Answers.{setUp-number, setUp-table, begun-table, ended-table, next, judged-number, judged-table, found-step, ordered-table, unordered-table}
+use Rattle.demands.proofs.Answers.{steppedFor, setUp-number, setUp-table, begun-table, ended-table, next, judged-number, judged-table, found-step, ordered-table, unordered-table}
 use Rattle.demands.proofs.Passed.{Takes, setup-takes}
 use Rattle.demands.proofs.Others.{accepts-zero, Finds, passes-finds, passes-window}
 use Rattle.demands.proofs.Sessions.{begun-sessions, stepped-sessions}
@@ -47,7 +45,7 @@ module _ (n : ℕ) (table : List ℕ) (ivs : List (List ℕ)) (nonces : List ℕ
     where
       by : (t : Bool) → eqb (first (setupChecks s table)) 0 ≡ t
           → Standing n (cond t (Setup.tableOf s table) table) (cond t (s .iv ∷ ivs) ivs) nonces
-      by true e = setup-done s (setup-takes s table (first-exactly (setupChecks s table) (setup-numbered s table) .passed (eqb-true _ 0 e)))
+      by true e = setup-done s (setup-takes s table (eqb-true _ 0 e))
       by false e = st
 
   end-standing : (iv : List ℕ) → Standing n (ended iv table .table) ivs nonces
@@ -69,7 +67,7 @@ module _ (n : ℕ) (table : List ℕ) (ivs : List (List ℕ)) (nonces : List ℕ
     held-step f = found-step q table (f .place) (f .finds) ∙ ap (λ (r : Record). stepOf (windowOf r) (nonceOf q)) (held-record f)
 
     request-done : (o : Bool) → ordersNonce (q .orders .mask) ≡ o → first (requestChecks q table) ≡ 0
-        → Standing n (Judge.tableOf q table) ivs (λ iv. keep (o && same (ivOf q) iv) (nonceOf q) (nonces iv))
+        → Standing n (steppedFor q table) ivs (λ iv. keep (o && same (ivOf q) iv) (nonceOf q) (nonces iv))
     request-done true o e =
         let passes = accepted-passes q table e in
         let f = passes-finds q table passes in
@@ -91,7 +89,7 @@ module _ (n : ℕ) (table : List ℕ) (ivs : List (List ℕ)) (nonces : List ℕ
       refused false = st
 
       by : (t : Bool) → eqb (first (requestChecks q table)) 0 ≡ t
-          → Standing n (cond t (Judge.tableOf q table) (cond (invalidates (first (requestChecks q table))) (without table (ivOf q)) table)) ivs
+          → Standing n (cond t (steppedFor q table) (cond (invalidates (first (requestChecks q table))) (without table (ivOf q)) table)) ivs
           (λ iv. keep (t && (ordersNonce (q .orders .mask) && same (ivOf q) iv)) (nonceOf q) (nonces iv))
       by true e = request-done q (ordersNonce (q .orders .mask)) refl (eqb-true _ 0 e)
       by false e = refused (invalidates (first (requestChecks q table)))

@@ -24,10 +24,13 @@ use Rattle.table.specs.WellFormed.{wellFormed}
 use Rattle.table.proofs.Meaning.{is-wellFormed}
 use Rattle.signed.specs.SignedText.{ordersNonce}
 use Rattle.gate.specs.Calls.{Request}
-use Rattle.gate.specs.Setup.{setupChecks}
-use Rattle.gate.specs.Judge.{ivOf, nonceOf, requestChecks, judged}
+use Rattle.gate.specs.Checks.{tableChecks, entryChecks}
+use Rattle.gate.specs.Setup as S
+use Rattle.gate.specs.Setup.{offerPart, lastingPart, roomPart, setupChecks}
+use Rattle.gate.specs.Judge.{ivOf, nonceOf, entryPart, readingPart, coveringPart, tokenPart, signaturePart, sessionPart, noncePart, requestChecks, judged}
 use Rattle.gate.specs.End.{endChecks}
-use Rattle.demands.specs.History.{Call, setting-up, judging, ending, answer, emptyTable, after, acceptedIn, setUpIn, lentIn, Apart, PassesOthers}
+use Rattle.demands.specs.History.{Call, setting-up, judging, ending, answer, emptyTable, after, acceptedIn, setUpIn, lentIn, Apart}
+use Rattle.demands.specs.Passing.{PassesOthers}
 use Rattle.demands.proofs.Checks.{never-given}
 use Rattle.demands.proofs.Tables.{Standing, empty-standing}
 use Rattle.demands.proofs.Answers.{setUp-number, ended-number, judged-number}
@@ -93,7 +96,7 @@ well-formed n calls = (
 
 -- so no further call answers 3
 pub never-malformed : (n : ℕ) (calls : List Call) (call : Call) → answer call (after (emptyTable n) calls) .number ≡ 3 → ⊥
-unfolding setupChecks requestChecks endChecks
+unfolding setupChecks S.entryPart offerPart lastingPart roomPart requestChecks entryPart readingPart coveringPart tokenPart signaturePart sessionPart noncePart endChecks entryChecks tableChecks
 never-malformed n calls (setting-up s) e =
     let well = well-formed n calls .0 in
     never-given 3 (setupChecks s (after (emptyTable n) calls)) (λ z. omega arith) (rw well) (sym (setUp-number s _) ∙ e)

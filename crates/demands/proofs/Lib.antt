@@ -6,12 +6,12 @@ pub mod Stored
 pub mod Named
 pub mod Passed
 pub mod Carried
+pub mod Others
 pub mod Effects
 pub mod Setups
 pub mod Requests
 pub mod Endings
 pub mod Untouched
-pub mod Others
 pub mod Sessions
 pub mod Tables
 pub mod Calls

@@ -3,23 +3,24 @@
 -- Assumes nothing.
 use mathlib.Core.Path.{_≡_, refl, ap, _∙_}
 use mathlib.Core.Bool.{Bool, true, cond, _&&_}
-use mathlib.Core.List.{List}
+use mathlib.Core.List.{List, [], _++_, append-nil}
 use Prim.Native.Nat.{ℕ, _<_, _^_}
-use lib.Dec.{eqb, lit≤}
+use native.Mathlib.Omega.{arith}
+use lib.Dec.{eqb}
 use Rattle.window.specs.declared.Verdict.{Verdict}
 use Rattle.window.specs.declared.Verdict.the-variants.{Accepted, TooOld, Seen}
 use Rattle.window.specs.Window.{numberOf}
 use Rattle.window.specs.History.{isAccepted}
 use Rattle.table.specs.declared.place.Place.the-variants.{At}
-use Rattle.signed.specs.SignedText.{ordersNonce}
 use Rattle.gate.specs.Calls.{Request}
 use Rattle.gate.specs.Checks.{first}
 use Rattle.gate.specs.Session.{placeOf}
-use Rattle.gate.specs.Judge.{ivOf, nonceOf, stepped, windowSays, requestChecks}
-use Rattle.demands.specs.History.{PassesOthers}
-use Rattle.demands.proofs.Checks.{beyond-less, nonce-decides, others-passed}
+use Rattle.gate.specs.Judge.{ivOf, nonceOf, ordered, stepped, entryPart, readingPart, signaturePart, vouchingPart, sessionPart, noncePart, requestChecks}
+use Rattle.gate.proofs.Numbers.{none-holds, entry-numbered, reading-numbered, vouching-numbered}
+use Rattle.demands.specs.Passing.{PassesOthers}
+use Rattle.demands.proofs.Checks.{nonce-decides, opens, finds}
 use Rattle.demands.proofs.Named.{placed}
-use Rattle.demands.proofs.Passed.{passed, found-passed}
+use Rattle.demands.proofs.Passed.{all-passed}
 use Rattle.demands.proofs.Carried.{nonce-small}
 
 -- a verdict accepts exactly if its number is 0
@@ -39,14 +40,30 @@ module _ (q : Request) (table : List ℕ) where
     pub finds : placeOf table (ivOf q) ≡ At place
     pub small : nonceOf q < 2 ^ 32
 
+  -- none of those checks holds, part by part
+  record Parts : Type 0 where
+    entry : first (entryPart q table) ≡ 0
+    reading : first (readingPart q) ≡ 0
+    vouching : first (vouchingPart q) ≡ 0
+    session : first (sessionPart q table) ≡ 0
+
+  parts : PassesOthers q table → Parts
+  unfolding entryPart
+  parts e =
+      let read = none-holds (entryPart q table) (readingPart q ++ (vouchingPart q ++ sessionPart q table)) (entry-numbered _ _ _) e in
+      let vouched = none-holds (readingPart q) (vouchingPart q ++ sessionPart q table) (reading-numbered q) (read .later) in
+      let admitted = none-holds (vouchingPart q) (sessionPart q table) (vouching-numbered q) (vouched .later) in
+      record { entry = read .none; reading = vouched .none; vouching = admitted .none; session = admitted .later }
+
   pub passes-finds : PassesOthers q table → Finds
   passes-finds e =
-      let late = others-passed q table e in
-      let place = placed (placeOf table (ivOf q)) (found-passed q table (beyond-less 12 14 _ (lit≤ tt) late)) in
-      record { place = place .0; finds = place .1; small = nonce-small q table (passed q table (beyond-less 9 14 _ (lit≤ tt) late)) }
+      let p = parts e in
+      let opened = opens q (signaturePart q) 0 (p .vouching) (λ z. omega arith) in
+      let place = placed (placeOf table (ivOf q)) (finds q table [] 0 (rw append-nil (p .session)) (λ z. omega arith)) in
+      record { place = place .0; finds = place .1; small = nonce-small q table (all-passed q table (p .entry) (p .reading) opened) }
 
-  pub passes-window : PassesOthers q table → ordersNonce (q .orders .mask) ≡ true → first (requestChecks q table) ≡ numberOf (stepped q table .verdict)
-  unfolding requestChecks windowSays
+  pub passes-window : PassesOthers q table → ordered q ≡ true → first (requestChecks q table) ≡ numberOf (stepped q table .verdict)
+  unfolding noncePart
   passes-window e o =
       let v = numberOf (stepped q table .verdict) in
       nonce-decides q table e

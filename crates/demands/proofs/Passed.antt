@@ -1,14 +1,13 @@
--- What a request has passed that reaches check 10, and what a setup and an ending have passed that return 0.
+-- What a request has passed whose token opens, and what a setup and an ending have passed that return 0.
 -- Assumes nothing.
 use mathlib.Core.Path.{_≡_, refl, sym, ap}
 use mathlib.Core.Bool.{Bool, true, false, true≢false, _&&_, _||_}
-use mathlib.Core.List.{List}
+use mathlib.Core.List.{List, _++_, append-assoc}
 use mathlib.Core.Option.{Option, none, some}
-use Prim.Native.Nat.{ℕ, _+_, _<_, _^_}
+use Prim.Native.Nat.{ℕ, _<_, _^_}
 use native.Mathlib.Omega.{arith}
 use borrow.Author.Tests.{not-false, eqb-true, ltb-false}
-use lib.Dec.{lit<}
-use lib.ListN.{length, getD}
+use lib.ListN.{length}
 use Rattle.armor.specs.declared.Answer.{Answer}
 use Rattle.armor.specs.Value.{Field, grammar, carried}
 use Rattle.armor.specs.Fields.{requestFields}
@@ -27,13 +26,14 @@ use Rattle.coverage.specs.Coverage.{asOrdered}
 use Rattle.token.specs.Token.{given}
 use Rattle.gate.specs.Calls.{Setup, Request}
 use Rattle.gate.specs.Sizes.{exactly, setupFits, requestFits}
-use Rattle.gate.specs.Checks.{first, ordersBad, missing, nowhere}
+use Rattle.gate.specs.Checks.{first, ordersBad, missing, nowhere, tableChecks, entryChecks}
 use Rattle.gate.specs.Session.{placeOf}
-use Rattle.gate.specs.Setup.{expiryOf, setupChecks}
+use Rattle.gate.specs.Setup as S
+use Rattle.gate.specs.Setup.{expiryOf, offerPart, lastingPart, roomPart, setupChecks}
 use Rattle.gate.specs.End.{endChecks}
-use Rattle.gate.specs.Judge.{fieldsOf, ivOf, openedOf, twice, requestChecks}
-use Rattle.gate.proofs.Numbers.{NoneHolds, unchecked}
-use Rattle.demands.proofs.Checks.{Beyond, beyond-less, request-passed}
+use Rattle.gate.specs.Judge.{fieldsOf, openedOf, twice, entryPart, readingPart, coveringPart, signaturePart, admittingPart, requestChecks}
+use Rattle.gate.proofs.Numbers.{lacks, passed-at, entry-passed, reading-numbered, setup-numbered, end-numbered}
+use Rattle.demands.proofs.Checks.{read-through, opens}
 use Rattle.demands.proofs.Named.{placed}
 
 -- none of the checks 1 to 9 holds
@@ -52,26 +52,32 @@ value-good : (v : List ℕ) (o : Option (List Field)) → grammar v ≡ o → mi
 value-good v none p m f = absurd (true≢false m)
 value-good v (some fs) p m f = request-by v true (ap Scan.given p) f
 
-pub all-passed : (q : Request) (table : List ℕ) → ((j : ℕ) → j < 9 → getD (requestChecks q table) j unchecked .holds ≡ false) → Passed q table
-unfolding requestChecks ordersBad fieldsOf
-all-passed q table past = record {
-  sizes = not-false _ (past 0 (lit< tt));
-  orders = not-false _ (past 1 (lit< tt));
-  well = wellFormed-is (records table) (not-false _ (past 2 (lit< tt)));
-  value = value-good (q .value) (grammar (q .value)) refl (past 3 (lit< tt)) (not-false _ (past 4 (lit< tt)));
-  lines = not-false _ (past 5 (lit< tt));
-  once = past 6 (lit< tt);
-  covers = not-false _ (past 7 (lit< tt));
-  opened = not-false _ (past 8 (lit< tt));
-}
+pub all-passed : (q : Request) (table : List ℕ) → first (entryPart q table) ≡ 0 → first (readingPart q) ≡ 0 → given (openedOf q) ≡ true → Passed q table
+unfolding entryPart readingPart coveringPart ordersBad fieldsOf
+all-passed q table entry reading opened =
+    let lent = entry-passed (requestFits q table) (q .orders) table entry in
+    let past = passed-at (readingPart q) (reading-numbered q) reading in
+    record {
+      sizes = lent .sizes;
+      orders = not-false _ (lent .orders);
+      well = wellFormed-is (records table) (lent .formed);
+      value = value-good (q .value) (grammar (q .value)) refl (past 4) (not-false _ (past 5));
+      lines = not-false _ (past 6);
+      once = past 7;
+      covers = not-false _ (past 8);
+      opened = opened;
+    }
 
-pub passed : (q : Request) (table : List ℕ) → Beyond 9 (first (requestChecks q table)) → Passed q table
-passed q table b = all-passed q table (λ j l. request-passed q table j (omega arith) (beyond-less (1 + j) 9 _ (omega arith) b))
+-- a request with one of these numbers has passed them
+pub passed : (q : Request) (table : List ℕ) (n : ℕ) → lacks n (entryPart q table) ≡ true → lacks n (readingPart q) ≡ true → (n ≡ 9 → ⊥)
+    → first (requestChecks q table) ≡ n → Passed q table
+passed q table n a b nine e =
+    let read = read-through q table n a b e in
+    all-passed q table (read .entry) (read .reading) (opens q (signaturePart q ++ admittingPart q table) n (simp append-assoc at (read .later)) nine)
 
--- check 12 passed
-pub found-passed : (q : Request) (table : List ℕ) → Beyond 12 (first (requestChecks q table)) → nowhere (placeOf table (ivOf q)) ≡ false
-unfolding requestChecks
-found-passed q table b = request-passed q table 11 (lit< tt) b
+pub accepted-passed : (q : Request) (table : List ℕ) → first (requestChecks q table) ≡ 0 → Passed q table
+unfolding entryPart readingPart coveringPart entryChecks tableChecks
+accepted-passed q table e = passed q table 0 refl refl (λ z. omega arith) e
 
 third : (a b c d : Bool) → (a && (b && (c && d))) ≡ true → c ≡ true
 third a b c d e = both c d (both b (c && d) (both a (b && (c && d)) e .1) .1) .0
@@ -88,25 +94,25 @@ pub record Takes (s : Setup) (table : List ℕ) : Type 0 where
   pub long : length (s .iv) ≡ 12
   pub small : expiryOf s < 2 ^ 32
 
-pub setup-takes : (s : Setup) (table : List ℕ) → NoneHolds (setupChecks s table) → Takes s table
-unfolding setupChecks setupFits
-setup-takes s table past =
-    let sizes = not-false (setupFits s table) (past 0 (lit< tt)) in
-    let place = placed (taken (records table) (s .clock)) (past 8 (lit< tt)) in
+pub setup-takes : (s : Setup) (table : List ℕ) → first (setupChecks s table) ≡ 0 → Takes s table
+unfolding setupChecks S.entryPart offerPart lastingPart roomPart entryChecks tableChecks setupFits
+setup-takes s table e =
+    let past = passed-at (setupChecks s table) (setup-numbered s table) e in
+    let place = placed (taken (records table) (s .clock)) (past 18) in
     record {
       place = place .0;
       takes = place .1;
-      unused = unplaced (placeOf table (s .iv)) (not-false _ (past 7 (lit< tt)));
-      long = eqb-true (length (s .iv)) 12 (third (exactly 32 (s .server-key)) (exactly 32 (s .session-key)) (exactly 12 (s .iv)) _ sizes);
-      small = omega (arith, ltb-false 4294967295 (expiryOf s) (past 6 (lit< tt)));
+      unused = unplaced (placeOf table (s .iv)) (not-false _ (past 17));
+      long = eqb-true (length (s .iv)) 12 (third (exactly 32 (s .server-key)) (exactly 32 (s .session-key)) (exactly 12 (s .iv)) _ (not-false (setupFits s table) (past 1)));
+      small = omega (arith, ltb-false 4294967295 (expiryOf s) (past 20));
     }
 
 -- an ending of which no check holds
-module _ (iv table : List ℕ) (none : NoneHolds (endChecks iv table)) where
+module _ (iv table : List ℕ) (none : first (endChecks iv table) ≡ 0) where
   pub table-passed : WellFormed (records table)
-  unfolding endChecks
-  table-passed = wellFormed-is (records table) (not-false _ (none 1 (lit< tt)))
+  unfolding endChecks tableChecks
+  table-passed = wellFormed-is (records table) (not-false _ (passed-at (endChecks iv table) (end-numbered iv table) none 3))
 
   pub session-passed : nowhere (placeOf table iv) ≡ false
-  unfolding endChecks
-  session-passed = none 2 (lit< tt)
+  unfolding endChecks tableChecks
+  session-passed = passed-at (endChecks iv table) (end-numbered iv table) none 12

@@ -12,25 +12,24 @@ use Rattle.cells.specs.Runs.{Bytes}
 use Rattle.table.specs.declared.session.Record.{Record}
 use Rattle.table.specs.Table.{recordAt}
 use Rattle.table.proofs.Sessions.{recordAt-fits, stepped-fits}
-use Rattle.signed.specs.SignedText.{ordersNonce}
 use Rattle.reply.specs.Replies.{invalidation}
 use Rattle.reply.proofs.Lengths.{length-invalidation}
 use Rattle.gate.specs.Calls.{Request}
 use Rattle.gate.specs.Outcome.{untouched}
-use Rattle.gate.specs.Checks.{first}
-use Rattle.gate.specs.Session.{without}
-use Rattle.gate.specs.Judge
-use Rattle.gate.specs.Judge.{ivOf, nonceOf, tokenOf, requestChecks, accepted, invalidated, invalidates, requestOutcome, judged}
-use Rattle.gate.proofs.Numbers.{Exactly, first-among, first-exactly, request-numbered}
-use Rattle.demands.proofs.Checks.{Beyond}
-use Rattle.demands.proofs.Answers.{next, ordered-table, unordered-table}
+use Rattle.gate.specs.Checks.{first, nowhere, tableChecks, entryChecks}
+use Rattle.gate.specs.Session.{placeOf, without}
+use Rattle.gate.specs.Judge.{ivOf, nonceOf, tokenOf, ordered, stepped, entryPart, readingPart, coveringPart, tokenPart, signaturePart, vouchingPart, sessionPart, noncePart, admittingPart, requestChecks, accepted, invalidated, invalidates, effect, outcomeAt, judged}
+use Rattle.gate.proofs.Numbers.{Exactly, comes-later, first-among, first-exactly, request-numbered}
+use Rattle.demands.proofs.Checks.{accepted-passes, read-through, finds}
+use Rattle.demands.proofs.Others.{passes-finds}
+use Rattle.demands.proofs.Answers.{steppedFor, next, ordered-table, unordered-table}
 use Rattle.demands.proofs.Stored.{Replaced, replaced}
 use Rattle.demands.proofs.Named.{SessionAt, session-found, somewhere, freed-there, freed-nowhere}
-use Rattle.demands.proofs.Passed.{Passed, passed, found-passed}
+use Rattle.demands.proofs.Passed.{Passed, passed, accepted-passed}
 use Rattle.demands.proofs.Carried.{nonce-small}
 use Rattle.demands.proofs.Effects.{judgeNumbers, TenOrThirteen, Invalidated, Moved, Accepted, JudgeEffects, fronted-replied}
 
-freed-by : (q : Request) (n : ℕ) (table : List ℕ) → Passed q table → Invalidated q table (invalidated n q table)
+freed-by : (q : Request) (n : ℕ) (table : List ℕ) → Passed q table → Invalidated q table (invalidated n (tokenOf q .key) (ivOf q) (q .reply) table)
 unfolding invalidated
 freed-by q n table p = record {
   long = length-invalidation (tokenOf q .key);
@@ -40,12 +39,12 @@ freed-by q n table p = record {
 }
 
 stepped-there : (q : Request) (table : List ℕ) (place : ℕ) → Passed q table → SessionAt table (ivOf q) place → Bytes table
-    → ordersNonce (q .orders .mask) ≡ true → Moved table (Judge.tableOf q table) place (nonceOf q)
+    → ordered q ≡ true → Moved table (steppedFor q table) place (nonceOf q)
 stepped-there q table place p s b o =
     let r = next (nonceOf q) (recordAt table place) in
     let small = stepped-fits (recordAt table place) (nonceOf q) (recordAt-fits table place (s .within) b) (nonce-small q table p) in
     let there = session-found table (ivOf q) place (p .well) s in
-    let all : Replaced table (Judge.tableOf q table) place r =
+    let all : Replaced table (steppedFor q table) place r =
     rw (ordered-table q table place there o) (replaced table place r (s .within) small) in
     record {
       session = all;
@@ -54,14 +53,15 @@ stepped-there q table place p s b o =
       expiry = ap (λ (x : Record). x .expiry) (all .here);
     }
 
-accepts : (q : Request) (table : List ℕ) → first (requestChecks q table) ≡ 0 → Accepted q table (accepted q table)
-unfolding accepted
+accepts : (q : Request) (table : List ℕ) → first (requestChecks q table) ≡ 0 → Accepted q table (outcomeAt 0 q table)
+unfolding effect accepted
 accepts q table e =
-    let p = passed q table (inl e) in
-    let s = somewhere table (ivOf q) (found-passed q table (inl e)) in
+    let p = accepted-passed q table e in
+    let f = passes-finds q table (accepted-passes q table e) in
+    let s = somewhere table (ivOf q) (ap nowhere (f .finds)) in
     record {
       session = s;
-      reply = fronted-replied 0 (tokenOf q .id) (q .reply) (Judge.tableOf q table);
+      reply = fronted-replied 0 (tokenOf q .id) (q .reply) (steppedFor q table);
       ordered = λ b o. stepped-there q table (s .place) p (s .is) b o;
       unordered = λ o. unordered-table q table o;
     }
@@ -77,13 +77,22 @@ two-invalidate : (n : ℕ) → TenOrThirteen n → invalidates n ≡ true
 two-invalidate n (inl e) = ap invalidates e
 two-invalidate n (inr e) = ap invalidates e
 
-beyond-nine : (n : ℕ) → TenOrThirteen n → Beyond 9 n
-beyond-nine n (inl e) = inr (omega arith)
-beyond-nine n (inr e) = inr (omega arith)
+-- such a request was read, and its token opens
+two-passed : (q : Request) (table : List ℕ) (n : ℕ) → TenOrThirteen n → first (requestChecks q table) ≡ n → Passed q table
+unfolding entryPart readingPart coveringPart entryChecks tableChecks
+two-passed q table n (inl o) e = passed q table 10 refl refl (λ z. omega arith) (e ∙ o)
+two-passed q table n (inr o) e = passed q table 13 refl refl (λ z. omega arith) (e ∙ o)
+
+-- one that is idle has a session
+idle-found : (q : Request) (table : List ℕ) → first (requestChecks q table) ≡ 13 → nowhere (placeOf table (ivOf q)) ≡ false
+unfolding entryPart readingPart coveringPart tokenPart signaturePart entryChecks tableChecks
+idle-found q table e =
+    let read = read-through q table 13 refl refl e in
+    finds q table (noncePart q table) 13 (comes-later (vouchingPart q) (admittingPart q table) 13 refl refl (read .later) .later) (λ z. omega arith)
 
 -- the three ways in which a judged request ends
-judge-zero : (q : Request) (table : List ℕ) → first (requestChecks q table) ≡ 0 → JudgeEffects q table (accepted q table)
-unfolding accepted
+judge-zero : (q : Request) (table : List ℕ) → first (requestChecks q table) ≡ 0 → JudgeEffects q table (outcomeAt 0 q table)
+unfolding effect accepted
 judge-zero q table e = record {
   listed = List·Memᴰ·head refl;
   in-order = subst (Exactly (requestChecks q table)) e (first-exactly (requestChecks q table) (request-numbered q table));
@@ -94,17 +103,17 @@ judge-zero q table e = record {
 }
 
 judge-freed : (q : Request) (table : List ℕ) (n : ℕ) → first (requestChecks q table) ≡ n → List·Memᴰ n judgeNumbers → invalidates n ≡ true
-    → JudgeEffects q table (invalidated n q table)
+    → JudgeEffects q table (invalidated n (tokenOf q .key) (ivOf q) (q .reply) table)
 unfolding invalidated
 judge-freed q table n e m u =
     let two = ten-or-thirteen n u in
-    let p = passed q table (rw e (beyond-nine n two)) in
+    let p = two-passed q table n two e in
     record {
       listed = m;
       in-order = subst (Exactly (requestChecks q table)) e (first-exactly (requestChecks q table) (request-numbered q table));
       refused = λ h other. absurd (other two);
       invalidated = λ two. freed-by q n table p;
-      idle = λ o. somewhere table (ivOf q) (found-passed q table (inr (omega arith)));
+      idle = λ o. somewhere table (ivOf q) (idle-found q table (e ∙ o));
       passed = λ o. absurd (true≢false (sym u ∙ ap invalidates o));
     }
 
@@ -120,15 +129,16 @@ judge-kept q table n e m z u = record {
 }
 
 judge-by : (q : Request) (table : List ℕ) (n : ℕ) → first (requestChecks q table) ≡ n → List·Memᴰ n judgeNumbers
-    → JudgeEffects q table (requestOutcome n q table)
+    → JudgeEffects q table (outcomeAt n q table)
+unfolding effect
 judge-by q table n e m = by (eqb n 0) refl (invalidates n) refl
   where
     by : (t : Bool) → eqb n 0 ≡ t → (u : Bool) → invalidates n ≡ u
-        → JudgeEffects q table (cond t (accepted q table) (cond u (invalidated n q table) (untouched n (q .reply) table)))
+        → JudgeEffects q table (cond t (accepted (tokenOf q .id) (ivOf q) (ordered q) (stepped q table .window) (q .reply) table) (cond u (invalidated n (tokenOf q .key) (ivOf q) (q .reply) table) (untouched n (q .reply) table)))
     by true z u v = judge-zero q table (e ∙ eqb-true n 0 z)
     by false z true v = judge-freed q table n e m v
     by false z false v = judge-kept q table n e m z v
 
 pub judge-effects : (q : Request) (table : List ℕ) → JudgeEffects q table (judged q table)
-unfolding judged requestChecks
+unfolding judged requestChecks entryPart readingPart coveringPart tokenPart signaturePart sessionPart noncePart entryChecks tableChecks
 judge-effects q table = judge-by q table (first (requestChecks q table)) refl (first-among (requestChecks q table))

@@ -39,9 +39,10 @@ use Rattle.token.proofs.Text.{length-three}
 use Rattle.token.proofs.Exactly.{no-token}
 use Rattle.gate.specs.Calls.{Orders, Setup, Request, ordersOf, setupOf, requestOf}
 use Rattle.gate.specs.Sizes.{tableFits, setupFits, requestFits, endFits}
-use Rattle.gate.specs.Checks.{ordersBad}
-use Rattle.gate.specs.Setup.{offered, expiryOf, setupChecks, setUp}
-use Rattle.gate.specs.Judge.{fieldsOf, ivOf, openedOf, twice, requestChecks, judged}
+use Rattle.gate.specs.Checks.{ordersBad, tableChecks, entryChecks}
+use Rattle.gate.specs.Setup as S
+use Rattle.gate.specs.Setup.{offered, expiryOf, offerPart, lastingPart, roomPart, setupChecks, setUp}
+use Rattle.gate.specs.Judge.{fieldsOf, ivOf, openedOf, twice, entryPart, readingPart, coveringPart, tokenPart, signaturePart, sessionPart, noncePart, requestChecks, effect, judged}
 use Rattle.gate.specs.End.{endChecks, ended}
 use Rattle.demands.specs.History.{emptyTable}
 
@@ -94,7 +95,7 @@ pub record SetupWitnesses : Type 0 where
   pub twenty : setUp (asking 2 4294967295 offer) (emptyTable 1) .number ≡ 20
 
 pub setup-witnesses : SetupWitnesses
-unfolding setUp setupChecks setupFits tableFits ordersBad ordersGood goodExtra extraNames goodNames wellFormed fitting sound same bit records recordOf recordBytes bytesOf number codes Value.grammar Value.fieldsOf Value.fieldsIn Value.fieldOf Value.allGood Value.fieldGood Value.carried Pieces.pieces Pieces.upTo Pieces.after decoded full two one ending coded sixBits placeIn alphabet counted obeys ruleOf ruleAt keyNumber placeOf keys isMask isNumeral plain setupFields once times contents offered the maskOf expiryOf limitsOf found taken
+unfolding setUp setupChecks S.entryPart offerPart lastingPart roomPart entryChecks tableChecks setupFits tableFits ordersBad ordersGood goodExtra extraNames goodNames wellFormed fitting sound same bit records recordOf recordBytes bytesOf number codes Value.grammar Value.fieldsOf Value.fieldsIn Value.fieldOf Value.allGood Value.fieldGood Value.carried Pieces.pieces Pieces.upTo Pieces.after decoded full two one ending coded sixBits placeIn alphabet counted obeys ruleOf ruleAt keyNumber placeOf keys isMask isNumeral plain setupFields once times contents offered the maskOf expiryOf limitsOf found taken
 setup-witnesses = record {
   zero = refl;
   one = refl;
@@ -115,7 +116,7 @@ pub record EndWitnesses : Type 0 where
   pub twelve : ended (zeros 12) (emptyTable 1) .number ≡ 12
 
 pub end-witnesses : EndWitnesses
-unfolding ended endChecks endFits tableFits wellFormed fitting sound same records recordOf recordBytes bytesOf number found
+unfolding ended endChecks tableChecks endFits tableFits wellFormed fitting sound same records recordOf recordBytes bytesOf number found
 end-witnesses = record { zero = refl; one = refl; three = refl; twelve = refl }
 
 -- one byte is no token, whatever it opens to
@@ -147,7 +148,7 @@ pub record RequestWitnesses : Type 0 where
   pub nine : judged (sending 2 fields []) (emptyTable 1) .number ≡ 9
 
 pub request-witnesses : RequestWitnesses
-unfolding judged requestChecks requestFits tableFits ordersBad ordersGood goodExtra extraNames goodNames wellFormed fitting sound same records recordOf number codes Value.grammar Value.fieldsOf Value.fieldsIn Value.fieldOf Value.allGood Value.fieldGood Value.carried Pieces.pieces Pieces.upTo Pieces.after decoded full two one ending coded sixBits placeIn alphabet counted obeys ruleOf ruleAt keyNumber placeOf keys isMask isNumeral isNumber plain requestFields required once times contents only nonceBit the maskOf fieldsOf goodBlock linesIn linesUpTo startsLine frontLine lineText textOf goodLine valueByte isToken tokenByte hasByte all leading twice repeated timesNamed sameName lower coveredNames chosen headerNames asOrdered maskBytes numberBytes shortest bytesOf openedOf ivOf
+unfolding judged effect requestChecks entryPart readingPart coveringPart tokenPart signaturePart sessionPart noncePart entryChecks tableChecks requestFits tableFits ordersBad ordersGood goodExtra extraNames goodNames wellFormed fitting sound same records recordOf number codes Value.grammar Value.fieldsOf Value.fieldsIn Value.fieldOf Value.allGood Value.fieldGood Value.carried Pieces.pieces Pieces.upTo Pieces.after decoded full two one ending coded sixBits placeIn alphabet counted obeys ruleOf ruleAt keyNumber placeOf keys isMask isNumeral isNumber plain requestFields required once times contents only nonceBit the maskOf fieldsOf goodBlock linesIn linesUpTo startsLine frontLine lineText textOf goodLine valueByte isToken tokenByte hasByte all leading twice repeated timesNamed sameName lower coveredNames chosen headerNames asOrdered maskBytes numberBytes shortest bytesOf openedOf ivOf
 request-witnesses = record {
   one = refl;
   two = refl;

@@ -2,7 +2,7 @@
 -- these calls changed'. Calls, IVs and nonces stand with the latest first.
 -- Assumes nothing.
 use mathlib.Core.Path.{_≡_}
-use mathlib.Core.Bool.{Bool, false, cond, not, _&&_, _||_}
+use mathlib.Core.Bool.{false, cond, _&&_}
 use mathlib.Core.List.{List, [], _∷_}
 use Prim.Native.Nat.{ℕ, _*_}
 use lib.Dec.{eqb}
@@ -14,9 +14,8 @@ use Rattle.table.specs.Record.{size}
 use Rattle.signed.specs.SignedText.{ordersNonce}
 use Rattle.gate.specs.Calls.{Setup, Request}
 use Rattle.gate.specs.Outcome.{Outcome}
-use Rattle.gate.specs.Checks.{Check, first}
 use Rattle.gate.specs.Setup.{setUp}
-use Rattle.gate.specs.Judge.{ivOf, nonceOf, requestChecks, judged}
+use Rattle.gate.specs.Judge.{ivOf, nonceOf, judged}
 use Rattle.gate.specs.End.{ended}
 
 -- a call with what is lent to it, the table apart
@@ -78,19 +77,3 @@ lentIn (call ∷ earlier) = withLent call (lentIn earlier)
 abbrev pub Apart : List (List ℕ) → Type 0
 Apart [] = Unit
 Apart (iv ∷ ivs) = (among ivs iv ≡ false) × Apart ivs
-
--- the checks whose numbers pass a test
-abbrev pub only : (ℕ → Bool) → List Check → List Check
-only test [] = []
-only test (c ∷ cs) = cond (test (c .number)) (c ∷ only test cs) (only test cs)
-
--- those of the nonce
-abbrev pub ofNonce : ℕ → Bool
-ofNonce n = eqb n 15 || eqb n 16
-
-abbrev pub ofOthers : ℕ → Bool
-ofOthers n = not (ofNonce n)
-
--- a request passes the other checks: none of them is given
-abbrev pub PassesOthers : Request → List ℕ → Type 0
-PassesOthers q table = first (only ofOthers (requestChecks q table)) ≡ 0

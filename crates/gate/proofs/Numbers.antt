@@ -89,6 +89,23 @@ passed-by xs ys e z = first-append xs ys e ∙ rw z
 pub stopped-by : (xs ys : List Check) → numbered xs ≡ true → (first xs ≡ 0 → ⊥) → first (xs ++ ys) ≡ first xs
 stopped-by xs ys e nz = first-append xs ys e ∙ rw (ne-eqb (first xs) 0 nz)
 
+-- whether the check with this number holds
+abbrev pub at : ℕ → List Check → Bool
+at k [] = false
+at k (c ∷ cs) = cond (eqb (c .number) k) (c .holds) (at k cs)
+
+pub passed-at : (cs : List Check) → numbered cs ≡ true → first cs ≡ 0 → (k : ℕ) → at k cs ≡ false
+passed-at [] e z k = refl
+passed-at (c ∷ cs) e z k =
+    let parts = numbered-parts c cs e in
+    by (c .holds) refl z (parts .low) (λ f. passed-at cs (parts .rest) f k) (eqb (c .number) k)
+  where
+    by : (t : Bool) → c .holds ≡ t → cond t (c .number) (first cs) ≡ 0 → 1 ≤ c .number → (first cs ≡ 0 → at k cs ≡ false) → (u : Bool)
+        → cond u (c .holds) (at k cs) ≡ false
+    by true p f low later u = absurd (omega arith)
+    by false p f low later true = p
+    by false p f low later false = later f
+
 -- checks with numbers below 256 come to one
 abbrev pub small : List Check → Bool
 small [] = true

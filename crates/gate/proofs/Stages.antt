@@ -40,7 +40,7 @@ use Rattle.gate.specs.Outcome.{Outcome}
 use Rattle.gate.specs.Sizes.{between, exactly, tableFits, requestFits}
 use Rattle.gate.specs.Checks.{first, missing, nowhere, tableChecks, entryChecks}
 use Rattle.gate.specs.Session.{placeOf, heldAt, with-record, steppedIn}
-use Rattle.gate.specs.Judge.{fieldsOf, ivOf, nonceOf, timeOf, lastTimeOf, signatureOf, openedOf, tokenOf, limits, textOf, codeOf, ordered, stepped, entryPart, readingPart, tokenPart, signaturePart, vouchingPart, sessionPart, noncePart, admittingPart, requestChecks, accepted, invalidated, invalidates, effect, judged}
+use Rattle.gate.specs.Judge.{fieldsOf, ivOf, nonceOf, timeOf, lastTimeOf, signatureOf, openedOf, tokenOf, limits, textOf, codeOf, ordered, stepped, entryPart, readingPart, tokenPart, signaturePart, vouchingPart, sessionPart, noncePart, admittingPart, requestChecks, accepted, invalidated, invalidates, effect, outcomeAt, judged}
 use Rattle.gate.specs.Stages.{tells, decisionOf, About, Vouches, Admits, Settles, Decides, applied}
 use Rattle.gate.proofs.Numbers.{Entered, first-small, request-small, lacks, first-lacks, passed-by, stopped-by, reading-numbered, reading-ten, reading-thirteen, vouching-numbered}
 
@@ -282,4 +282,4 @@ module _ (q : Request) (table : List ℕ) (d : Decision) (h : Decides q table d)
   applied-judged =
       choose-same (eqb (d .number) 0) (λ z. accepted-same (eqb-true (d .number) 0 z))
       (λ refusal. choose-same (invalidates (d .number)) (λ z. invalidated-same (told (d .number) z)) (λ other. refl))
-      ∙ ap (λ (n : ℕ). effect n (tokenOf q .id) (tokenOf q .key) (ivOf q) (ordered q) (stepped q table .window) (q .reply) table) (h .is)
+      ∙ ap (λ (n : ℕ). outcomeAt n q table) (h .is)

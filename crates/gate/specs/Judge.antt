@@ -156,6 +156,9 @@ effect n id key iv ordered next reply table =
     (cond (invalidates n) (invalidated n key iv reply table)
     (untouched n reply table))
 
+abbrev pub outcomeAt : ℕ → Request → List ℕ → Outcome
+outcomeAt n q table =
+    effect n (tokenOf q .id) (tokenOf q .key) (ivOf q) (ordered q) (stepped q table .window) (q .reply) table
+
 unfoldable pub judged : Request → List ℕ → Outcome
-judged q table =
-    effect (first (requestChecks q table)) (tokenOf q .id) (tokenOf q .key) (ivOf q) (ordered q) (stepped q table .window) (q .reply) table
+judged q table = outcomeAt (first (requestChecks q table)) q table
