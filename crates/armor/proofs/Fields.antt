@@ -15,7 +15,7 @@ use Rattle.armor.specs.Keys.{obeys, keys, placeOf, keyNumber, ruleAt, ru
 use Rattle.cells.specs.Runs.{same}
 use Rattle.armor.specs.Value.{Field, fieldGood, allGood, goodOnly, grammar, fieldsOf}
 use Rattle.armor.specs.Fields.{contents, times, the, once, among, only, requestNames, required, setupFields}
-use Rattle.armor.specs.Scan.{contentsAt, Notes, held, contentOf, Placed, fourOnce, countsGood}
+use Rattle.armor.specs.Scan.{contentsAt, Notes, held, contentOf, Placed, countsGood}
 use Rattle.armor.proofs.Numerals.{both}
 use Rattle.armor.proofs.Keys.{nameAt, keyNumber-within, by-number}
 
@@ -204,10 +204,3 @@ module _ (v : List ℕ) (seen : Seen) (fs : List Field) (h : Notes v seen fs) wh
   pub setup-one : getD (seen .count) 5 0 ≡ 1 → times nameR fs ≡ 1
   unfolding keys same placeOf keyNumber
   setup-one e = let c = counted v seen fs h 5 (lit< tt) refl in omega arith
-
--- the counts of a request, test by test
-pub counts-open : (count : List ℕ) (a b e r o : Bool) → fourOnce (getD count 6 0) (getD count 7 0) (getD count 0 0) (getD count 1 0) ≡ a
-    → fourOnce (getD count 3 0) (getD count 4 0) (getD count 8 0) (getD count 9 0) ≡ b → leb (getD count 10 0) 1 ≡ e → eqb (getD count 5 0) 0 ≡ r → eqb (getD count 11 0) 0 ≡ o
-    → countsGood count ≡ (a && b && e && (r && o))
-unfolding countsGood
-counts-open count a b e r o p q s t u = ap₂ _&&_ (ap₂ _&&_ (ap₂ _&&_ p q) s) (ap₂ _&&_ t u)

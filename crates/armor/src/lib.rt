@@ -246,10 +246,7 @@ fn two_letters(a: u8, b: u8) -> usize
 fn is_two(a: u8, b: u8, x: u8, y: u8) -> bool
     ensures { λ r. ⌜ r ≡ same (a ∷ b ∷ []) (x ∷ y ∷ []) ⌝ }
 {
-    if b != y {
-        return false;
-    }
-    a == x
+    (b == y) & (a == x)
 }
 
 fn three_letters(a: u8, b: u8, c: u8) -> usize
@@ -267,10 +264,7 @@ fn three_letters(a: u8, b: u8, c: u8) -> usize
 fn is_three(a: u8, b: u8, c: u8, x: u8, y: u8, z: u8) -> bool
     ensures { λ r. ⌜ r ≡ same (a ∷ b ∷ c ∷ []) (x ∷ y ∷ z ∷ []) ⌝ }
 {
-    if !is_two(b, c, y, z) {
-        return false;
-    }
-    a == x
+    is_two(b, c, y, z) & (a == x)
 }
 
 // What a scan of a value has seen of each key: how often, up to two, and where the text of its last field starts and ends.
@@ -441,16 +435,7 @@ fn scan_value(value: &[u8]) -> ScanRead
 fn four_once(a: u8, b: u8, c: u8, d: u8) -> bool
     ensures { λ r. ⌜ r ≡ fourOnce a b c d ⌝ }
 {
-    if a != 1 {
-        return false;
-    }
-    if b != 1 {
-        return false;
-    }
-    if c != 1 {
-        return false;
-    }
-    d == 1
+    (a == 1) & (b == 1) & (c == 1) & (d == 1)
 }
 
 // Whether a value has the keys of a request, n apart, and no others.
@@ -458,19 +443,10 @@ fn counts_good(seen: Seen) -> bool
     ensures { λ r. ⌜ r ≡ countsGood (seen .count) ⌝ }
 {
     let count = seen.count;
-    if !four_once(count[S], count[C], count[T], count[LT]) {
-        return false;
-    }
-    if !four_once(count[H], count[AH], count[IV], count[TAG]) {
-        return false;
-    }
-    if count[EAH] > 1 {
-        return false;
-    }
-    if count[R] != 0 {
-        return false;
-    }
-    count[OTHER] == 0
+    four_once(count[S], count[C], count[T], count[LT])
+        & four_once(count[H], count[AH], count[IV], count[TAG])
+        & (count[EAH] <= 1)
+        & ((count[R] == 0) & (count[OTHER] == 0))
 }
 
 // What the text noted for a key encodes, at the front of out.

@@ -14,31 +14,31 @@ use Rattle.orders.specs.declared.Limits.{Limits}
 use Rattle.orders.specs.declared.Checked.the-variants.{Good, Bad}
 
 -- good extra names are at most 128 bytes and at most eight
-pub short-extra : (run : List ℕ) → goodExtra run ≡ true → length run ≤ 128
-unfolding goodExtra
-short-extra run h =
-    let outer = and-eq-true-iff (leb (length run) 128 && leb (length (extraNames run)) 8) (goodNames (extraNames run)) .0 h in
-    leb-true _ _ (and-eq-true-iff (leb (length run) 128) (leb (length (extraNames run)) 8) .0 (outer .0) .0)
+module _ (run : List ℕ) (h : goodExtra run ≡ true) where
+  sizes : (leb (length run) 128 ≡ true) × (leb (length (extraNames run)) 8 ≡ true)
+  unfolding goodExtra
+  sizes =
+      and-eq-true-iff (leb (length run) 128) (leb (length (extraNames run)) 8) .0
+      (and-eq-true-iff (leb (length run) 128 && leb (length (extraNames run)) 8) (goodNames (extraNames run)) .0 h .0)
 
-pub few-names : (run : List ℕ) → goodExtra run ≡ true → length (extraNames run) ≤ 8
-unfolding goodExtra
-few-names run h =
-    let outer = and-eq-true-iff (leb (length run) 128 && leb (length (extraNames run)) 8) (goodNames (extraNames run)) .0 h in
-    leb-true _ _ (and-eq-true-iff (leb (length run) 128) (leb (length (extraNames run)) 8) .0 (outer .0) .1)
+  pub short-extra : length run ≤ 128
+  short-extra = leb-true _ _ (sizes .0)
+
+  pub few-names : length (extraNames run) ≤ 8
+  few-names = leb-true _ _ (sizes .1)
 
 module _ (mask : ℕ) (extra : List ℕ) (sessionLife : ℕ) (h : ordersGood mask extra sessionLife ≡ true) where
-  outer : ((ltb mask (2 ^ 56) && goodExtra extra) ≡ true) × (leb sessionLife longestSessionLife ≡ true)
+  both : (ltb mask (2 ^ 56) ≡ true) × (goodExtra extra ≡ true)
   unfolding ordersGood
-  outer = and-eq-true-iff (ltb mask (2 ^ 56) && goodExtra extra) (leb sessionLife longestSessionLife) .0 h
+  both =
+      and-eq-true-iff (ltb mask (2 ^ 56)) (goodExtra extra) .0
+      (and-eq-true-iff (ltb mask (2 ^ 56) && goodExtra extra) (leb sessionLife longestSessionLife) .0 h .0)
 
   pub good-mask : mask < 2 ^ 56
-  good-mask = ltb-true _ _ (and-eq-true-iff (ltb mask (2 ^ 56)) (goodExtra extra) .0 (outer .0) .0)
+  good-mask = ltb-true _ _ (both .0)
 
   pub good-extra : goodExtra extra ≡ true
-  good-extra = and-eq-true-iff (ltb mask (2 ^ 56)) (goodExtra extra) .0 (outer .0) .1
-
-  pub good-life : sessionLife ≤ longestSessionLife
-  good-life = leb-true _ _ (outer .1)
+  good-extra = both .1
 
 -- what the answer of `check` says
 pub checked-good : (mask : ℕ) (extra : List ℕ) (requestLife idle sessionLife : ℕ) (l : Limits) → checkedOrders mask extra requestLife idle sessionLife ≡ Good l

@@ -57,6 +57,17 @@ names-first run at end h s =
     names-within run at h ∙ pieces-first (drop at run)
     ∙ ap₂ _∷_ (ap (λ (n : ℕ). take n (drop at run)) size) (names-drop run at (suc k) h ∙ ap (namesFrom run) (omega (arith, s .is)))
 
+-- an invariant of the loops over names: f of those from index at on is the value sought
+pub record Reached {A : Type 0} (value : A) (f : List (List ℕ) → A) (run : List ℕ) (at : ℕ) : Type 0 where
+  pub is : value ≡ f (namesFrom run at)
+
+module _ {A : Type 0} {value : A} {f : List (List ℕ) → A} {run : List ℕ} {at : ℕ} (s : Reached value f run at) where
+  pub reached-first : {end : ℕ} → at ≤ length run → Spans noComma run at end → value ≡ f (cut run at end ∷ namesFrom run (end + 1))
+  reached-first {end} h e = s .is ∙ ap f (names-first run at end h e)
+
+  pub reached-end : length run < at → value ≡ f []
+  reached-end h = s .is ∙ ap f (names-past run at h)
+
 pub chosen-set : (bits : ℕ) (n : List ℕ) (ns : List (List ℕ)) → eqb (bits % 2) 1 ≡ true → chosen bits (n ∷ ns) ≡ n ∷ chosen (bits / 2) ns
 unfolding chosen
 chosen-set bits n ns h = rw h

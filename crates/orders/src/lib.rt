@@ -86,20 +86,14 @@ const TOKEN_HIGH: u64 = 6341068274398134270;
 pub fn check(mask: u64, extra: &[u8], request_life: u32, idle: u32, session_life: u32) -> Checked
     ensures { λ r. ⌜ r ≡ checkedOrders mask (now (extra .entry)) «request_life» idle «session_life» ⌝ }
 {
-    if 72057594037927936 <= mask {
-        return Checked::Bad;
+    if (mask < 72057594037927936) & good_extra(extra) & (session_life <= 2592000) {
+        return Checked::Good(Limits {
+            request_life: or_default(300, request_life),
+            idle: or_default(1800, idle),
+            session_life: or_default(1209600, session_life),
+        });
     }
-    if !good_extra(extra) {
-        return Checked::Bad;
-    }
-    if 2592000 < session_life {
-        return Checked::Bad;
-    }
-    Checked::Good(Limits {
-        request_life: or_default(300, request_life),
-        idle: or_default(1800, idle),
-        session_life: or_default(1209600, session_life),
-    })
+    Checked::Bad
 }
 
 fn or_default(usual: u32, limit: u32) -> u32
@@ -117,14 +111,12 @@ fn good_extra(extra: &[u8]) -> bool
     if extra.len() == 0 {
         return true;
     }
+    // Saves going through the names of a long run.
     if 128 < extra.len() {
         return false;
     }
-    if 8 < name_count(extra) {
-        return false;
-    }
     let table = names();
-    good_names(&table, extra)
+    (name_count(extra) <= 8) & good_names(&table, extra)
 }
 
 fn name_count(run: &[u8]) -> usize
@@ -146,10 +138,8 @@ fn good_names(table: &[u8], extra: &[u8]) -> bool
     let mut at: usize = 0;
     while at <= extra.len() {
         let end = name_end(extra, at);
-        if !is_allowed(table, &extra[at..end]) {
-            return false;
-        }
-        if has_name(extra, end + 1, &extra[at..end]) {
+        let name = &extra[at..end];
+        if !(is_allowed(table, name) & !has_name(extra, end + 1, name)) {
             return false;
         }
         at = end + 1;
@@ -161,13 +151,7 @@ fn is_allowed(table: &[u8], name: &[u8]) -> bool
     requires { ⌜ pieces (now table) ≡ headerNames ⌝ }
     ensures { λ r. ⌜ r ≡ allowed (now (name .entry)) ⌝ }
 {
-    if !is_token(name) {
-        return false;
-    }
-    if has_name(table, 0, name) {
-        return false;
-    }
-    !same_name(b"X-S-Armor", name)
+    is_token(name) & !has_name(table, 0, name) & !same_name(b"X-S-Armor", name)
 }
 
 // Whether name is one of the names of run from the one that starts at byte at on.
@@ -248,10 +232,7 @@ fn name_end(run: &[u8], at: usize) -> usize
 pub fn is_token(name: &[u8]) -> bool
     ensures { λ r. ⌜ r ≡ isToken (now (name .entry)) ⌝ }
 {
-    if name.len() == 0 {
-        return false;
-    }
-    token_end(name, 0) == name.len()
+    (0 < name.len()) & (token_end(name, 0) == name.len())
 }
 
 // Where the token bytes end that start at byte at.
@@ -301,11 +282,5 @@ pub fn same_name(a: &[u8], b: &[u8]) -> bool
 fn lowered(b: u8) -> u8
     ensures { λ r. ⌜ r ≡ lower b ⌝ }
 {
-    if b < 65 {
-        return b;
-    }
-    if 90 < b {
-        return b;
-    }
-    b + 32
+    if (65 <= b) & (b <= 90) { b + 32 } else { b }
 }

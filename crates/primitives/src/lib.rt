@@ -54,19 +54,7 @@ pub extern "C" fn prim_hmac_sha512(key: &[u8], text: &[u8], out: &mut [u8]) -> u
 fn sizes_fit(key: usize, iv: usize, text: usize, tag: usize, out: usize) -> bool
     ensures { λ r. ⌜ r ≡ sizesFit key iv text tag out ⌝ }
 {
-    if key != 32 {
-        return false;
-    }
-    if iv != 12 {
-        return false;
-    }
-    if 68719476704 < text {
-        return false;
-    }
-    if tag != 16 {
-        return false;
-    }
-    out == text
+    (key == 32) & ((iv == 12) & ((text <= 68719476704) & ((tag == 16) & (out == text))))
 }
 
 // AES-256-GCM with no associated data: the sealed text into out, which is as long as text, and the tag's 16 bytes.

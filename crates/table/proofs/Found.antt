@@ -141,17 +141,3 @@ taken-at table clock i e = by (firstFrom isFree 0 table) refl e
     by Nowhere q f =
         let first = scan-first (lapsed clock) 0 i table f .0 in
         (rw z at (first .within), inr (scan-none isFree 0 table q, rw z at (first .passes)))
-
--- a setup takes none exactly if none is free, and none has an expiry at or before now
-pub taken-nowhere : (table : List Record) (clock : ℕ) → taken table clock ≡ Nowhere → None isFree table × None (lapsed clock) table
-unfolding taken
-taken-nowhere table clock e = by (firstFrom isFree 0 table) refl e
-  where
-    by : (p : Place) → firstFrom isFree 0 table ≡ p → orElse p (firstFrom (lapsed clock) 0 table) ≡ Nowhere
-        → None isFree table × None (lapsed clock) table
-    by (At j) q f = let w : _≡_ {A = ℕ} 0 1 = cc in absurd (omega arith)
-    by Nowhere q f = (scan-none isFree 0 table q, scan-none (lapsed clock) 0 table f)
-
-pub nowhere-taken : (table : List Record) (clock : ℕ) → None isFree table → None (lapsed clock) table → taken table clock ≡ Nowhere
-unfolding taken
-nowhere-taken table clock free late = rw (none-scan isFree 0 table free) (none-scan (lapsed clock) 0 table late)

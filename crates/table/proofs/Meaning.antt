@@ -20,13 +20,10 @@ use Rattle.cells.proofs.Equality.{same-equal}
 use Rattle.table.proofs.Tests.{both, refuted, holds-used, used-holds}
 use Rattle.table.proofs.Found.{some-passes, none-passes}
 
-zero-is : (n : ℕ) → eqb n 0 ≡ true → n ≡ 0
-zero-is n e = eqb-true n 0 e
-
 traceless-is : (r : Record) → traceless r ≡ true → (r .highest ≡ 0) × (r .bits ≡ 0)
 traceless-is r e =
     let parts = both _ _ e in
-    (zero-is (r .highest) (parts .0), zero-is (r .bits) (parts .1))
+    (eqb-true (r .highest) 0 (parts .0), eqb-true (r .bits) 0 (parts .1))
 
 blank-is : (r : Record) → r .used ≡ 0 → blank r ≡ true → r ≡ freed
 blank-is r u e =
@@ -34,7 +31,7 @@ blank-is r u e =
     let any = both _ _ (expiry .1) in
     let rest = both _ _ (any .1) in
     let trace = traceless-is r (rest .0) in
-    alike freed u (same-equal (r .iv) (freed .iv) (rest .1)) (zero-is (r .expiry) (expiry .0)) (zero-is (r .any) (any .0)) (trace .0) (trace .1)
+    alike freed u (same-equal (r .iv) (freed .iv) (rest .1)) (eqb-true (r .expiry) 0 (expiry .0)) (eqb-true (r .any) 0 (any .0)) (trace .0) (trace .1)
 
 window-is : (r : Record) → r .used ≡ 1 → windowSound r ≡ true → Sound r
 window-is r u e = by (eqb (r .any) 0) refl e
@@ -42,10 +39,10 @@ window-is r u e = by (eqb (r .any) 0) refl e
     by : (t : Bool) → eqb (r .any) 0 ≡ t → cond t (traceless r) (eqb (r .any) 1 && bit (r .bits) 0) ≡ true → Sound r
     by true p f = record {
       used = inr u;
-      any = inl (zero-is (r .any) p);
+      any = inl (eqb-true (r .any) 0 p);
       free = λ z. absurd (omega arith);
       new = λ z. traceless-is r f;
-      lowest = λ o q. absurd (omega (arith, zero-is (r .any) p));
+      lowest = λ o q. absurd (omega (arith, eqb-true (r .any) 0 p));
     }
     by false p f =
         let parts = both _ _ f in
@@ -73,7 +70,7 @@ unfolding sound
 sound-is r e = by (isFree r) refl e
   where
     by : (t : Bool) → isFree r ≡ t → cond t (blank r) (isUsed r && windowSound r) ≡ true → Sound r
-    by true p f = subst (λ (x : Record). Sound x) (sym (blank-is r (zero-is (r .used) p) f)) freed-sound
+    by true p f = subst (λ (x : Record). Sound x) (sym (blank-is r (eqb-true (r .used) 0 p) f)) freed-sound
     by false p f =
         let parts = both _ _ f in
         window-is r (eqb-true (r .used) 1 (parts .0)) (parts .1)

@@ -245,8 +245,3 @@ records-stored bytes i r h f =
 
 pub freed-fits : Fits freed
 freed-fits = record { used = lit< tt; iv = refl; expiry = lit< tt; any = lit< tt; highest = lit< tt; bits = lit< tt }
-
--- and so does a freed place
-pub records-freed : (bytes : List ℕ) (i : ℕ) → i < places bytes → records (spliced bytes (size * i) (recordBytes freed)) ≡ set (records bytes) i freed
-records-freed bytes i h =
-    records-stored bytes i freed h freed-fits

@@ -14,8 +14,8 @@ use Rattle.table.specs.declared.place.Place.the-variants.{Nowhere}
 use Rattle.table.specs.Record.{freed}
 use Rattle.table.specs.Table.{holds, found}
 use Rattle.table.specs.WellFormed.{Sound, WellFormed}
-use Rattle.table.proofs.Tests.{refuted, holds-used, used-holds}
-use Rattle.table.proofs.Found.{scan-set, found-nowhere, nowhere-found}
+use Rattle.table.proofs.Tests.{used-holds}
+use Rattle.table.proofs.Found.{scan-set, found-nowhere}
 
 equal-or-not : (i j : ℕ) → (i ≡ j) ⊎ (i ≡ j → ⊥)
 equal-or-not i j = by (eqb i j) refl
@@ -41,27 +41,24 @@ module _ (table : List Record) (i : ℕ) (r : Record) (h : i < length table) whe
   pub stored-well : WellFormed table → Sound r → Alone table i r → WellFormed (set table i r)
   stored-well w s a = record { each = λ j l. each j (rw length-set at l) (equal-or-not j i); apart = λ j k l m. apart j k (rw length-set at l) (rw length-set at m) (equal-or-not j i) (equal-or-not k i) }
     where
-      new : List Record
-      new = set table i r
-
       each : (j : ℕ) → j < length table → (j ≡ i) ⊎ (j ≡ i → ⊥) → Sound (getD (set table i r) j freed)
       each j l (inl e) = subst (λ (x : Record). Sound x) (sym (ap (λ (k : ℕ). getD (set table i r) k freed) e ∙ stored-here)) s
       each j l (inr n) = subst (λ (x : Record). Sound x) (sym (stored-other j n)) (w .each j l)
+
+      clash : (j k : ℕ) → k < length table → j ≡ i → (k ≡ i → ⊥) → getD (set table i r) j freed .used ≡ 1 → getD (set table i r) k freed .used ≡ 1
+          → getD (set table i r) j freed .iv ≡ getD (set table i r) k freed .iv → ⊥
+      clash j k m p q u v e =
+          let here = ap (λ (n : ℕ). getD (set table i r) n freed) p ∙ stored-here in
+          let there = stored-other k q in
+          a (sym (ap (λ (x : Record). x .used) here) ∙ u) k m q (sym (ap (λ (x : Record). x .used) there) ∙ v)
+          (sym (ap (λ (x : Record). x .iv) there) ∙ sym e ∙ ap (λ (x : Record). x .iv) here)
 
       apart : (j k : ℕ) → j < length table → k < length table → (j ≡ i) ⊎ (j ≡ i → ⊥) → (k ≡ i) ⊎ (k ≡ i → ⊥)
           → getD (set table i r) j freed .used ≡ 1 → getD (set table i r) k freed .used ≡ 1
           → getD (set table i r) j freed .iv ≡ getD (set table i r) k freed .iv → j ≡ k
       apart j k l m (inl p) (inl q) u v e = p ∙ sym q
-      apart j k l m (inl p) (inr q) u v e =
-          let here = ap (λ (n : ℕ). getD (set table i r) n freed) p ∙ stored-here in
-          let there = stored-other k q in
-          absurd (a (sym (ap (λ (x : Record). x .used) here) ∙ u) k m q (sym (ap (λ (x : Record). x .used) there) ∙ v)
-          (sym (ap (λ (x : Record). x .iv) there) ∙ sym e ∙ ap (λ (x : Record). x .iv) here))
-      apart j k l m (inr p) (inl q) u v e =
-          let here = ap (λ (n : ℕ). getD (set table i r) n freed) q ∙ stored-here in
-          let there = stored-other j p in
-          absurd (a (sym (ap (λ (x : Record). x .used) here) ∙ v) j l p (sym (ap (λ (x : Record). x .used) there) ∙ u)
-          (sym (ap (λ (x : Record). x .iv) there) ∙ e ∙ ap (λ (x : Record). x .iv) here))
+      apart j k l m (inl p) (inr q) u v e = absurd (clash j k m p q u v e)
+      apart j k l m (inr p) (inl q) u v e = absurd (clash k j l q p v u (sym e))
       apart j k l m (inr p) (inr q) u v e =
           let here = stored-other j p in
           let there = stored-other k q in
@@ -72,21 +69,6 @@ module _ (table : List Record) (i : ℕ) (r : Record) (h : i < length table) whe
   pub found-kept : (iv : List ℕ) → holds iv r ≡ holds iv (getD table i freed) → found (set table i r) iv ≡ found table iv
   unfolding found
   found-kept iv e = scan-set (holds iv) 0 i r table e
-
-  -- and under one that the old record held and the new one does not
-  pub found-gone : (iv : List ℕ) → WellFormed table → holds iv (getD table i freed) ≡ true → holds iv r ≡ false
-      → found (set table i r) iv ≡ Nowhere
-  found-gone iv w e n = nowhere-found (set table i r) iv (λ j l. by j (rw length-set at l) (equal-or-not j i))
-    where
-      by : (j : ℕ) → j < length table → (j ≡ i) ⊎ (j ≡ i → ⊥) → holds iv (getD (set table i r) j freed) ≡ false
-      by j l (inl p) = ap (λ (k : ℕ). holds iv (getD (set table i r) k freed)) p ∙ ap (holds iv) stored-here ∙ n
-      by j l (inr p) =
-          ap (holds iv) (stored-other j p)
-          ∙ refuted (holds iv (getD table j freed))
-          (λ f.
-          let here = holds-used iv (getD table i freed) e in
-          let there = holds-used iv (getD table j freed) f in
-          p (w .apart j i l h (there .0) (here .0) (there .1 ∙ sym (here .1))))
 
 -- the IV of a new record was not found
 pub alone-new : (table : List Record) (i : ℕ) (r : Record) → found table (r .iv) ≡ Nowhere → Alone table i r

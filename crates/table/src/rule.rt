@@ -1,9 +1,10 @@
 // Whether the table is well formed.
 ghost use mathlib.Core.Path.{_≡_};
-ghost use Prim.Native.Nat.{_+_, _<_};
+ghost use mathlib.Core.Bool.{not};
+ghost use Prim.Native.Nat.{_+_, _≤_, _<_};
 ghost use lib.ListN.{drop};
-ghost use Rattle.table.specs.Table.{places, recordAt, records};
-ghost use Rattle.table.specs.WellFormed.{traceless, blank, windowSound, sound, fitting, wellFormed};
+ghost use Rattle.table.specs.Table.{places, recordAt, records, holds};
+ghost use Rattle.table.specs.WellFormed.{traceless, blank, windowSound, sound, some, fitting, wellFormed};
 use super::place;
 use super::place::Place;
 use super::session;
@@ -14,28 +15,16 @@ use super::session::SIZE;
 fn no_trace(session: Record) -> bool
     ensures { λ r. ⌜ r ≡ traceless session ⌝ }
 {
-    if session.highest != 0 {
-        return false;
-    }
-    session.bits == 0
+    (session.highest == 0) & (session.bits == 0)
 }
 
 // Whether a record holds zeros, its first mark apart.
 fn holds_zeros(session: Record) -> bool
     ensures { λ r. ⌜ r ≡ blank session ⌝ }
 {
-    if session.expiry != 0 {
-        return false;
-    }
-    if session.any != 0 {
-        return false;
-    }
-    if !no_trace(session) {
-        return false;
-    }
     let iv = session.iv;
     let zeros = [0u8; 12];
-    cells::same(&iv, &zeros)
+    (session.expiry == 0) & ((session.any == 0) & (no_trace(session) & cells::same(&iv, &zeros)))
 }
 
 // Whether mark, nonce and bits fit each other.
@@ -45,10 +34,7 @@ fn window_sound(session: Record) -> bool
     if session.any == 0 {
         return no_trace(session);
     }
-    if session.any != 1 {
-        return false;
-    }
-    session.bits % 2 == 1
+    (session.any == 1) & (session.bits % 2 == 1)
 }
 
 fn record_sound(session: Record) -> bool
@@ -57,10 +43,7 @@ fn record_sound(session: Record) -> bool
     if session.used == 0 {
         return holds_zeros(session);
     }
-    if session.used != 1 {
-        return false;
-    }
-    window_sound(session)
+    (session.used == 1) & window_sound(session)
 }
 
 // Whether the record at a place is sound, and no record after it has its IV where it is used.
@@ -69,14 +52,19 @@ fn fits_at(table: &[u8], place: usize) -> bool
     ensures { λ r. ⌜ r ≡ fitting (recordAt (now (table .entry)) place) (drop (place + 1) (records (now (table .entry)))) ⌝ }
 {
     let here = session::read(table, place);
-    if !record_sound(here) {
-        return false;
-    }
     if here.used != 1 {
-        return true;
+        return record_sound(here);
     }
     let iv = here.iv;
-    match place::find_from(table, place + 1, &iv) {
+    record_sound(here) & stands_nowhere(table, place + 1, &iv)
+}
+
+// Whether no used record from `start` on has this IV.
+fn stands_nowhere(table: &[u8], start: usize, iv: &[u8]) -> bool
+    requires { ⌜ start ≤ places (now table) ⌝ }
+    ensures { λ r. ⌜ r ≡ not (some (holds (now (iv .entry))) (drop start (records (now (table .entry))))) ⌝ }
+{
+    match place::find_from(table, start, iv) {
         Place::At(_) => false,
         Place::Nowhere => true,
     }

@@ -8,9 +8,6 @@ use Rattle.orders.proofs.Orders.{few-names}
 use Rattle.orders.proofs.extra_bits.Statement.{statement}
 use Rattle.orders.proofs.extra_bits.Tie as tie
 
-returns : tie.Need-returns
-returns c = chosen-none _ ∙ sym (extra-none (c .before .args .extra .now) (c .if1 .taken))
-
 returns-2 : tie.Need-returns-2
 returns-2 c =
     let extra = c .before .args .extra .now in
@@ -18,4 +15,4 @@ returns-2 c =
     ∙ chosen-all 8 (extraNames extra) (few-names extra (c .before .pre))
 
 pub extra-bits-spec : {M : Type 1} → statement M
-extra-bits-spec = tie.close (tie.spec returns returns-2)
+extra-bits-spec = tie.close (tie.spec (λ c. chosen-none _ ∙ sym (extra-none (c .before .args .extra .now) (c .if1 .taken))) returns-2)

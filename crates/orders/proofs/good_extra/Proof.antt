@@ -1,4 +1,4 @@
--- `good_extra` meets its contract, one test after the other.
+-- `good_extra` meets its contract.
 -- Assumes nothing.
 use borrow.Author.Needs.{needs}
 use borrow.Author.Tests.{le-leb, lt-leb}
@@ -22,32 +22,14 @@ returns-2 c = simp (lt-leb _ _ (c .if2 .taken))
 returns-3 : tie.Need-returns-3
 unfolding goodExtra
 returns-3 c =
-    let before = c .before .before .before .before in
-    let extra = before .before .args .extra .now in
-    simp (extra-some extra (c .before .before .before .if1 .left), le-leb (length extra) 128 (c .before .before .if2 .left), ← (c .before .name-count .ensures), lt-leb _ _ (c .if3 .taken))
-
-returns-4 : tie.Need-returns-4
-unfolding goodExtra
-returns-4 c =
-    let before = c .before .before .before in
-    let extra = before .before .before .before .before .before .args .extra .now in
+    let short = c .before .before .before .before in
     simp (
       c .good-names .ensures,
-      extra-some extra (before .before .before .before .if1 .left),
-      le-leb (length extra) 128 (before .before .before .if2 .left),
-      ← (before .before .name-count .ensures),
-      le-leb _ _ (before .if3 .left),
+      c .before .before .name-count .ensures,
+      extra-some (short .before .before .before .args .extra .now) (short .before .if1 .left),
+      le-leb _ _ (short .if2 .left),
     )
 
 pub good-extra-spec : {M : Type 1} → statement M
 good-extra-spec =
-    tie.close
-    (tie.spec
-    returns
-    returns-2
-    (λ c κs. search needs)
-    returns-3
-    (λ c κs. search needs)
-    (λ c. search needs)
-    (λ c κs. search needs)
-    returns-4)
+    tie.close (tie.spec returns returns-2 (λ c κs. search needs) (λ c κs. search needs) (λ c. search needs) (λ c κs. search needs) returns-3)

@@ -17,9 +17,6 @@ Inv-loop a b i₀ i = (i ≤ length a) × (length a ≡ length b) × (sameName a
 abbrev μ-loop : tie.MeasureT-loop
 μ-loop a b i₀ i = length a - i
 
-returns : tie.Need-returns Inv-loop μ-loop
-returns c = sym (other-length _ _ (c .if1 .taken))
-
 returns-2 : tie.Need-returns-2 Inv-loop μ-loop
 returns-2 c =
     let at = c .before .before .before .before .before .before .loop in
@@ -47,7 +44,7 @@ same-name-spec =
     (tie.spec
     Inv-loop
     μ-loop
-    returns
+    (λ c. sym (other-length _ _ (c .if1 .taken)))
     (λ c. (omega arith, search needs, refl))
     (λ c. search needs)
     (λ c κs. search needs)

@@ -7,17 +7,6 @@ use Rattle.orders.proofs.Tokens.{marked-token}
 use Rattle.orders.proofs.token_byte.Statement.{statement}
 use Rattle.orders.proofs.token_byte.Tie as tie
 
-returns : tie.Need-returns
-returns c = simp (lt-ltb _ _ (c .if1 .taken)) at (marked-token (c .before .args .b) (omega arith))
-
-returns-2 : tie.Need-returns-2
-returns-2 c =
-    simp (le-ltb _ _ (c .before .if1 .left), lt-ltb _ _ (c .if2 .taken)) at (marked-token (c .before .before .args .b) (omega arith))
-
-returns-3 : tie.Need-returns-3
-returns-3 c =
-    simp (le-ltb _ _ (c .before .if1 .left), le-ltb _ _ (c .if2 .left)) at (marked-token (c .before .before .args .b) (omega arith))
-
 pub token-byte-spec : {M : Type 1} → statement M
 token-byte-spec =
-    tie.close (tie.spec (λ c. search needs) returns (λ c. search needs) (λ c. search needs) returns-2 returns-3)
+    tie.close (tie.spec (λ c. search needs) (λ c. simp (lt-ltb _ _ (c .if1 .taken)) at (marked-token (c .before .args .b) (omega arith))) (λ c. search needs) (λ c. search needs) (λ c. simp (le-ltb _ _ (c .before .if1 .left), lt-ltb _ _ (c .if2 .taken)) at (marked-token (c .before .before .args .b) (omega arith))) (λ c. simp (le-ltb _ _ (c .before .if1 .left), le-ltb _ _ (c .if2 .left)) at (marked-token (c .before .before .args .b) (omega arith))))

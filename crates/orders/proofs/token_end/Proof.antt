@@ -16,9 +16,6 @@ Inv-loop run at i₀ i = Passed tokenByte run at i
 abbrev μ-loop : tie.MeasureT-loop
 μ-loop run at i₀ i = length run - i
 
-loop-holds : tie.Need-loop-holds Inv-loop μ-loop
-loop-holds c = passed-none tokenByte _ _ (c .before .pre)
-
 returns : tie.Need-returns Inv-loop μ-loop
 returns c =
     passed-stop tokenByte _ _ _ (c .before .before .before .before .loop .inv) (search needs)
@@ -29,20 +26,17 @@ loop-again c =
     passed-more tokenByte _ _ _ (c .before .before .before .before .loop .inv) (search needs)
     (sym (c .before .token-byte .ensures) ∙ not-false _ (c .if1 .left))
 
-returns-2 : tie.Need-returns-2 Inv-loop μ-loop
-returns-2 c = passed-end tokenByte _ _ _ (c .before .loop .inv) (c .loop-test .left)
-
 pub token-end-spec : {M : Type 1} → statement M
 token-end-spec =
     tie.close
     (tie.spec
     Inv-loop
     μ-loop
-    loop-holds
+    (λ c. passed-none tokenByte _ _ (c .before .pre))
     (λ c. search needs)
     (λ c κs. search needs)
     returns
     (λ c. search needs)
     (λ c. search needs)
     loop-again
-    returns-2)
+    (λ c. passed-end tokenByte _ _ _ (c .before .loop .inv) (c .loop-test .left)))

@@ -9,8 +9,4 @@ unfolding found
 returns c = c .find-from .ensures
 
 pub find-spec : {M : Type 1} → statement M
-find-spec =
-    tie.close
-    (tie.spec
-    (λ c κs. search needs)
-    returns)
+find-spec = tie.close (tie.spec (λ c κs. search needs) returns)

@@ -13,10 +13,4 @@ returns c =
     ap (λ (n : ℕ). leb n (start .args .clock)) (c .load32 .ensures ∙ sym (expiry-at (start .args .table .now) (start .args .place) (start .pre)))
 
 pub has-lapsed-spec : {M : Type 1} → statement M
-has-lapsed-spec =
-    tie.close
-    (tie.spec
-    (λ c. search needs)
-    (λ c. search needs)
-    (λ c κs. search needs)
-    returns)
+has-lapsed-spec = tie.close (tie.spec (λ c. search needs) (λ c. search needs) (λ c κs. search needs) returns)

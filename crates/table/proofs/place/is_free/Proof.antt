@@ -13,9 +13,4 @@ returns c =
     sym (ap (λ (n : ℕ). eqb n 0) (used-at (start .args .table .now) (start .args .place) (start .pre)))
 
 pub is-free-spec : {M : Type 1} → statement M
-is-free-spec =
-    tie.close
-    (tie.spec
-    (λ c. search needs)
-    (λ c. search needs)
-    returns)
+is-free-spec = tie.close (tie.spec (λ c. search needs) (λ c. search needs) returns)

@@ -5,9 +5,6 @@ use Rattle.table.proofs.Records.{cleared}
 use Rattle.table.proofs.session.free.Statement.{statement}
 use Rattle.table.proofs.session.free.Tie as tie
 
-returns : tie.Need-returns
-returns c = cleared _ _ _ (omega arith) (omega arith) (c .before .before .clear .ensures)
-
 pub free-spec : {M : Type 1} → statement M
 free-spec =
     tie.close
@@ -19,4 +16,4 @@ free-spec =
     (λ c. search needs)
     (λ c κs. search needs)
     (λ c. search needs)
-    returns)
+    (λ c. cleared _ _ _ (omega arith) (omega arith) (c .before .before .clear .ensures)))

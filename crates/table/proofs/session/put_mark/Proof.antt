@@ -12,9 +12,4 @@ returns c =
     stored (a .out .now) (a .x ∷ []) (a .at) (omega arith)
 
 pub put-mark-spec : {M : Type 1} → statement M
-put-mark-spec =
-    tie.close
-    (tie.spec
-    (λ c. search needs)
-    (λ c. search needs)
-    returns)
+put-mark-spec = tie.close (tie.spec (λ c. search needs) (λ c. search needs) returns)

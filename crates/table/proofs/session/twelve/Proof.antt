@@ -6,8 +6,5 @@ use Rattle.cells.proofs.Runs.{fronted-whole}
 use Rattle.table.proofs.session.twelve.Statement.{statement}
 use Rattle.table.proofs.session.twelve.Tie as tie
 
-returns : tie.Need-returns
-returns c = c .before .put-front .ensures ∙ fronted-whole _ _ (omega arith)
-
 pub twelve-spec : {M : Type 1} → statement M
-twelve-spec = tie.close (tie.spec (λ c. search needs) (λ c κs. search needs) returns)
+twelve-spec = tie.close (tie.spec (λ c. search needs) (λ c κs. search needs) (λ c. c .before .put-front .ensures ∙ fronted-whole _ _ (omega arith)))

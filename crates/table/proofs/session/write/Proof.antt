@@ -10,9 +10,6 @@ use Rattle.table.proofs.session.write.Tie as tie
 iv-long : (start : tie.Start) → length (start .args .session .iv) ≡ 12
 iv-long start = search needs
 
-put-at-requires : tie.Need-put-at-requires
-put-at-requires c κs = omega (arith, iv-long (c .before .before .before .before .before .before .before .before))
-
 returns : tie.Need-returns
 returns c =
     let highest = c .before .before .before .before .before in
@@ -31,7 +28,7 @@ write-spec =
     (tie.spec
     (λ c κs. search needs)
     (λ c. search needs)
-    put-at-requires
+    (λ c κs. omega (arith, iv-long (c .before .before .before .before .before .before .before .before)))
     (λ c κs. search needs)
     (λ c κs. search needs)
     (λ c κs. search needs)

@@ -3,8 +3,5 @@ use borrow.Author.Needs.{needs}
 use Rattle.table.proofs.session.Record.with_window.Statement.{statement}
 use Rattle.table.proofs.session.Record.with_window.Tie as tie
 
-returns : tie.Need-returns
-returns c = simp (c .mark .ensures)
-
 pub with-window-spec : {M : Type 1} → statement M
-with-window-spec = tie.close (tie.spec (λ c κs. search needs) returns)
+with-window-spec = tie.close (tie.spec (λ c κs. search needs) (λ c. simp (c .mark .ensures)))
