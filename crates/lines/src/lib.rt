@@ -33,10 +33,7 @@ pub fn repeats(mask: u64, extra: &[u8], block: &[u8]) -> bool
     ensures { λ r. ⌜ r ≡ repeated (coveredNames mask (now (extra .entry))) (linesIn (now (block .entry))) ⌝ }
 {
     let table = orders::names();
-    if repeats_in(block, &table, mask / 2) {
-        return true;
-    }
-    repeats_in(block, extra, orders::extra_bits(extra))
+    repeats_in(block, &table, mask / 2) | repeats_in(block, extra, orders::extra_bits(extra))
 }
 
 fn repeats_in(block: &[u8], run: &[u8], wanted: u64) -> bool
@@ -240,8 +237,5 @@ fn back(block: &[u8], start: usize, end: usize) -> usize
 fn is_blank(b: u8) -> bool
     ensures { λ r. ⌜ r ≡ blank b ⌝ }
 {
-    if b == 32 {
-        return true;
-    }
-    b == 9
+    (b == 32) | (b == 9)
 }

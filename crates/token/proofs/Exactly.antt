@@ -1,34 +1,28 @@
 -- The text of a token, and the token that is found in a text, belong together; so do sealing a token and opening it.
 -- Assumes nothing.
-use mathlib.Core.Bool.{Bool, true, false, cond, _&&_}
+use mathlib.Core.Bool.{Bool, true, false, cond, _&&_, and-eq-true-iff}
 use mathlib.Core.List.{List, [], _∷_}
 use mathlib.Core.Option.{Option, none, some}
 use mathlib.Core.Path.{_≡_, refl, sym, ap, _∙_}
-use Prim.Native.Nat.{ℕ, _≤_}
+use Prim.Native.Nat.{ℕ}
 use borrow.Author.Tests.{eqb-true, leb-true, ltb-true, eq-eqb, le-leb, lt-ltb}
-use lib.ListN.{length}
 use Rattle.cells.specs.Runs.{same}
 use Rattle.cells.proofs.Equality.{same-equal, same-self}
-use Rattle.gcm.specs.Gcm.{sealed}
-use Rattle.gcm.proofs.Opening.{opened-sealed, length-crypted}
+use Rattle.gcm.proofs.Opening.{opened-sealed}
 use Rattle.netstring.specs.Decimal.{decimal, valueAfter}
 use Rattle.netstring.specs.Netstring.{netstrings}
 use Rattle.netstring.proofs.Numerals.{value-decimal}
 use Rattle.token.specs.Token.{Token, fits, tokenText, sealedToken, frontPart, afterPart, candidate, tokenIn, tokenFrom, openedToken}
 use Rattle.token.proofs.Fronts.{front-part, after-part}
-use Rattle.token.proofs.Text.{Sized, length-text}
-
-both : (a b : Bool) → (a && b) ≡ true → (a ≡ true) × (b ≡ true)
-both true b e = (refl, e)
-both false b e = (e, cc)
+use Rattle.token.proofs.Text.{Sized}
 
 -- what it says that a token fits
 pub fits-means : (t : Token) → fits t ≡ true → Sized (t .key) (t .id) (t .expiry)
 unfolding fits
 fits-means t h =
-    let one = both _ _ h in
-    let two = both _ _ (one .1) in
-    let three = both _ _ (two .1) in
+    let one = and-eq-true-iff _ _ .0 h in
+    let two = and-eq-true-iff _ _ .0 (one .1) in
+    let three = and-eq-true-iff _ _ .0 (two .1) in
     record {
       key-size = eqb-true _ _ (one .0);
       id-some = leb-true _ _ (two .0);
@@ -66,7 +60,7 @@ token-exactly text t e = by _ refl e
     by : (b : Bool) → (fits (candidate text) && same text (tokenText (candidate text))) ≡ b → cond b (some (candidate text)) none ≡ some t
         → (text ≡ tokenText t) × (fits t ≡ true)
     by true p f =
-        let parts = both _ _ p in
+        let parts = and-eq-true-iff _ _ .0 p in
         let it : candidate text ≡ t = cc in
         (same-equal text (tokenText (candidate text)) (parts .1) ∙ ap tokenText it, ap fits (sym it) ∙ parts .0)
     by false p f = (cc, cc)
@@ -91,8 +85,3 @@ pub opened-token : (serverKey iv : List ℕ) (t : Token) → fits t ≡ true
     → openedToken serverKey iv (sealedToken serverKey iv t .cipher) (sealedToken serverKey iv t .tag) ≡ some t
 unfolding openedToken sealedToken
 opened-token serverKey iv t h = ap tokenFrom (opened-sealed serverKey iv [] (tokenText t)) ∙ token-found t h
-
--- and it is no longer than an X-S-Armor value's s may be
-pub length-sealed : (serverKey iv : List ℕ) (t : Token) → fits t ≡ true → length (sealedToken serverKey iv t .cipher) ≤ 118
-unfolding sealedToken sealed
-length-sealed serverKey iv t h = rw (length-crypted serverKey iv (tokenText t)) (length-text t (fits-means t h) .1)

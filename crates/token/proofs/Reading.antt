@@ -31,12 +31,12 @@ from-wrong none e = refl
 from-wrong (some text) e = cc
 
 -- an answer that holds no token
-pub unseals-none : (o : Option Token) (r : Unsealed) → o ≡ none → r .good ≡ false → Unseals o r
-unseals-none o r e bad = record { is = bad ∙ ap given (sym e); holds = λ good. absurd (false≢true (sym bad ∙ good)) }
+pub unseals-none : {o : Option Token} {r : Unsealed} → o ≡ none → r .good ≡ false → Unseals o r
+unseals-none e bad = record { is = bad ∙ ap given (sym e); holds = λ good. absurd (false≢true (sym bad ∙ good)) }
 
 -- an answer that holds one
-pub unseals-some : (o : Option Token) (t : Token) (r : Unsealed) → o ≡ some t → r .good ≡ true → Holds t r → Unseals o r
-unseals-some o t r e good holds = record { is = good ∙ ap given (sym e); holds = λ _. subst (λ (p : Option Token). Holds (theToken p) r) (sym e) holds }
+pub unseals-some : {o : Option Token} {t : Token} {r : Unsealed} → o ≡ some t → r .good ≡ true → Holds t r → Unseals o r
+unseals-some {r = r} e good holds = record { is = good ∙ ap given (sym e); holds = λ _. subst (λ (p : Option Token). Holds (theToken p) r) (sym e) holds }
 
 abbrev parts : Token → List (List ℕ)
 parts t = t .key ∷ t .id ∷ decimal (t .expiry) ∷ []
@@ -52,10 +52,11 @@ module _ (key id digits : List ℕ) where
       let t : Token = record { key = key; id = id; expiry = n } in
       ap (λ (l : List ℕ). tokenIn (netstrings (key ∷ id ∷ l ∷ []))) e ∙ token-found t (fits-so t s)
 
-  pub no-token-of : ((n : ℕ) → Sized key id n → digits ≡ decimal n → ⊥) → tokenIn three ≡ none
+  pub no-token-of : {r : Unsealed} → ((n : ℕ) → Sized key id n → digits ≡ decimal n → ⊥) → r .good ≡ false → Unseals (tokenIn three) r
   unfolding tokenText
   no-token-of never =
-      no-token three
+      unseals-none
+      (no-token three
       (λ t fit e.
       let same : key ∷ id ∷ digits ∷ [] ≡ parts t =
       netstrings-determined (key ∷ id ∷ digits ∷ []) (parts t) [] [] refl (append-nil _ ∙ e ∙ sym (append-nil _)) .0
@@ -63,7 +64,7 @@ module _ (key id digits : List ℕ) where
       let one : key ≡ t .key = cc in
       let two : id ≡ t .id = cc in
       let s = fits-means t fit in
-      never (t .expiry) (record { key-size = ap length one ∙ s .key-size; id-some = rw two (s .id-some); id-fits = rw two (s .id-fits); in-range = s .in-range }) (cc))
+      never (t .expiry) (record { key-size = ap length one ∙ s .key-size; id-some = rw two (s .id-some); id-fits = rw two (s .id-fits); in-range = s .in-range }) (cc)))
 
 netstrings-append : (xs ys : List (List ℕ)) → netstrings (xs ++ ys) ≡ netstrings xs ++ netstrings ys
 unfolding netstrings
@@ -71,19 +72,17 @@ netstrings-append [] ys = refl
 netstrings-append (x ∷ xs) ys = ap (λ (l : List ℕ). netstring x ++ l) (netstrings-append xs ys) ∙ sym (append-assoc (netstring x) (netstrings xs) (netstrings ys))
 
 -- these parts stand before byte at
-abbrev pub Passed : List ℕ → List (List ℕ) → ℕ → Type 0
-Passed text xs at = text ≡ netstrings xs ++ drop at text
+pub record Passed (text : List ℕ) (xs : List (List ℕ)) (at : ℕ) : Type 0 where
+  pub is : text ≡ netstrings xs ++ drop at text
 
-pub none-passed : (text : List ℕ) → Passed text [] 0
+pub none-passed : {text : List ℕ} → Passed text [] 0
 unfolding netstrings
-none-passed text = refl
+none-passed = record { is = refl }
 
-module _ (text : List ℕ) (xs : List (List ℕ)) (at : ℕ) (so : Passed text xs at) where
-  pub passed-more : (start end next : ℕ) → PartAt text at start end next → Passed text (xs ++ (part text start (end - start) ∷ [])) next
+module _ {text : List ℕ} {xs : List (List ℕ)} {at : ℕ} (so : Passed text xs at) where
+  pub passed-more : {start end next : ℕ} → PartAt text at start end next → Passed text (xs ++ (part text start (end - start) ∷ [])) next
   unfolding netstrings
-  passed-more start end next p =
-      so ∙ ap (λ (l : List ℕ). netstrings xs ++ l) (p .text)
-      ∙ simp (netstrings-append, append-assoc)
+  passed-more p = record { is = so .is ∙ ap (λ (l : List ℕ). netstrings xs ++ l) (p .text) ∙ simp (netstrings-append, append-assoc) }
 
   -- what is left is the rest of a token's parts
   left-over : length xs ≤ 3 → (t : Token) → text ≡ tokenText t → drop at text ≡ netstrings (drop (length xs) (parts t))
@@ -91,23 +90,25 @@ module _ (text : List ℕ) (xs : List (List ℕ)) (at : ℕ) (so : Passed text x
   left-over few t e =
       netstrings-determined xs (take (length xs) (parts t)) (drop at text) (netstrings (drop (length xs) (parts t)))
       (sym (length-take-le (length xs) (parts t) few))
-      (sym so ∙ e ∙ ap netstrings (sym (take-append-drop (length xs) (parts t))) ∙ netstrings-append (take (length xs) (parts t)) (drop (length xs) (parts t))) .1
+      (sym (so .is) ∙ e ∙ ap netstrings (sym (take-append-drop (length xs) (parts t))) ∙ netstrings-append (take (length xs) (parts t)) (drop (length xs) (parts t))) .1
 
-  pub no-part : length xs < 3 → NoPart text at → tokenIn text ≡ none
+  pub no-part : {r : Unsealed} → length xs < 3 → NoPart text at → r .good ≡ false → Unseals (tokenIn text) r
   unfolding netstrings
   no-part few missing =
-      no-token text
+      unseals-none
+      (no-token text
       (λ t fit e.
       missing (getD (parts t) (length xs) []) (netstrings (drop (suc (length xs)) (parts t)))
-      (left-over (omega arith) t e ∙ ap netstrings (drop-cons (parts t) (length xs) [] few)))
+      (left-over (omega arith) t e ∙ ap netstrings (drop-cons (parts t) (length xs) [] few))))
 
-  pub more-follows : length xs ≡ 3 → at < length text → tokenIn text ≡ none
+  pub more-follows : {r : Unsealed} → length xs ≡ 3 → at < length text → r .good ≡ false → Unseals (tokenIn text) r
   unfolding netstrings
   more-follows all more =
-      no-token text
+      unseals-none
+      (no-token text
       (λ t fit e.
       let left : drop at text ≡ [] = left-over (omega arith) t e ∙ ap (λ (n : ℕ). netstrings (drop n (parts t))) all in
-      omega (arith, length-drop at text, ap length left))
+      omega (arith, length-drop at text, ap length left)))
 
   pub all-passed : length text ≤ at → text ≡ netstrings xs
-  all-passed end = so ∙ ap (λ (l : List ℕ). netstrings xs ++ l) (drop-of-length-le text end) ∙ append-nil (netstrings xs)
+  all-passed end = so .is ∙ ap (λ (l : List ℕ). netstrings xs ++ l) (drop-of-length-le text end) ∙ append-nil (netstrings xs)

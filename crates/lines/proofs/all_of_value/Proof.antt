@@ -28,9 +28,6 @@ loop-again c =
     let turn = c .before .before .before in
     (omega arith, ap₂ _&&_ (turn .loop .inv .1) (c .value-byte .ensures) ∙ all-more valueByte _ (turn .loop .i) (c .before .before .loop-test .taken))
 
-returns : tie.Need-returns Inv-loop μ-loop
-returns c = c .before .loop .inv .1 ∙ ap (all valueByte) (take-all (c .before .loop .i) _ (c .loop-test .left))
-
 pub all-of-value-spec : {M : Type 1} → statement M
 all-of-value-spec =
     tie.close
@@ -43,4 +40,4 @@ all-of-value-spec =
     (λ c. search needs)
     (λ c. search needs)
     loop-again
-    returns)
+    (λ c. c .before .loop .inv .1 ∙ ap (all valueByte) (take-all (c .before .loop .i) _ (c .loop-test .left))))

@@ -3,15 +3,14 @@
 use borrow.Author.Needs.{needs}
 use mathlib.Core.Path.{_≡_, refl, sym, ap, _∙_}
 use mathlib.Core.List.{List}
-use mathlib.Core.Option.{some}
-use Prim.Native.Nat.{ℕ, _≤_, _-_}
+use Prim.Native.Nat.{_≤_, _-_}
 use native.Mathlib.Omega.{arith}
 use lib.ListN.{length, drop}
 use Rattle.lines.specs.Lines.{Line, linesIn}
 use Rattle.lines.specs.Values.{timesNamed, valueIn}
 use Rattle.lines.specs.Places.{WholeLine}
 use Rattle.lines.proofs.Lines.{lines-stop}
-use Rattle.lines.proofs.Named.{lines-at, lines-end, value-here, value-later, value-none, times-here, times-later, times-none}
+use Rattle.lines.proofs.Named.{lines-at, lines-end}
 use Rattle.lines.proofs.find.Statement.{statement}
 use Rattle.lines.proofs.find.Tie as tie
 
@@ -29,16 +28,18 @@ line : (c : tie.After-colon Inv-loop μ-loop)
 line c = rw (c .colon .given .1) at (c .before .before .line-at .ensures)
 
 returns : tie.Need-returns Inv-loop μ-loop
+unfolding valueIn timesNamed
 returns c =
     let at = c .before .before .before .before .loop in
     let name = c .before .before .before .before .before .before .before .args .name .now in
     let none = lines-stop _ (rw (c .enum-told .given .1) at (c .before .before .line-at .ensures)) in
     record {
-      value = at .inv .1 ∙ ap (λ (ls : List Line). valueIn ls name) none ∙ value-none name;
-      times = at .inv .2 ∙ ap (λ (ls : List Line). timesNamed ls name) none ∙ times-none name;
+      value = at .inv .1 ∙ ap (λ (ls : List Line). valueIn ls name) none;
+      times = at .inv .2 ∙ ap (λ (ls : List Line). timesNamed ls name) none;
     }
 
 returns-2 : tie.Need-returns-2 Inv-loop μ-loop
+unfolding valueIn timesNamed
 returns-2 c =
     let at = c .before .before .before .before .before .before .before .before .before .loop in
     let args = c .before .before .before .before .before .before .before .before .before .before .before .before .args in
@@ -50,11 +51,12 @@ returns-2 c =
       ordered = trims .ordered;
       within = omega (arith, trims .within, here .within);
       after = here .within;
-      value = at .inv .1 ∙ ap (λ (ls : List Line). valueIn ls (args .name .now)) lines ∙ value-here _ _ _ same ∙ ap (λ (v : List ℕ). some v) (trims .is);
-      times = at .inv .2 ∙ ap (λ (ls : List Line). timesNamed ls (args .name .now)) lines ∙ times-here _ _ _ same;
+      value = at .inv .1 ∙ ap (λ (ls : List Line). valueIn ls (args .name .now)) lines ∙ simp (same, trims .is);
+      times = at .inv .2 ∙ ap (λ (ls : List Line). timesNamed ls (args .name .now)) lines ∙ simp same (omega arith);
     }
 
 loop-again : tie.Need-loop-again Inv-loop μ-loop
+unfolding valueIn timesNamed
 loop-again c =
     let at = c .before .before .before .before .before .before .before .before .loop in
     let args = c .before .before .before .before .before .before .before .before .before .before .before .args in
@@ -62,18 +64,19 @@ loop-again c =
     let lines = lines-at (args .block .now) (at .place) _ _ here in
     let other = sym (c .before .same-name .ensures) ∙ c .if1 .left in (
       here .within,
-      at .inv .1 ∙ ap (λ (ls : List Line). valueIn ls (args .name .now)) lines ∙ value-later _ _ _ other,
-      at .inv .2 ∙ ap (λ (ls : List Line). timesNamed ls (args .name .now)) lines ∙ times-later _ _ _ other,
+      at .inv .1 ∙ ap (λ (ls : List Line). valueIn ls (args .name .now)) lines ∙ simp other,
+      at .inv .2 ∙ ap (λ (ls : List Line). timesNamed ls (args .name .now)) lines ∙ simp other (omega arith),
     )
 
 returns-3 : tie.Need-returns-3 Inv-loop μ-loop
+unfolding valueIn timesNamed
 returns-3 c =
     let at = c .before .loop in
     let args = c .before .before .before .before .args in
     let none = lines-end (args .block .now) (at .place) (c .loop-test .left) in
     record {
-      value = at .inv .1 ∙ ap (λ (ls : List Line). valueIn ls (args .name .now)) none ∙ value-none (args .name .now);
-      times = at .inv .2 ∙ ap (λ (ls : List Line). timesNamed ls (args .name .now)) none ∙ times-none (args .name .now);
+      value = at .inv .1 ∙ ap (λ (ls : List Line). valueIn ls (args .name .now)) none;
+      times = at .inv .2 ∙ ap (λ (ls : List Line). timesNamed ls (args .name .now)) none;
     }
 
 pub find-spec : {M : Type 1} → statement M

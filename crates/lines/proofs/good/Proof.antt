@@ -34,9 +34,6 @@ loop-again : tie.Need-loop-again Inv-loop μ-loop
 loop-again c =
     let here = line (c .before) in (here .within, c .before .before .before .before .before .loop .inv .1 ∙ good-at _ _ _ _ here)
 
-returns-2 : tie.Need-returns-2 Inv-loop μ-loop
-returns-2 c = sym (c .before .loop .inv .1 ∙ good-end _ _ (c .loop-test .left))
-
 pub good-spec : {M : Type 1} → statement M
 good-spec =
     tie.close
@@ -51,4 +48,4 @@ good-spec =
     (λ c. omega (arith, line (c .before)))
     (λ c. omega (arith, line (c .before)))
     loop-again
-    returns-2)
+    (λ c. sym (c .before .loop .inv .1 ∙ good-end _ _ (c .loop-test .left))))

@@ -8,9 +8,6 @@ use Rattle.lines.proofs.Places.{whole, named-at, colon-at, return-at, f
 use Rattle.lines.proofs.line_at.Statement.{statement}
 use Rattle.lines.proofs.line_at.Tie as tie
 
-returns : tie.Need-returns
-returns c = λ l rest g h. let more = named-at _ _ l rest g h _ (c .before .token-end .ensures) in omega arith
-
 returns-2 : tie.Need-returns-2
 returns-2 c = λ l rest g h.
     c .if2 .taken (c .before .byte-at .ensures ∙ colon-at _ _ l rest g h _ (c .before .before .before .token-end .ensures))
@@ -48,7 +45,7 @@ line-at-spec =
     tie.close
     (tie.spec
     (λ c κs. search needs)
-    returns
+    (λ c. λ l rest g h. let more = named-at _ _ l rest g h _ (c .before .token-end .ensures) in omega arith)
     (λ c κs. search needs)
     returns-2
     (λ c. search needs)

@@ -1,9 +1,9 @@
 -- `repeats` meets its contract: the 55 names first, and then the extra ones.
 -- Assumes nothing.
 use borrow.Author.Needs.{needs}
-use mathlib.Core.Path.{sym, ap, _∙_}
+use mathlib.Core.Path.{sym, ap, ap₂, _∙_}
 use mathlib.Core.List.{List}
-use mathlib.Core.Bool.{Bool, _||_}
+use mathlib.Core.Bool.{_||_}
 use Prim.Native.Nat.{ℕ}
 use Rattle.orders.specs.Extra.{extraNames}
 use Rattle.orders.proofs.Walk.{covered-names}
@@ -15,23 +15,13 @@ use Rattle.lines.proofs.repeats.Tie as tie
 
 returns : tie.Need-returns
 returns c =
-    let args = c .before .before .before .before .before .before .args in
+    let first = c .before .before in
+    let args = first .before .before .before .before .before .args in
     let ls = linesIn (args .block .now) in
-    sym
-    (ap (λ (ns : List (List ℕ)). repeated ns ls) (covered-names (args .mask) (args .extra .now) _ (c .before .before .before .names .ensures))
-    ∙ repeated-append _ (extraNames (args .extra .now)) ls
-    ∙ ap (λ (b : Bool). b || repeated (extraNames (args .extra .now)) ls) (sym (c .before .repeats-in .ensures) ∙ c .if1 .taken))
-
-returns-2 : tie.Need-returns-2
-returns-2 c =
-    let before = c .before .before .before in
-    let args = before .before .before .before .before .before .args in
-    let ls = linesIn (args .block .now) in
-    c .repeats-in2 .ensures ∙ ap (λ (ns : List (List ℕ)). repeated ns ls) (c .before .extra-bits .ensures)
+    ap₂ _||_ (first .repeats-in .ensures) (c .repeats-in2 .ensures ∙ ap (λ (ns : List (List ℕ)). repeated ns ls) (c .before .extra-bits .ensures))
     ∙ sym
-    (ap (λ (ns : List (List ℕ)). repeated ns ls) (covered-names (args .mask) (args .extra .now) _ (before .before .before .names .ensures))
-    ∙ repeated-append _ (extraNames (args .extra .now)) ls
-    ∙ ap (λ (b : Bool). b || repeated (extraNames (args .extra .now)) ls) (sym (before .repeats-in .ensures) ∙ c .before .before .if1 .left))
+    (ap (λ (ns : List (List ℕ)). repeated ns ls) (covered-names (args .mask) (args .extra .now) _ (first .before .before .names .ensures))
+    ∙ repeated-append _ (extraNames (args .extra .now)) ls)
 
 pub repeats-spec : {M : Type 1} → statement M
 repeats-spec =
@@ -40,7 +30,6 @@ repeats-spec =
     (λ c κs. search needs)
     (λ c. search needs)
     (λ c κs. search needs)
-    returns
     (λ c κs. search needs)
     (λ c κs. search needs)
-    returns-2)
+    returns)

@@ -10,7 +10,6 @@ use Rattle.orders.specs.Orders.{chosen}
 use Rattle.orders.specs.Walk.{namesFrom, FirstName}
 use Rattle.lines.specs.Lines.{linesIn}
 use Rattle.lines.specs.Values.{repeated}
-use Rattle.lines.proofs.Named.{repeated-none, repeated-here, repeated-later}
 use Rattle.lines.proofs.repeats_in.Statement.{statement}
 use Rattle.lines.proofs.repeats_in.Tie as tie
 
@@ -27,25 +26,28 @@ name : (c : tie.After-start Inv-loop μ-loop)
 name c = rw (c .start .given .1) at (c .before .before .next-name .ensures)
 
 returns : tie.Need-returns Inv-loop μ-loop
+unfolding repeated
 returns c =
     let block = c .before .before .before .before .before .before .args .block .now in
     let none = rw (c .enum-told .given .1) at (c .before .before .next-name .ensures) in
-    sym (c .before .before .before .loop .inv ∙ ap (λ (ns : List (List ℕ)). repeated ns (linesIn block)) none ∙ repeated-none (linesIn block))
+    sym (c .before .before .before .loop .inv ∙ ap (λ (ns : List (List ℕ)). repeated ns (linesIn block)) none)
 
 returns-2 : tie.Need-returns-2 Inv-loop μ-loop
+unfolding repeated
 returns-2 c =
     let before = c .before .before .before .before in
     let block = before .before .before .before .before .before .before .args .block .now in
     sym
     (before .before .before .before .loop .inv ∙ ap (λ (ns : List (List ℕ)). repeated ns (linesIn block)) (name before .names)
-    ∙ repeated-here _ _ _ (sym (c .before .twice .ensures) ∙ c .if1 .taken))
+    ∙ simp (← (c .before .twice .ensures), c .if1 .taken))
 
 loop-again : tie.Need-loop-again Inv-loop μ-loop
+unfolding repeated
 loop-again c =
     let before = c .before .before .before .before in
     let block = before .before .before .before .before .before .before .args .block .now in
     before .before .before .before .loop .inv ∙ ap (λ (ns : List (List ℕ)). repeated ns (linesIn block)) (name before .names)
-    ∙ repeated-later _ _ _ (sym (c .before .twice .ensures) ∙ c .if1 .left)
+    ∙ simp (← (c .before .twice .ensures), c .if1 .left)
 
 pub repeats-in-spec : {M : Type 1} → statement M
 repeats-in-spec =

@@ -5,8 +5,5 @@ use Rattle.lines.proofs.Bytes.{tested-value}
 use Rattle.lines.proofs.value_byte.Statement.{statement}
 use Rattle.lines.proofs.value_byte.Tie as tie
 
-returns : tie.Need-returns
-returns c = tested-value (c .args .b) (omega arith)
-
 pub value-byte-spec : {M : Type 1} → statement M
-value-byte-spec = tie.close (tie.spec returns)
+value-byte-spec = tie.close (tie.spec (λ c. tested-value (c .args .b) (omega arith)))

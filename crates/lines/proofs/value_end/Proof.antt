@@ -32,9 +32,6 @@ loop-again c =
     passed-more valueByte _ _ _ (c .before .before .before .before .loop .inv) (search needs)
     (sym (c .before .value-byte .ensures) ∙ not-false _ (c .if1 .left))
 
-returns-2 : tie.Need-returns-2 Inv-loop μ-loop
-returns-2 c = passed-end valueByte _ _ _ (c .before .loop .inv) (c .loop-test .left)
-
 pub value-end-spec : {M : Type 1} → statement M
 value-end-spec =
     tie.close
@@ -49,4 +46,4 @@ value-end-spec =
     (λ c. search needs)
     (λ c. search needs)
     loop-again
-    returns-2)
+    (λ c. passed-end valueByte _ _ _ (c .before .loop .inv) (c .loop-test .left)))

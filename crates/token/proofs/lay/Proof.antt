@@ -38,9 +38,6 @@ write-requires-3 c κs =
     let third = ap (λ (l : List ℕ). length (netstring l)) (shown-piece (s .args .expiry) (r .result) (r .ensures)) in
     omega (arith, s .pre, room _ _ _ (sized s), w .ensures .0, w .kept .1 .0, x .ensures .0, x .kept .1 .0, third)
 
-same-length : tie.Need-same-length
-same-length c = search needs
-
 returns : tie.Need-returns
 unfolding tokenText
 returns c =
@@ -73,5 +70,5 @@ lay-spec =
     (λ c. search needs)
     (λ c. search needs)
     write-requires-3
-    same-length
+    (λ c. search needs)
     returns)

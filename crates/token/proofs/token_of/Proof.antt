@@ -9,31 +9,9 @@ use Rattle.cells.specs.Runs.{fronted}
 use Rattle.cells.proofs.Runs.{fronted-whole}
 use Rattle.netstring.specs.Decimal.{decimal}
 use Rattle.token.proofs.Text.{Sized}
-use Rattle.token.proofs.Reading.{unseals-none, unseals-some, token-of, no-token-of}
+use Rattle.token.proofs.Reading.{unseals-some, token-of, no-token-of}
 use Rattle.token.proofs.token_of.Statement.{statement}
 use Rattle.token.proofs.token_of.Tie as tie
-
-returns : tie.Need-returns
-returns c =
-    let a = c .before .before .before .before .before .args in
-    unseals-none _ _ (no-token-of (a .key .now) (a .id .now) (a .digits .now) (λ n s e. c .before .if1 .taken (s .key-size))) (c .nothing .ensures)
-
-returns-2 : tie.Need-returns-2
-returns-2 c =
-    let a = c .before .before .before .before .before .before .args in
-    unseals-none _ _ (no-token-of (a .key .now) (a .id .now) (a .digits .now) (λ n s e. omega (arith, c .before .if2 .taken, s .id-some))) (c .nothing2 .ensures)
-
-returns-3 : tie.Need-returns-3
-returns-3 c =
-    let a = c .before .before .before .before .before .before .before .args in
-    unseals-none _ _ (no-token-of (a .key .now) (a .id .now) (a .digits .now) (λ n s e. omega (arith, c .before .if3 .taken, s .id-fits))) (c .nothing3 .ensures)
-
-returns-4 : tie.Need-returns-4
-returns-4 c =
-    let a = c .before .before .before .before .before .before .before .before .before .before .args in
-    unseals-none _ _
-    (no-token-of (a .key .now) (a .id .now) (a .digits .now) (λ n s e. (rw (c .before .enum-told .given .1) at (c .before .before .before .read .ensures)) n (s .in-range) e))
-    (c .nothing4 .ensures)
 
 -- the expiry that was read
 known : (c : tie.After-known-told) → (c .before .before .before .before .before .before .before .before .before .before .args .digits .now ≡ decimal (c .before .expiry .given .0 .0)) × (c .before .expiry .given .0 .0 < 2 ^ 32)
@@ -48,7 +26,7 @@ returns-5 c =
     let k = known (c .before .before .before .before .before .before) in
     let sized : Sized key id (c .before .before .before .before .before .before .before .expiry .given .0 .0) =
     record { key-size = c .before .before .before .before .before .before .before .before .before .before .before .before .if1 .left; id-some = omega (arith, c .before .before .before .before .before .before .before .before .before .before .before .if2 .left); id-fits = omega (arith, c .before .before .before .before .before .before .before .before .before .before .if3 .left); in-range = k .1 } in
-    unseals-some _ _ _ (token-of key id (a .digits .now) _ sized (k .0)) refl
+    unseals-some (token-of key id (a .digits .now) _ sized (k .0)) refl
     (record {
       key = c .before .before .before .before .put-front .ensures ∙ fronted-whole key _ (sized .key-size);
       id = rw (c .before .put-front2 .ensures) (take-append-seam id _);
@@ -63,16 +41,16 @@ token-of-spec =
     tie.close
     (tie.spec
     (λ c κs. search needs)
-    returns
+    (λ c. no-token-of _ _ _ (λ n s e. c .before .if1 .taken (s .key-size)) (c .nothing .ensures))
     (λ c κs. search needs)
-    returns-2
+    (λ c. no-token-of _ _ _ (λ n s e. omega (arith, c .before .if2 .taken, s .id-some)) (c .nothing2 .ensures))
     (λ c κs. search needs)
-    returns-3
+    (λ c. no-token-of _ _ _ (λ n s e. omega (arith, c .before .if3 .taken, s .id-fits)) (c .nothing3 .ensures))
     (λ c κs. search needs)
     (λ c. search needs)
     (λ c. search needs)
     (λ c κs. search needs)
-    returns-4
+    (λ c. no-token-of _ _ _ (λ n s e. (rw (c .before .enum-told .given .1) at (c .before .before .before .read .ensures)) n (s .in-range) e) (c .nothing4 .ensures))
     (λ c. search needs)
     (λ c κs. search needs)
     (λ c. search needs)

@@ -45,7 +45,7 @@ unfolding openedToken
 returns-2 c =
     let a = c .before .before .before .before .before .before .before .before .before .before .args in
     let u = c .before .before .before .before .unseal in
-    unseals-none _ _ (from-wrong (opened (a .server-key .now) (a .iv .now) [] (a .s .now) (a .tag .now)) (sym (u .ensures .0) ∙ c .before .enum-told2 .given .1)) (c .nothing .ensures)
+    unseals-none (from-wrong (opened (a .server-key .now) (a .iv .now) [] (a .s .now) (a .tag .now)) (sym (u .ensures .0) ∙ c .before .enum-told2 .given .1)) (c .nothing .ensures)
 
 pub unseal-spec : {M : Type 1} → statement M
 unseal-spec =

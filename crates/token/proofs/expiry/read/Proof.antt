@@ -15,12 +15,6 @@ use Rattle.token.proofs.Digits.{only-number}
 use Rattle.token.proofs.expiry.read.Statement.{statement}
 use Rattle.token.proofs.expiry.read.Tie as tie
 
-returns : tie.Need-returns
-returns c = λ n below e. omega (arith, c .if1 .taken, decimal-length 9 n (omega arith), ap length e)
-
-returns-2 : tie.Need-returns-2
-returns-2 c = λ n below e. omega (arith, c .if2 .taken, c .before .value .ensures, only-number (c .before .before .before .before .args .digits .now) n e)
-
 -- what was compared
 compared : (c : tie.After-same) → c .same .result ≡ same (c .before .before .before .before .before .before .before .before .before .args .digits .now) (decimal (c .before .before .before .before .before .before .value .result))
 compared c = c .same .ensures ∙ ap (same (c .before .before .before .before .before .before .before .before .before .args .digits .now)) (shown-piece _ (c .before .before .before .before .digits .result) (c .before .before .before .before .digits .ensures))
@@ -42,9 +36,9 @@ pub read-spec : {M : Type 1} → statement M
 read-spec =
     tie.close
     (tie.spec
-    returns
+    (λ c. λ n below e. omega (arith, c .if1 .taken, decimal-length 9 n (omega arith), ap length e))
     (λ c κs. search needs)
-    returns-2
+    (λ c. λ n below e. omega (arith, c .if2 .taken, c .before .value .ensures, only-number (c .before .before .before .before .args .digits .now) n e))
     (λ c κs. search needs)
     (λ c. search needs)
     (λ c. search needs)

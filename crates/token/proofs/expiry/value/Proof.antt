@@ -21,9 +21,6 @@ loop-holds : tie.Need-loop-holds Inv-loop μ-loop
 unfolding valueAfter
 loop-holds c = (omega arith, refl, omega arith)
 
-mul-value : tie.Need-mul-value Inv-loop μ-loop
-mul-value c = omega (arith, bounded (c .before .loop .i) (c .before .loop .value) (omega (arith, c .before .before .before .pre)) (c .before .loop .inv .2))
-
 add-value : tie.Need-add-value Inv-loop μ-loop
 add-value c =
     let w = c .before .before .before .loop in
@@ -50,7 +47,7 @@ value-spec =
     Inv-loop
     μ-loop
     loop-holds
-    mul-value
+    (λ c. omega (arith, bounded (c .before .loop .i) (c .before .loop .value) (omega (arith, c .before .before .before .pre)) (c .before .loop .inv .2)))
     (λ c. search needs)
     (λ c κs. search needs)
     add-value
