@@ -1,7 +1,7 @@
 -- How the answers of a request's stages make up its number, and its effect.
 -- Assumes nothing.
 use mathlib.Core.Path.{_≡_, refl, sym, ap, subst, _∙_}
-use mathlib.Core.Bool.{Bool, true, false, true≢false, cond, not, _||_}
+use mathlib.Core.Bool.{Bool, true, false, true≢false, cond, not, _&&_, _||_, and-true}
 use mathlib.Core.List.{List, [], _++_}
 use mathlib.Core.Option.{Option, none, some, Option·getD}
 use Prim.Native.Nat.{ℕ, _≤_, _<_}
@@ -18,11 +18,14 @@ use Rattle.armor.specs.Fields.{requestFields}
 use Rattle.armor.specs.Answers.{answerNumber, requestFrom, requestAnswer, Holds}
 use Rattle.signed.specs.SignedText.{requestText}
 use Rattle.table.proofs.Tests.{both}
+use Rattle.table.proofs.Records.{length-recordBytes}
+use Rattle.table.proofs.Single.{one-place, single-record, single-found}
 use Rattle.table.specs.declared.session.Record.{Record}
 use Rattle.table.specs.declared.place.Place.{Place}
-use Rattle.table.specs.declared.place.Place.the-variants.{At}
-use Rattle.table.specs.Record.{windowOf, withWindow}
-use Rattle.table.specs.Table.{recordAt}
+use Rattle.table.specs.declared.place.Place.the-variants.{At, Nowhere}
+use Rattle.table.specs.Record.{freed, recordBytes, Fits, windowOf, withWindow}
+use Rattle.table.specs.Table.{places, records, choose, holds, Within}
+use Rattle.table.specs.WellFormed.{wellFormed}
 use Rattle.token.specs.Token.{Token, openedToken}
 use Rattle.token.specs.Held as T
 use Rattle.token.specs.declared.Unsealed.{Unsealed}
@@ -35,13 +38,14 @@ use Rattle.window.specs.Window.{numberOf, stepOf}
 use Rattle.gate.specs.declared.vouching.Vouched.{Vouched}
 use Rattle.gate.specs.declared.admitting.Admitted.{Admitted}
 use Rattle.gate.specs.declared.judge.Decision.{Decision}
+use Rattle.reply.specs.Replies.{invalidation}
 use Rattle.gate.specs.Calls.{Request}
-use Rattle.gate.specs.Outcome.{Outcome}
-use Rattle.gate.specs.Sizes.{between, exactly, tableFits, requestFits}
-use Rattle.gate.specs.Checks.{first, missing, nowhere, tableChecks, entryChecks}
-use Rattle.gate.specs.Session.{placeOf, heldAt, with-record, steppedIn}
-use Rattle.gate.specs.Judge.{fieldsOf, ivOf, nonceOf, timeOf, lastTimeOf, signatureOf, openedOf, tokenOf, limits, textOf, codeOf, ordered, stepped, entryPart, readingPart, tokenPart, signaturePart, vouchingPart, sessionPart, noncePart, admittingPart, requestChecks, accepted, invalidated, invalidates, effect, outcomeAt, judged}
-use Rattle.gate.specs.Stages.{tells, decisionOf, About, Vouches, Admits, Settles, Decides, applied}
+use Rattle.gate.specs.Outcome.{untouched, replied}
+use Rattle.gate.specs.Sizes.{between, exactly, tableFits, lentFits, requestFits}
+use Rattle.gate.specs.Checks.{first, ordersBad, missing, nowhere, tableChecks, entryChecks}
+use Rattle.gate.specs.Session.{placeOf, heldAt, with-record}
+use Rattle.gate.specs.Judge.{fieldsOf, ivOf, nonceOf, timeOf, lastTimeOf, signatureOf, openedOf, tokenOf, limits, textOf, codeOf, ordered, stepped, nextOf, entryPart, readingPart, tokenPart, signaturePart, vouchingPart, sessionPart, noncePart, admittingPart, requestChecks, invalidates, tableAfter, answered, outcomeAt, judged}
+use Rattle.gate.specs.Stages.{tells, decisionOf, About, Vouches, StandsAt, Admits, Settles, Decides, leftBy, answeredBy}
 use Rattle.gate.proofs.Numbers.{Entered, first-small, request-small, lacks, first-lacks, passed-by, stopped-by, reading-numbered, reading-ten, reading-thirteen, vouching-numbered}
 
 -- what reading a value says of its grammar and its fields
@@ -122,11 +126,18 @@ module _ (q : Request) (r : ArmorRequest) (h : Holds (q .value) (carried (q .val
       vouched z = record { is = sym (compared ∙ simp z); holds = λ n. held }
 
 module _ (q : Request) (table : List ℕ) where
-  -- the window's answer in a session that is there
-  pub stepped-held : (iv : List ℕ) (n place : ℕ) (r : Record) (w : Window) (s : Stepped) → ivOf q ≡ iv → nonceOf q ≡ n
-      → placeOf table iv ≡ At place → r ≡ recordAt table place → w ≡ windowOf r → s ≡ stepOf w n → s ≡ stepped q table
-  unfolding stepped
-  stepped-held iv n place r w s named nonce there held window step = rw (named, nonce, there, ← held, ← window) step
+  -- the window's answer in a session that is there, and its record after it
+  module _ (place : Place) (held : Record) (s : StandsAt q table place held) (there : nowhere place ≡ false) where
+    held-there : held ≡ heldAt table (placeOf table (ivOf q))
+    held-there = sym (s .holds there) ∙ ap (heldAt table) (sym (s .at))
+
+    pub stepped-held : (n : ℕ) (w : Window) (answer : Stepped) → nonceOf q ≡ n → w ≡ windowOf held → answer ≡ stepOf w n → answer ≡ stepped q table
+    unfolding stepped
+    stepped-held n w answer nonce window step = rw (nonce, ← held-there, ← window) step
+
+    pub next-held : (answer : Stepped) (w : Window) (next : Record) → answer ≡ stepped q table → w ≡ answer .window → next ≡ withWindow held w → next ≡ nextOf q table
+    unfolding nextOf
+    next-held answer w next a b c = rw (← a, ← b, ← held-there) c
 
   -- a session that is there, neither idle nor asked too late
   pub record InTime : Type 0 where
@@ -135,7 +146,7 @@ module _ (q : Request) (table : List ℕ) where
     pub young : exceeds (q .clock) (timeOf q) (limits q .«request_life») ≡ false
 
   pub turned-away : (r : Admitted) (k : ℕ) → r .number ≡ k → 1 ≤ k → first (admittingPart q table) ≡ k → Admits q table r
-  turned-away r k e least f = record { is = e ∙ sym f; steps = λ z o. absurd (omega (arith, e)) }
+  turned-away r k e least f = record { is = e ∙ sym f; next = λ z o. absurd (omega (arith, e)) }
 
   pub window-first : InTime → ordered q ≡ true → (v : Verdict) → stepped q table .verdict ≡ v → first (admittingPart q table) ≡ numberOf v
   unfolding sessionPart noncePart
@@ -147,6 +158,17 @@ module _ (q : Request) (table : List ℕ) where
   unfolding sessionPart noncePart
   unordered-first i o = simp (i .there, i .active, i .young, o)
 
+-- the answer of `refused`
+abbrev Refused : Decision → ℕ → Type 0
+Refused d n = (d .number ≡ n) × (d .place ≡ Nowhere)
+
+pub told : (n : ℕ) → invalidates n ≡ true → tells n ≡ true
+told n e = by (eqb n 0)
+  where
+    by : (b : Bool) → (b || invalidates n) ≡ true
+    by true = refl
+    by false = e
+
 -- the effects of 0, 10 and 13 alone need the session
 tells-none : (n : ℕ) → (n ≡ 0 → ⊥) → (n ≡ 10 → ⊥) → (n ≡ 13 → ⊥) → tells n ≡ false
 tells-none n z ten thirteen = simp (ne-eqb n 0 z, ne-eqb n 10 ten, ne-eqb n 13 thirteen)
@@ -154,29 +176,30 @@ tells-none n z ten thirteen = simp (ne-eqb n 0 z, ne-eqb n 10 ten, ne-eqb n 13 t
 tells-nine : (n : ℕ) → tells n ≡ true → n ≡ 9 → ⊥
 tells-nine n t e = true≢false (sym t ∙ ap tells e)
 
-about-token : (named iv : List ℕ) (token : Token) (u : Unsealed) (number : ℕ) (nonce : Bool) (window : Window) → iv ≡ named → T.Holds token u
-    → About named token (decisionOf number iv u nonce window)
-about-token named iv token u number nonce window e h =
-    record { iv = e; key = h .key; id = h .id; id-size = h .id-size; id-fits = h .id-fits }
+about-token : (token : Token) (u : Unsealed) (number : ℕ) (place : Place) (nonces : Bool) (next : Record) → T.Holds token u
+    → About token (decisionOf number place u nonces next)
+about-token token u number place nonces next h = record { key = h .key; id = h .id; id-size = h .id-size; id-fits = h .id-fits }
 
-module _ (q : Request) (table iv : List ℕ) (named : iv ≡ ivOf q) (v : Vouched) (h : Vouches q v) (d : Decision) where
+module _ (q : Request) (table : List ℕ) (place : Place) (held : Record) (s : StandsAt q table place held) (v : Vouched) (h : Vouches q v) (d : Decision) where
   -- a request that the token or the signature does not vouch for
-  pub settled-away : (w : Window) → (v .number ≡ 0 → ⊥) → d ≡ decisionOf (v .number) iv (v .token) false w → Settles q table d
-  settled-away w z e = subst (Settles q table) (sym e) (record {
+  pub settled-away : (v .number ≡ 0 → ⊥) → d ≡ decisionOf (v .number) place (v .token) false held → Settles q table d
+  settled-away z e = subst (Settles q table) (sym e) (record {
     is = h .is ∙ sym (stopped-by (vouchingPart q) (admittingPart q table) (vouching-numbered q) (λ o. z (h .is ∙ o)));
-    knows = λ t. about-token (ivOf q) iv _ (v .token) (v .number) false w named (h .holds (tells-nine (v .number) t));
+    knows = λ t. about-token _ (v .token) (v .number) place false held (h .holds (tells-nine (v .number) t));
+    at = sym (s .at);
     orders = λ n. absurd (z n);
-    steps = λ n o. absurd (z n);
+    next = λ n o. absurd (z n);
   })
 
   -- one that they vouch for is as its session admits it
-  pub settled-here : (a : Admitted) → v .number ≡ 0 → Admits q table a → d ≡ decisionOf (a .number) iv (v .token) (ordered q) (a .window)
+  pub settled-here : (a : Admitted) → v .number ≡ 0 → Admits q table a → d ≡ decisionOf (a .number) place (v .token) (ordered q) (a .next)
       → Settles q table d
   settled-here a z g e = subst (Settles q table) (sym e) (record {
     is = g .is ∙ sym (passed-by (vouchingPart q) (admittingPart q table) (vouching-numbered q) (sym (h .is) ∙ z));
-    knows = λ t. about-token (ivOf q) iv _ (v .token) (a .number) (ordered q) (a .window) named (h .holds (λ n. omega arith));
+    knows = λ t. about-token _ (v .token) (a .number) place (ordered q) (a .next) (h .holds (λ n. omega arith));
+    at = sym (s .at);
     orders = λ n. refl;
-    steps = g .steps;
+    next = g .next;
   })
 
 -- the sizes of a request that passes check 1, as far as the later stages need them
@@ -190,15 +213,14 @@ pub record Sized (q : Request) : Type 0 where
   pub reply : 1024 ≤ length (q .reply)
 
 pub sized : (q : Request) (table : List ℕ) → requestFits q table ≡ true → Sized q
-unfolding requestFits
+unfolding requestFits lentFits
 sized q table e =
-    let key = both (exactly 32 (q .server-key)) _ e in
+    let key = both (exactly 32 (q .server-key)) _ (both (lentFits q) (tableFits table) e .0) in
     let value = both (leb (length (q .value)) 4096) _ (key .1) in
     let head = both (leb (length (q .head)) 16384) _ (value .1) in
     let aside = both (leb (length (q .aside)) 16384) _ (head .1) in
     let path = both (between 1 2048 (q .path)) _ (aside .1) in
     let body = both (leb (length (q .body)) 65536) _ (path .1) in
-    let rest = both (tableFits table) _ (body .1) in
     record {
       key = eqb-true _ _ (key .0);
       value = leb-true _ _ (value .0);
@@ -206,7 +228,7 @@ sized q table e =
       aside = leb-true _ _ (aside .0);
       path = leb-true _ _ (both (leb 1 (length (q .path))) _ (path .0) .1);
       body = leb-true _ _ (body .0);
-      reply = leb-true _ _ (rest .1);
+      reply = leb-true _ _ (body .1);
     }
 
 module _ (q : Request) (table : List ℕ) where
@@ -214,18 +236,33 @@ module _ (q : Request) (table : List ℕ) where
   unfolding requestChecks entryPart entryChecks tableChecks
   after-entry e = simp (e .sizes, e .orders, e .formed)
 
+  -- 1 to 3
+  pub ill-sized : requestFits q table ≡ false → first (requestChecks q table) ≡ 1
+  unfolding requestChecks entryPart entryChecks
+  ill-sized e = simp e
+
+  pub ill-ordered : requestFits q table ≡ true → ordersBad (q .orders) ≡ true → first (requestChecks q table) ≡ 2
+  unfolding requestChecks entryPart entryChecks
+  ill-ordered e o = simp (e, o)
+
+  pub ill-formed : requestFits q table ≡ true → ordersBad (q .orders) ≡ false → wellFormed (records table) ≡ false → first (requestChecks q table) ≡ 3
+  unfolding requestChecks entryPart entryChecks tableChecks
+  ill-formed e o w = simp (e, o, w)
+
   -- a refusal that touches nothing
-  pub refused-as : (d : Decision) (n : ℕ) → d .number ≡ n → tells n ≡ false → first (requestChecks q table) ≡ n → Decides q table d
+  pub refused-as : (d : Decision) (n : ℕ) → Refused d n → tells n ≡ false → first (requestChecks q table) ≡ n → Decides q table d
   refused-as d n e t f = record {
-    is = e ∙ sym f;
-    knows = λ z. absurd (true≢false (sym z ∙ ap tells e ∙ t));
-    room = λ z. absurd (true≢false (sym z ∙ ap tells e ∙ t));
-    orders = λ z. absurd (true≢false (sym (ap tells (sym e ∙ z)) ∙ t));
-    steps = λ z o. absurd (true≢false (sym (ap tells (sym e ∙ z)) ∙ t));
+    is = e .0 ∙ sym f;
+    knows = λ z. absurd (true≢false (sym z ∙ ap tells (e .0) ∙ t));
+    room = λ z. absurd (true≢false (sym z ∙ ap tells (e .0) ∙ t));
+    at = λ z. absurd (true≢false (sym z ∙ ap tells (e .0) ∙ t));
+    within = subst (Within (places table)) (sym (e .1)) tt;
+    orders = λ z. absurd (true≢false (sym (ap tells (sym (e .0) ∙ z)) ∙ t));
+    next = λ z o. absurd (true≢false (sym (ap tells (sym (e .0) ∙ z)) ∙ t));
   }
 
   -- a request that reading refuses
-  pub unread : (d : Decision) (n : ℕ) → Entered (requestFits q table) (q .orders) table → d .number ≡ n → n ≡ first (readingPart q) → (n ≡ 0 → ⊥)
+  pub unread : (d : Decision) (n : ℕ) → Entered (requestFits q table) (q .orders) table → Refused d n → n ≡ first (readingPart q) → (n ≡ 0 → ⊥)
       → Decides q table d
   unread d n entered e f z =
       refused-as d n e (tells-none n z (never 10 (reading-ten q)) (never 13 (reading-thirteen q)))
@@ -235,51 +272,121 @@ module _ (q : Request) (table : List ℕ) where
       never k l g = first-lacks k (readingPart q) (λ o. z (g ∙ o)) l (sym f ∙ g)
 
   -- one that was read is decided as its session settles it
-  pub decided-by : (d : Decision) → Entered (requestFits q table) (q .orders) table → first (readingPart q) ≡ 0 → 1024 ≤ length (q .reply) → Settles q table d → Decides q table d
-  decided-by d entered read room s = record {
+  pub decided-by : (d : Decision) → Entered (requestFits q table) (q .orders) table → first (readingPart q) ≡ 0 → 1024 ≤ length (q .reply)
+      → Within (places table) (placeOf table (ivOf q)) → Settles q table d → Decides q table d
+  decided-by d entered read room within s = record {
     is = s .is ∙ sym (after-entry entered ∙ passed-by (readingPart q) (vouchingPart q ++ admittingPart q table) (reading-numbered q) read);
     knows = s .knows;
     room = λ z. room;
+    at = λ z. s .at;
+    within = subst (Within (places table)) (sym (s .at)) within;
     orders = s .orders;
-    steps = s .steps;
+    next = s .next;
   }
 
-choose-same : {x y x' y' : Outcome} (b : Bool) → (b ≡ true → x ≡ x') → (b ≡ false → y ≡ y') → cond b x y ≡ cond b x' y'
-choose-same true f g = f refl
-choose-same false f g = g refl
-
-next-same : (table iv : List ℕ) (nonces : Bool) (w v : Window) → (nonces ≡ true → w ≡ v) → steppedIn table iv nonces w ≡ steppedIn table iv nonces v
-unfolding steppedIn
-next-same table iv true w v e = ap (λ (x : Window). with-record table (placeOf table iv) (withWindow (heldAt table (placeOf table iv)) x)) (e refl)
-next-same table iv false w v e = refl
-
-told : (n : ℕ) → invalidates n ≡ true → tells n ≡ true
-told n e = by (eqb n 0)
+-- a decision that is about nowhere changes nothing
+pub table-nowhere : (n : ℕ) (nonces : Bool) (next : Record) (table : List ℕ) → tableAfter n nonces Nowhere next table ≡ table
+unfolding tableAfter
+table-nowhere n nonces next table = by (eqb n 0) nonces (invalidates n)
   where
-    by : (b : Bool) → (b || invalidates n) ≡ true
-    by true = refl
-    by false = e
+    by : (s t u : Bool) → cond s (cond t table table) (cond u table table) ≡ table
+    by true true u = refl
+    by true false u = refl
+    by false t true = refl
+    by false t false = refl
 
+-- a table of one record: its size is right, and its session stands at the first place or nowhere
+module _ (r : Record) (f : Fits r) where
+  pub single-sizes : (q : Request) → requestFits q (recordBytes r) ≡ lentFits q
+  unfolding requestFits tableFits
+  single-sizes q = rw (length-recordBytes r (f .iv)) (and-true (lentFits q))
+
+  pub single-within : (iv : List ℕ) → Within (places (recordBytes r)) (placeOf (recordBytes r) iv)
+  single-within iv = rw (one-place r f, single-found r f iv) (by (holds iv r))
+    where
+      by : (t : Bool) → Within 1 (choose t (At 0) Nowhere)
+      by true = omega arith
+      by false = tt
+
+  pub single-held : (iv : List ℕ) (place : Place) → place ≡ placeOf (recordBytes r) iv → nowhere place ≡ false → heldAt (recordBytes r) place ≡ r
+  single-held iv place e there =
+      ap (heldAt (recordBytes r)) (e ∙ single-found r f iv) ∙ by (holds iv r) (ap nowhere (sym (e ∙ single-found r f iv)) ∙ there)
+    where
+      by : (t : Bool) → nowhere (choose t (At 0) Nowhere) ≡ false → heldAt (recordBytes r) (choose t (At 0) Nowhere) ≡ r
+      by true z = single-record r f
+      by false z = absurd (true≢false z)
+
+-- the effect, number by number
+not-zero : (n : ℕ) → invalidates n ≡ true → eqb n 0 ≡ false
+not-zero n e = by (eqb n 0) refl
+  where
+    by : (t : Bool) → eqb n 0 ≡ t → t ≡ false
+    by true z = absurd (true≢false (sym e ∙ ap invalidates (eqb-true n 0 z)))
+    by false z = refl
+
+module _ (n : ℕ) (nonces : Bool) (place : Place) (next : Record) (table : List ℕ) where
+  pub table-stepped : (eqb n 0 && nonces) ≡ true → tableAfter n nonces place next table ≡ with-record table place next
+  unfolding tableAfter
+  table-stepped e = let p = both (eqb n 0) nonces e in rw (p .0, p .1)
+
+  pub table-freed : invalidates n ≡ true → tableAfter n nonces place next table ≡ with-record table place freed
+  unfolding tableAfter
+  table-freed e = rw (not-zero n e, e)
+
+  pub table-kept : (eqb n 0 && nonces) ≡ false → invalidates n ≡ false → tableAfter n nonces place next table ≡ table
+  unfolding tableAfter
+  table-kept e u = by (eqb n 0) nonces e
+    where
+      by : (s t : Bool) → (s && t) ≡ false
+          → cond s (cond t (with-record table place next) table) (cond (invalidates n) (with-record table place freed) table) ≡ table
+      by true true z = absurd (true≢false z)
+      by true false z = refl
+      by false t z = rw u
+
+module _ (n : ℕ) (id key reply table : List ℕ) where
+  pub answered-zero : n ≡ 0 → answered n id key reply table ≡ replied 0 id reply table
+  unfolding answered
+  answered-zero e = rw e
+
+  pub answered-freed : invalidates n ≡ true → answered n id key reply table ≡ replied n (invalidation key) reply table
+  unfolding answered
+  answered-freed e = rw (not-zero n e, e)
+
+  pub answered-kept : (n ≡ 0 → ⊥) → invalidates n ≡ false → answered n id key reply table ≡ untouched n reply table
+  unfolding answered
+  answered-kept z u = rw (ne-eqb n 0 z, u)
+
+-- the effect of a decision is that of its request
 pub decided-small : (q : Request) (table : List ℕ) (d : Decision) → Decides q table d → d .number < 256
 decided-small q table d h = rw (h .is) (first-small (requestChecks q table) (request-small q table))
 
--- the effect of a decision is that of its request
 module _ (q : Request) (table : List ℕ) (d : Decision) (h : Decides q table d) where
-  accepted-same : d .number ≡ 0
-      → accepted (take (d .«id_len») (d .id)) (d .iv) (d .nonce) (d .window) (q .reply) table
-      ≡ accepted (tokenOf q .id) (ivOf q) (ordered q) (stepped q table .window) (q .reply) table
-  unfolding accepted
-  accepted-same z =
-      let known = h .knows (ap tells z) in
-      simp (known .id, known .iv, h .orders z, next-same table (ivOf q) (ordered q) (d .window) (stepped q table .window) (h .steps z))
+  by-number : {A : Type 0} (n : ℕ) (a b c a' b' c' : A) → (n ≡ 0 → a ≡ a') → (tells n ≡ true → b ≡ b') → c ≡ c'
+      → cond (eqb n 0) a (cond (invalidates n) b c) ≡ cond (eqb n 0) a' (cond (invalidates n) b' c')
+  by-number n a b c a' b' c' p r s = by (eqb n 0) (invalidates n) (λ e. p (eqb-true n 0 e)) (λ e. r (told n e))
+    where
+      by : (t u : Bool) → (t ≡ true → a ≡ a') → (u ≡ true → b ≡ b') → cond t a (cond u b c) ≡ cond t a' (cond u b' c')
+      by true u p r = p refl
+      by false true p r = r refl
+      by false false p r = s
 
-  invalidated-same : tells (d .number) ≡ true
-      → invalidated (d .number) (d .key) (d .iv) (q .reply) table ≡ invalidated (d .number) (tokenOf q .key) (ivOf q) (q .reply) table
-  invalidated-same z = let known = h .knows z in rw (known .key, known .iv)
+  stored : (nonces : Bool) → (nonces ≡ true → d .next ≡ nextOf q table) → d .place ≡ placeOf table (ivOf q)
+      → cond nonces (with-record table (d .place) (d .next)) table ≡ cond nonces (with-record table (placeOf table (ivOf q)) (nextOf q table)) table
+  stored true e p = rw (e refl, p)
+  stored false e p = refl
 
-  pub applied-judged : applied d table (q .reply) ≡ judged q table
-  unfolding effect judged
+  left-same : leftBy d table ≡ tableAfter (d .number) (ordered q) (placeOf table (ivOf q)) (nextOf q table) table
+  unfolding tableAfter
+  left-same =
+      by-number (d .number) _ _ _ _ _ _
+      (λ z. rw (h .orders z) (stored (ordered q) (h .next z) (h .at (ap tells z))))
+      (λ t. ap (λ (p : Place). with-record table p freed) (h .at t)) refl
+
+  pub applied-judged : answeredBy d (q .reply) (leftBy d table) ≡ judged q table
+  unfolding judged answered
   applied-judged =
-      choose-same (eqb (d .number) 0) (λ z. accepted-same (eqb-true (d .number) 0 z))
-      (λ refusal. choose-same (invalidates (d .number)) (λ z. invalidated-same (told (d .number) z)) (λ other. refl))
+      by-number (d .number) _ _ _ _ _ _
+      (λ z. rw (h .knows (ap tells z) .id, left-same))
+      (λ t. rw (h .knows t .key, left-same))
+      (rw left-same)
       ∙ ap (λ (n : ℕ). outcomeAt n q table) (h .is)

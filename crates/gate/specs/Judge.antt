@@ -19,16 +19,17 @@ use Rattle.coverage.specs.Coverage.{asOrdered}
 use Rattle.token.specs.Token.{Token, openedToken, given, theToken}
 use Rattle.signed.specs.SignedText.{ordersNonce, requestText}
 use Rattle.reply.specs.Replies.{invalidation}
-use Rattle.table.specs.Record.{windowOf}
+use Rattle.table.specs.declared.session.Record.{Record}
+use Rattle.table.specs.declared.place.Place.{Place}
+use Rattle.table.specs.Record.{freed, windowOf, withWindow}
 use Rattle.window.specs.declared.Stepped.{Stepped}
-use Rattle.window.specs.declared.Window.{Window}
 use Rattle.window.specs.Time.{exceeds}
 use Rattle.window.specs.Window.{numberOf, stepOf}
 use Rattle.gate.specs.Calls.{Request}
 use Rattle.gate.specs.Outcome.{Outcome, untouched, replied}
 use Rattle.gate.specs.Sizes.{requestFits}
 use Rattle.gate.specs.Checks.{Check, check, first, missing, nowhere, entryChecks}
-use Rattle.gate.specs.Session.{placeOf, heldAt, steppedIn, without}
+use Rattle.gate.specs.Session.{placeOf, heldAt, with-record}
 
 -- what the value carries
 unfoldable pub fieldsOf : Request → List Field
@@ -137,28 +138,32 @@ admittingPart q table = sessionPart q table ++ noncePart q table
 unfoldable pub requestChecks : Request → List ℕ → List Check
 requestChecks q table = entryPart q table ++ (readingPart q ++ (vouchingPart q ++ admittingPart q table))
 
--- the session id is the reply, and where nonces are ordered the session's record takes the next window
-unfoldable pub accepted : List ℕ → List ℕ → Bool → Window → List ℕ → List ℕ → Outcome
-accepted id iv ordered next reply table = replied 0 id reply (steppedIn table iv ordered next)
-
--- the session's record is freed if there is one, and the reply tells the client
-unfoldable pub invalidated : ℕ → List ℕ → List ℕ → List ℕ → List ℕ → Outcome
-invalidated n key iv reply table = replied n (invalidation key) reply (without table iv)
+-- the session's record with its window after the nonce
+unfoldable pub nextOf : Request → List ℕ → Record
+nextOf q table = withWindow (heldAt table (placeOf table (ivOf q))) (stepped q table .window)
 
 -- 10 and 13
 abbrev pub invalidates : ℕ → Bool
 invalidates n = eqb n 10 || eqb n 13
 
--- what a number does, with the token's id and key, the session's IV and its next window
-unfoldable pub effect : ℕ → List ℕ → List ℕ → List ℕ → Bool → Window → List ℕ → List ℕ → Outcome
-effect n id key iv ordered next reply table =
-    cond (eqb n 0) (accepted id iv ordered next reply table)
-    (cond (invalidates n) (invalidated n key iv reply table)
+-- the table after a number: at 0 the session's record takes the nonce where nonces are ordered, at 10 and 13 it is freed if there is one
+unfoldable pub tableAfter : ℕ → Bool → Place → Record → List ℕ → List ℕ
+tableAfter n nonces place next table =
+    cond (eqb n 0) (cond nonces (with-record table place next) table)
+    (cond (invalidates n) (with-record table place freed) table)
+
+-- the reply: at 0 the session id, at 10 and 13 the invalidation under the session key
+unfoldable pub answered : ℕ → List ℕ → List ℕ → List ℕ → List ℕ → Outcome
+answered n id key reply table =
+    cond (eqb n 0) (replied 0 id reply table)
+    (cond (invalidates n) (replied n (invalidation key) reply table)
     (untouched n reply table))
 
+-- what a number does
 abbrev pub outcomeAt : ℕ → Request → List ℕ → Outcome
 outcomeAt n q table =
-    effect n (tokenOf q .id) (tokenOf q .key) (ivOf q) (ordered q) (stepped q table .window) (q .reply) table
+    answered n (tokenOf q .id) (tokenOf q .key) (q .reply)
+    (tableAfter n (ordered q) (placeOf table (ivOf q)) (nextOf q table) table)
 
 unfoldable pub judged : Request → List ℕ → Outcome
 judged q table = outcomeAt (first (requestChecks q table)) q table

@@ -1,14 +1,12 @@
 -- The session that an IV names in a table, and how a call leaves its record: document 01, 'Orders, records and sizes'.
 -- Assumes nothing.
-use mathlib.Core.Bool.{Bool, cond}
 use mathlib.Core.List.{List}
 use Prim.Native.Nat.{ℕ, _*_}
 use Rattle.cells.specs.Runs.{spliced}
-use Rattle.window.specs.declared.Window.{Window}
 use Rattle.table.specs.declared.session.Record.{Record}
 use Rattle.table.specs.declared.place.Place.{Place}
 use Rattle.table.specs.declared.place.Place.the-variants.{At, Nowhere}
-use Rattle.table.specs.Record.{size, recordBytes, freed, withWindow}
+use Rattle.table.specs.Record.{size, recordBytes, freed}
 use Rattle.table.specs.Table.{records, recordAt, found}
 
 -- the used record with an IV: its place, and what it holds (a free record where there is none)
@@ -23,11 +21,6 @@ heldAt table Nowhere = freed
 abbrev pub with-record : List ℕ → Place → Record → List ℕ
 with-record table (At place) r = spliced table (size * place) (recordBytes r)
 with-record table Nowhere r = table
-
--- where nonces are ordered, the session's record with the next window
-unfoldable pub steppedIn : List ℕ → List ℕ → Bool → Window → List ℕ
-steppedIn table iv ordered next =
-    cond ordered (with-record table (placeOf table iv) (withWindow (heldAt table (placeOf table iv)) next)) table
 
 -- the session's record freed, if there is one
 unfoldable pub without : List ℕ → List ℕ → List ℕ

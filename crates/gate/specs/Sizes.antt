@@ -28,16 +28,19 @@ setupFits s table =
     && (tableFits table
     && leb 1024 (length (s .reply)))))))
 
-unfoldable pub requestFits : Request → List ℕ → Bool
-requestFits q table =
+-- of a request, the table apart
+unfoldable pub lentFits : Request → Bool
+lentFits q =
     exactly 32 (q .server-key)
     && (leb (length (q .value)) 4096
     && (leb (length (q .head)) 16384
     && (leb (length (q .aside)) 16384
     && (between 1 2048 (q .path)
     && (leb (length (q .body)) 65536
-    && (tableFits table
-    && leb 1024 (length (q .reply))))))))
+    && leb 1024 (length (q .reply)))))))
+
+unfoldable pub requestFits : Request → List ℕ → Bool
+requestFits q table = lentFits q && tableFits table
 
 unfoldable pub endFits : List ℕ → List ℕ → Bool
 endFits iv table = exactly 12 iv && tableFits table

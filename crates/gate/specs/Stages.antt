@@ -2,7 +2,7 @@
 -- whatever the rest of the request is.
 -- Assumes nothing.
 use mathlib.Core.Path.{_≡_}
-use mathlib.Core.Bool.{Bool, true, _||_}
+use mathlib.Core.Bool.{Bool, true, false, _||_}
 use mathlib.Core.List.{List, _++_}
 use Prim.Native.Nat.{ℕ, _≤_}
 use lib.Dec.{eqb}
@@ -15,21 +15,28 @@ use Rattle.orders.specs.declared.Limits.{Limits}
 use Rattle.token.specs.Token.{Token}
 use Rattle.token.specs.Held as T
 use Rattle.token.specs.declared.Unsealed.{Unsealed}
-use Rattle.window.specs.declared.Window.{Window}
+use Rattle.table.specs.declared.session.Record.{Record}
+use Rattle.table.specs.declared.place.Place.{Place}
+use Rattle.table.specs.Table.{places, Within}
 use Rattle.gate.specs.declared.reading.Reading.{Reading}
 use Rattle.gate.specs.declared.vouching.Vouched.{Vouched}
 use Rattle.gate.specs.declared.admitting.Admitted.{Admitted}
 use Rattle.gate.specs.declared.judge.Decision.{Decision}
 use Rattle.gate.specs.Calls.{Orders, Request, ordersOf, setupOf, requestOf}
-use Rattle.gate.specs.Outcome.{Outcome}
-use Rattle.gate.specs.Sizes.{setupFits, requestFits}
-use Rattle.gate.specs.Checks.{first}
-use Rattle.gate.specs.Judge.{ivOf, nonceOf, timeOf, lastTimeOf, tokenOf, limits, ordered, stepped, coveringPart, readingPart, vouchingPart, admittingPart, requestChecks, invalidates, effect}
+use Rattle.gate.specs.Outcome.{Outcome, outcome}
+use Rattle.gate.specs.Sizes.{setupFits, lentFits, requestFits}
+use Rattle.gate.specs.Checks.{first, nowhere}
+use Rattle.gate.specs.Session.{placeOf, heldAt}
+use Rattle.gate.specs.Judge.{ivOf, nonceOf, timeOf, lastTimeOf, tokenOf, limits, ordered, nextOf, coveringPart, readingPart, vouchingPart, admittingPart, requestChecks, invalidates, tableAfter, answered}
 
 -- the sizes of what a request and a setup lend, whatever numbers they come with
 abbrev pub RequestFits : List ℕ → List ℕ → List ℕ → List ℕ → List ℕ → List ℕ → List ℕ → List ℕ → Bool → Type 0
 RequestFits server-key value head aside path body table reply r =
     (o : Orders) (clock : ℕ) → r ≡ requestFits (requestOf o clock server-key value head aside path body reply) table
+
+abbrev pub LentFits : List ℕ → List ℕ → List ℕ → List ℕ → List ℕ → List ℕ → List ℕ → Bool → Type 0
+LentFits server-key value head aside path body reply r =
+    (o : Orders) (clock : ℕ) → r ≡ lentFits (requestOf o clock server-key value head aside path body reply)
 
 abbrev pub SetupFits : List ℕ → List ℕ → List ℕ → List ℕ → List ℕ → List ℕ → List ℕ → Bool → Type 0
 SetupFits server-key session-key iv session-id value table reply r =
@@ -61,14 +68,18 @@ VouchIs mask extra clock server-key request head aside path body r =
     (life idle session : ℕ) (value reply : List ℕ) → Holds value (carried value) request
     → Vouches (requestOf (ordersOf mask extra life idle session) clock server-key value head aside path body reply) r
 
--- 12 to 16: the number, and where it is 0 and nonces are ordered the next window
+-- 12 to 16: the number, and where it is 0 and nonces are ordered the next record
 pub record Admits (q : Request) (table : List ℕ) (r : Admitted) : Type 0 where
   pub is : r .number ≡ first (admittingPart q table)
-  pub steps : r .number ≡ 0 → ordered q ≡ true → r .window ≡ stepped q table .window
+  pub next : r .number ≡ 0 → ordered q ≡ true → r .next ≡ nextOf q table
 
--- what it is asked, of any request that asks it
-pub record Asks (q : Request) (vector : List ℕ) (now' t' lt' life' idle' : ℕ) (nonces' : Bool) (n' : ℕ) : Type 0 where
-  pub iv : ivOf q ≡ vector
+-- a request's session stands at this place of a table, or nowhere, and its record holds this
+pub record StandsAt (q : Request) (table : List ℕ) (place : Place) (held : Record) : Type 0 where
+  pub at : placeOf table (ivOf q) ≡ place
+  pub holds : nowhere place ≡ false → heldAt table place ≡ held
+
+-- what admitting is asked, of any request that asks it
+pub record Asks (q : Request) (now' t' lt' life' idle' : ℕ) (nonces' : Bool) (n' : ℕ) : Type 0 where
   pub clock : q .clock ≡ now'
   pub t : timeOf q ≡ t'
   pub lt : lastTimeOf q ≡ lt'
@@ -77,52 +88,62 @@ pub record Asks (q : Request) (vector : List ℕ) (now' t' lt' life' idle' : ℕ
   pub nonces : ordered q ≡ nonces'
   pub n : nonceOf q ≡ n'
 
-abbrev pub AdmitIs : List ℕ → List ℕ → ℕ → ℕ → ℕ → ℕ → ℕ → Bool → ℕ → Admitted → Type 0
-AdmitIs table iv clock t lt life idle nonces n r = (q : Request) → Asks q iv clock t lt life idle nonces n → Admits q table r
+abbrev pub AdmitIs : Place → Record → ℕ → ℕ → ℕ → ℕ → ℕ → Bool → ℕ → Admitted → Type 0
+AdmitIs place held clock t lt life idle nonces n r =
+    (q : Request) (table : List ℕ) → StandsAt q table place held → Asks q clock t lt life idle nonces n → Admits q table r
 
 -- a number whose effect needs the session: 0, 10 and 13
 abbrev pub tells : ℕ → Bool
 tells n = eqb n 0 || invalidates n
 
-abbrev pub decisionOf : ℕ → List ℕ → Unsealed → Bool → Window → Decision
-decisionOf number iv token nonce window = record {
+abbrev pub decisionOf : ℕ → Place → Unsealed → Bool → Record → Decision
+decisionOf number place token nonces next = record {
   number = number;
-  iv = iv;
+  place = place;
   key = token .key;
   id = token .id;
   «id_len» = token .«id_len»;
-  nonce = nonce;
-  window = window;
+  nonces = nonces;
+  next = next;
 }
 
--- the session that a decision is about
-pub record About (named : List ℕ) (token : Token) (d : Decision) : Type 0 where
-  pub iv : d .iv ≡ named
+-- the token that a decision is about
+pub record About (token : Token) (d : Decision) : Type 0 where
   pub key : d .key ≡ token .key
   pub id : take (d .«id_len») (d .id) ≡ token .id
   pub id-size : d .«id_len» ≡ length (token .id)
   pub id-fits : d .«id_len» ≤ 64
 
--- 9 to 16: the number, and where its effect needs them the session and the next window
+-- 9 to 16: the number, and where its effect needs them the token, the place and the next record
 pub record Settles (q : Request) (table : List ℕ) (d : Decision) : Type 0 where
   pub is : d .number ≡ first (vouchingPart q ++ admittingPart q table)
-  pub knows : tells (d .number) ≡ true → About (ivOf q) (tokenOf q) d
-  pub orders : d .number ≡ 0 → d .nonce ≡ ordered q
-  pub steps : d .number ≡ 0 → ordered q ≡ true → d .window ≡ stepped q table .window
+  pub knows : tells (d .number) ≡ true → About (tokenOf q) d
+  pub at : d .place ≡ placeOf table (ivOf q)
+  pub orders : d .number ≡ 0 → d .nonces ≡ ordered q
+  pub next : d .number ≡ 0 → ordered q ≡ true → d .next ≡ nextOf q table
 
-abbrev pub SettleIs : ℕ → List ℕ → ℕ → List ℕ → ArmorRequest → Limits → List ℕ → List ℕ → List ℕ → List ℕ → List ℕ → Decision → Type 0
-SettleIs mask extra clock server-key request limits head aside path body table d =
-    (life idle session : ℕ) (value reply : List ℕ) → Holds value (carried value) request → limits ≡ limitsOf life idle session
-    → Settles (requestOf (ordersOf mask extra life idle session) clock server-key value head aside path body reply) table d
+abbrev pub SettleIs : ℕ → List ℕ → ℕ → List ℕ → ArmorRequest → Limits → List ℕ → List ℕ → List ℕ → List ℕ → Place → Record → Decision → Type 0
+SettleIs mask extra clock server-key request limits head aside path body place held d =
+    (life idle session : ℕ) (value reply table : List ℕ)
+    → let q = requestOf (ordersOf mask extra life idle session) clock server-key value head aside path body reply in
+    Holds value (carried value) request → limits ≡ limitsOf life idle session → StandsAt q table place held → Settles q table d
 
--- 1 to 16: besides, room for the reply
+-- 1 to 16: besides, room for the reply, and a place within the table
 pub record Decides (q : Request) (table : List ℕ) (d : Decision) : Type 0 where
   pub is : d .number ≡ first (requestChecks q table)
-  pub knows : tells (d .number) ≡ true → About (ivOf q) (tokenOf q) d
+  pub knows : tells (d .number) ≡ true → About (tokenOf q) d
   pub room : tells (d .number) ≡ true → 1024 ≤ length (q .reply)
-  pub orders : d .number ≡ 0 → d .nonce ≡ ordered q
-  pub steps : d .number ≡ 0 → ordered q ≡ true → d .window ≡ stepped q table .window
+  pub at : tells (d .number) ≡ true → d .place ≡ placeOf table (ivOf q)
+  pub within : Within (places table) (d .place)
+  pub orders : d .number ≡ 0 → d .nonces ≡ ordered q
+  pub next : d .number ≡ 0 → ordered q ≡ true → d .next ≡ nextOf q table
 
--- the effect of a decision
-abbrev pub applied : Decision → List ℕ → List ℕ → Outcome
-applied d table reply = effect (d .number) (take (d .«id_len») (d .id)) (d .key) (d .iv) (d .nonce) (d .window) reply table
+-- the effect of a decision on a table, and on the reply
+abbrev pub leftBy : Decision → List ℕ → List ℕ
+leftBy d table = tableAfter (d .number) (d .nonces) (d .place) (d .next) table
+
+abbrev pub answeredBy : Decision → List ℕ → List ℕ → Outcome
+answeredBy d reply table = answered (d .number) (take (d .«id_len») (d .id)) (d .key) reply table
+
+abbrev pub AnswerIs : Decision → List ℕ → List ℕ → ℕ → Type 0
+AnswerIs d before after r = (table : List ℕ) → outcome r after table ≡ answeredBy d before table

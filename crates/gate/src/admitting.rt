@@ -1,24 +1,22 @@
-// Whether the request's session admits it: checks 12 to 16.
+// Whether the request's session admits it: checks 12 to 16, over the session's record.
 ghost use mathlib.Core.Path.{_≡_};
 ghost use Rattle.gate.specs.Stages.{AdmitIs};
-use table::place;
 use table::place::Place;
-use table::session;
+use table::session::Record;
 use window::Nonce;
 use window::Verdict;
-use window::Window;
 use window::time;
 use window::time::Time;
 
-// The number that the checks come to, and where it is 0 and nonces are ordered the next window.
+// The number that the checks come to, and where it is 0 and nonces are ordered the next record.
 pub struct Admitted {
     pub number: u32,
-    pub window: Window,
+    pub next: Record,
 }
 
 pub fn admit(
-    table: &[u8],
-    iv: &[u8],
+    place: Place,
+    held: Record,
     clock: Time,
     t: Time,
     lt: Time,
@@ -27,40 +25,36 @@ pub fn admit(
     ordered: bool,
     n: Nonce,
 ) -> Admitted
-    ensures { λ r. ⌜ AdmitIs (now (table .entry)) (now (iv .entry)) (clock .0) (t .0) (lt .0) life idle ordered (n .0) r ⌝ }
+    ensures { λ r. ⌜ AdmitIs place held (clock .0) (t .0) (lt .0) life idle ordered (n .0) r ⌝ }
 {
-    let Place::At(place) = place::find(table, iv) else {
-        return without_step(12);
+    let Place::At(_) = place else {
+        return as_it_was(12, held);
     };
     if time::idle(t, lt, idle) {
-        return without_step(13);
+        return as_it_was(13, held);
     }
     if time::too_old(clock, t, life) {
-        return without_step(14);
+        return as_it_was(14, held);
     }
     if !ordered {
-        return without_step(0);
+        return as_it_was(0, held);
     }
-    let session = session::read(table, place);
-    let window = session.window();
+    let window = held.window();
     let stepped = window.step(n);
     let next = stepped.window;
     let verdict = stepped.verdict;
     match verdict {
         Verdict::Accepted => Admitted {
             number: 0,
-            window: next,
+            next: held.with_window(next),
         },
-        Verdict::TooOld => without_step(15),
-        Verdict::Seen => without_step(16),
+        Verdict::TooOld => as_it_was(15, held),
+        Verdict::Seen => as_it_was(16, held),
     }
 }
 
-fn without_step(number: u32) -> Admitted
+fn as_it_was(number: u32, held: Record) -> Admitted
     ensures { λ r. ⌜ r .number ≡ number ⌝ }
 {
-    Admitted {
-        number,
-        window: Window::fresh(),
-    }
+    Admitted { number, next: held }
 }

@@ -2,35 +2,38 @@
 ghost use mathlib.Core.Path.{_≡_};
 ghost use mathlib.Core.Bool.{true};
 ghost use Prim.Native.Nat.{_≤_, _<_};
-ghost use lib.ListN.{length, take};
+ghost use lib.ListN.{length};
 ghost use Rattle.orders.specs.Extra.{goodExtra};
+ghost use Rattle.table.specs.declared.place.Place.the-variants.{Nowhere};
+ghost use Rattle.table.specs.Table.{places, Within};
 ghost use Rattle.gate.specs.Calls.{ordersOf, requestOf};
-ghost use Rattle.gate.specs.Outcome.{outcome};
-ghost use Rattle.gate.specs.Judge.{accepted, invalidated};
-ghost use Rattle.gate.specs.Stages.{tells, Decides, SettleIs, decisionOf, applied};
+ghost use Rattle.gate.specs.Session.{heldAt, with-record};
+ghost use Rattle.gate.specs.Stages.{tells, Decides, SettleIs, decisionOf, leftBy, AnswerIs};
 use super::admitting;
 use super::reading;
-use super::records;
 use super::sizes;
 use super::vouching;
 use armor::Request;
 use orders::Checked;
 use orders::Limits;
+use table::place;
+use table::place::Place;
 use table::rule;
+use table::session;
+use table::session::Record;
 use token::Unsealed;
 use window::Nonce;
-use window::Window;
 use window::time::Time;
 
-// The number, and what its effect needs: the session's IV, key and id, and where nonces are ordered its next window.
+// The number, and what its effect needs: the session's place, key and id, and where nonces are ordered its next record.
 pub struct Decision {
     pub number: u32,
-    pub iv: [u8; 12],
+    pub place: Place,
     pub key: [u8; 32],
     pub id: [u8; 64],
     pub id_len: usize,
-    pub nonce: bool,
-    pub window: Window,
+    pub nonces: bool,
+    pub next: Record,
 }
 
 pub fn decide<'a>(
@@ -64,38 +67,54 @@ pub fn decide<'a>(
     if read.number != 0 {
         return refused(read.number);
     }
+    let request = read.request;
+    let iv = request.iv;
+    let place = place::find(table, &iv);
+    let held = held_at(table, place);
     settle(
         mask,
         extra,
         clock,
         server_key,
-        read.request,
+        request,
         limits,
         head,
         aside,
         path,
         body,
-        table,
+        place,
+        held,
     )
 }
 
-// A refusal that touches nothing.
-fn refused(number: u32) -> Decision
-    ensures { λ r. ⌜ (r .number ≡ number) × (r .«id_len» ≡ 0) ⌝ }
+// What the session's record holds; a free one where there is none.
+fn held_at(table: &[u8], place: Place) -> Record
+    requires { ⌜ Within (places (now table)) place ⌝ }
+    ensures { λ r. ⌜ r ≡ heldAt (now (table .entry)) place ⌝ }
 {
-    Decision {
-        number,
-        iv: [0u8; 12],
-        key: [0u8; 32],
-        id: [0u8; 64],
-        id_len: 0,
-        nonce: false,
-        window: Window::fresh(),
+    match place {
+        Place::At(at) => session::read(table, at),
+        Place::Nowhere => session::freed(),
     }
 }
 
-// Checks 9 to 16.
-fn settle<'a>(
+// A refusal that touches nothing.
+pub fn refused(number: u32) -> Decision
+    ensures { λ r. ⌜ (r .number ≡ number) × (r .place ≡ Nowhere) ⌝ }
+{
+    Decision {
+        number,
+        place: Place::Nowhere,
+        key: [0u8; 32],
+        id: [0u8; 64],
+        id_len: 0,
+        nonces: false,
+        next: session::freed(),
+    }
+}
+
+// Checks 9 to 16, over the record of the request's session.
+pub fn settle<'a>(
     mask: u64,
     extra: &[u8],
     clock: u32,
@@ -106,10 +125,11 @@ fn settle<'a>(
     aside: &'a [u8],
     path: &[u8],
     body: &[u8],
-    table: &[u8],
+    place: Place,
+    held: Record,
 ) -> Decision
     requires { ⌜ (goodExtra (now extra) ≡ true) × (length (now «server_key») ≡ 32) × (request .«s_len» ≤ 118) × (length (now head) ≤ 16384) × (length (now aside) ≤ 16384) × (length (now path) ≤ 2048) × (length (now body) ≤ 65536) ⌝ }
-    ensures { λ r. ⌜ SettleIs mask (now (extra .entry)) clock (now («server_key» .entry)) request limits (now (head .entry)) (now (aside .entry)) (now (path .entry)) (now (body .entry)) (now (table .entry)) r ⌝ }
+    ensures { λ r. ⌜ SettleIs mask (now (extra .entry)) clock (now («server_key» .entry)) request limits (now (head .entry)) (now (aside .entry)) (now (path .entry)) (now (body .entry)) place held r ⌝ }
 {
     let vouched = vouching::vouch(
         mask,
@@ -122,15 +142,14 @@ fn settle<'a>(
         path,
         body,
     );
-    let iv = request.iv;
     let token = vouched.token;
     if vouched.number != 0 {
-        return decided(vouched.number, iv, token, false, Window::fresh());
+        return decided(vouched.number, place, token, false, held);
     }
     let ordered = mask % 2 == 1;
     let admitted = admitting::admit(
-        table,
-        &iv,
+        place,
+        held,
         Time(clock),
         Time(request.t),
         Time(request.lt),
@@ -139,63 +158,68 @@ fn settle<'a>(
         ordered,
         Nonce(request.n),
     );
-    decided(admitted.number, iv, token, ordered, admitted.window)
+    decided(admitted.number, place, token, ordered, admitted.next)
 }
 
-fn decided(number: u32, iv: [u8; 12], token: Unsealed, nonce: bool, window: Window) -> Decision
-    ensures { λ r. ⌜ r ≡ decisionOf number iv token nonce window ⌝ }
+fn decided(number: u32, place: Place, token: Unsealed, nonces: bool, next: Record) -> Decision
+    ensures { λ r. ⌜ r ≡ decisionOf number place token nonces next ⌝ }
 {
     let key = token.key;
     let id = token.id;
     Decision {
         number,
-        iv,
+        place,
         key,
         id,
         id_len: token.id_len,
-        nonce,
-        window,
+        nonces,
+        next,
     }
 }
 
-// The effect of a decision.
-pub fn apply(decision: Decision, table: &mut [u8], reply: &mut [u8]) -> u32
+// The effect of a decision on the table.
+pub fn apply(decision: Decision, table: &mut [u8])
+    requires { ⌜ Within (places (now table)) (decision .place) ⌝ }
+    ensures { λ _. ⌜ now (table .exit) ≡ leftBy decision (now (table .entry)) ⌝ }
+{
+    let place = decision.place;
+    if (decision.number == 0) & decision.nonces {
+        let next = decision.next;
+        put(table, place, next);
+        return;
+    }
+    if (decision.number == 10) | (decision.number == 13) {
+        let next = session::freed();
+        put(table, place, next);
+    }
+}
+
+// The record takes its place in the table, if it has one.
+fn put(table: &mut [u8], place: Place, record: Record)
+    requires { ⌜ Within (places (now table)) place ⌝ }
+    ensures { λ _. ⌜ now (table .exit) ≡ with-record (now (table .entry)) place «record» ⌝ }
+{
+    let Place::At(at) = place else {
+        return;
+    };
+    session::store(table, at, record);
+}
+
+// The reply of a decision, and its answer.
+pub fn answer(decision: Decision, reply: &mut [u8]) -> u32
     requires { ⌜ (decision .number < 256) × (tells (decision .number) ≡ true → (decision .«id_len» ≤ 64) × (1024 ≤ length (now reply))) ⌝ }
-    ensures { λ r. ⌜ outcome r (now (reply .exit)) (now (table .exit)) ≡ applied decision (now (table .entry)) (now (reply .entry)) ⌝ }
+    ensures { λ r. ⌜ AnswerIs decision (now (reply .entry)) (now (reply .exit)) r ⌝ }
 {
     if decision.number == 0 {
-        return accept(decision, table, reply);
+        let id = decision.id;
+        let len = decision.id_len;
+        cells::put_front(reply, &id[..len]);
+        return 256 * (len as u32);
     }
-    if decision.number == 10 {
-        return invalidate(decision, table, reply);
-    }
-    if decision.number == 13 {
-        return invalidate(decision, table, reply);
+    if (decision.number == 10) | (decision.number == 13) {
+        let key = decision.key;
+        reply::invalidate(reply, &key);
+        return decision.number + 256 * 90;
     }
     decision.number
-}
-
-// The session id goes to the front of the reply, and where nonces are ordered the record takes the next window.
-fn accept(decision: Decision, table: &mut [u8], reply: &mut [u8]) -> u32
-    requires { ⌜ (decision .«id_len» ≤ 64) × (1024 ≤ length (now reply)) ⌝ }
-    ensures { λ r. ⌜ outcome r (now (reply .exit)) (now (table .exit)) ≡ accepted (take (decision .«id_len») (decision .id)) (decision .iv) (decision .nonce) (decision .window) (now (reply .entry)) (now (table .entry)) ⌝ }
-{
-    let iv = decision.iv;
-    let id = decision.id;
-    let len = decision.id_len;
-    records::step(table, &iv, decision.nonce, decision.window);
-    cells::put_front(reply, &id[..len]);
-    256 * (len as u32)
-}
-
-// The session's record is freed, and the reply tells the client.
-fn invalidate(decision: Decision, table: &mut [u8], reply: &mut [u8]) -> u32
-    requires { ⌜ (decision .number < 256) × (1024 ≤ length (now reply)) ⌝ }
-    ensures { λ r. ⌜ outcome r (now (reply .exit)) (now (table .exit)) ≡ invalidated (decision .number) (decision .key) (decision .iv) (now (reply .entry)) (now (table .entry)) ⌝ }
-{
-    let iv = decision.iv;
-    let key = decision.key;
-    records::free(table, &iv);
-    reply::invalidate(reply, &key);
-    decision.number + 256 * 90
 }

@@ -12,13 +12,13 @@ use setup::Start;
 use table::place;
 use table::place::Place;
 use table::rule;
+use table::session;
 use table::session::Record;
 
 mod admitting;
 mod judge;
 pub mod one;
 mod reading;
-mod records;
 mod setup;
 mod sizes;
 mod vouching;
@@ -110,7 +110,8 @@ pub extern "C" fn gate_judge<'a>(
         table,
         reply,
     );
-    judge::apply(decision, table, reply)
+    judge::apply(decision, table);
+    judge::answer(decision, reply)
 }
 
 // Judges a request over one session's record, which the host lends: the new record stands there afterwards.
@@ -165,9 +166,9 @@ pub extern "C" fn gate_end(iv: &[u8], table: &mut [u8]) -> u32
     if !rule::well_formed(table) {
         return 3;
     }
-    let Place::At(_) = place::find(table, iv) else {
+    let Place::At(at) = place::find(table, iv) else {
         return 12;
     };
-    records::free(table, iv);
+    session::free(table, at);
     0
 }

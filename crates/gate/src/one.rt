@@ -1,11 +1,20 @@
 // Judging a request over one session's record, as a table of that one record would.
 ghost use mathlib.Core.Path.{_≡_};
-ghost use lib.ListN.{length};
-ghost use Rattle.table.specs.Record.{size, recordBytes};
+ghost use Rattle.table.specs.Record.{recordBytes};
+ghost use Rattle.table.specs.Table.{Within};
 ghost use Rattle.gate.specs.Calls.{ordersOf, requestOf};
 ghost use Rattle.gate.specs.Outcome.{outcome};
-ghost use Rattle.gate.specs.Judge.{judged};
-use super::gate_judge;
+ghost use Rattle.gate.specs.Session.{placeOf};
+ghost use Rattle.gate.specs.Judge.{tableAfter, judged};
+ghost use Rattle.gate.specs.Stages.{Decides};
+use super::judge;
+use super::judge::Decision;
+use super::judge::refused;
+use super::reading;
+use super::sizes;
+use orders::Checked;
+use table::place::Place;
+use table::rule;
 use table::session;
 use table::session::Record;
 
@@ -33,8 +42,7 @@ pub fn judge<'a>(
 ) -> Judged
     ensures { λ r. ⌜ outcome (r .answer) (now (reply .exit)) (recordBytes (r .next)) ≡ judged (requestOf (ordersOf mask (now (extra .entry)) «request_life» idle «session_life») clock (now («server_key» .entry)) (now (value .entry)) (now (head .entry)) (now (aside .entry)) (now (path .entry)) (now (body .entry)) (now (reply .entry))) (recordBytes «record») ⌝ }
 {
-    let mut table = table_of(record);
-    let answer = gate_judge(
+    let decision = decide(
         mask,
         extra,
         request_life,
@@ -47,26 +55,89 @@ pub fn judge<'a>(
         aside,
         path,
         body,
-        &mut table,
+        record,
         reply,
     );
-    let next = only_record(&table);
+    let place = decision.place;
+    let stepped = decision.next;
+    let next = after(decision.number, decision.nonces, place, stepped, record);
+    let answer = judge::answer(decision, reply);
     Judged { answer, next }
 }
 
-// The table of one record.
-fn table_of(record: Record) -> [u8; session::SIZE]
-    ensures { λ r. ⌜ r ≡ recordBytes «record» ⌝ }
+fn decide<'a>(
+    mask: u64,
+    extra: &[u8],
+    request_life: u32,
+    idle: u32,
+    session_life: u32,
+    clock: u32,
+    server_key: &[u8],
+    value: &[u8],
+    head: &'a [u8],
+    aside: &'a [u8],
+    path: &[u8],
+    body: &[u8],
+    record: Record,
+    reply: &[u8],
+) -> Decision
+    ensures { λ r. ⌜ Decides (requestOf (ordersOf mask (now (extra .entry)) «request_life» idle «session_life») clock (now («server_key» .entry)) (now (value .entry)) (now (head .entry)) (now (aside .entry)) (now (path .entry)) (now (body .entry)) (now (reply .entry))) (recordBytes «record») r ⌝ }
 {
-    let mut table = [0u8; session::SIZE];
-    session::store(&mut table, 0, record);
-    table
+    if !sizes::lent_fits(server_key, value, head, aside, path, body, reply) {
+        return refused(1);
+    }
+    let Checked::Good(limits) = orders::check(mask, extra, request_life, idle, session_life) else {
+        return refused(2);
+    };
+    if !rule::record_sound(record) {
+        return refused(3);
+    }
+    let read = reading::read(mask, extra, value, head, aside);
+    if read.number != 0 {
+        return refused(read.number);
+    }
+    let request = read.request;
+    let iv = request.iv;
+    let place = place_of(record, &iv);
+    judge::settle(
+        mask,
+        extra,
+        clock,
+        server_key,
+        request,
+        limits,
+        head,
+        aside,
+        path,
+        body,
+        place,
+        record,
+    )
 }
 
-// Its record.
-fn only_record(table: &[u8]) -> Record
-    requires { ⌜ length (now table) ≡ size ⌝ }
-    ensures { λ r. ⌜ recordBytes r ≡ now (table .entry) ⌝ }
+// The record's place in a table of its own, if it is the session's.
+fn place_of(record: Record, iv: &[u8]) -> Place
+    ensures { λ r. ⌜ r ≡ placeOf (recordBytes «record») (now (iv .entry)) ⌝ }
 {
-    session::read(table, 0)
+    if record.is_of(iv) {
+        return Place::At(0);
+    }
+    Place::Nowhere
+}
+
+// The record after a number, where it is the session's.
+fn after(number: u32, nonces: bool, place: Place, next: Record, record: Record) -> Record
+    requires { ⌜ Within 1 place ⌝ }
+    ensures { λ r. ⌜ recordBytes r ≡ tableAfter number nonces place next (recordBytes «record») ⌝ }
+{
+    let Place::At(_) = place else {
+        return record;
+    };
+    if (number == 0) & nonces {
+        return next;
+    }
+    if (number == 10) | (number == 13) {
+        return session::freed();
+    }
+    record
 }

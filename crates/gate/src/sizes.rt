@@ -1,7 +1,7 @@
 // Whether what is lent has the sizes that document 01 names: check 1.
 ghost use mathlib.Core.Path.{_≡_};
 ghost use Rattle.gate.specs.Sizes.{between, tableFits, endFits};
-ghost use Rattle.gate.specs.Stages.{SetupFits, RequestFits};
+ghost use Rattle.gate.specs.Stages.{SetupFits, RequestFits, LentFits};
 use table::session::SIZE;
 
 // Records in a table, bytes in what a request brings, and bytes in a reply buffer.
@@ -60,13 +60,27 @@ pub fn request_fits(
 ) -> bool
     ensures { λ r. ⌜ RequestFits (now («server_key» .entry)) (now (value .entry)) (now (head .entry)) (now (aside .entry)) (now (path .entry)) (now (body .entry)) (now (table .entry)) (now (reply .entry)) r ⌝ }
 {
+    lent_fits(server_key, value, head, aside, path, body, reply) & table_fits(table)
+}
+
+// All but the table.
+pub fn lent_fits(
+    server_key: &[u8],
+    value: &[u8],
+    head: &[u8],
+    aside: &[u8],
+    path: &[u8],
+    body: &[u8],
+    reply: &[u8],
+) -> bool
+    ensures { λ r. ⌜ LentFits (now («server_key» .entry)) (now (value .entry)) (now (head .entry)) (now (aside .entry)) (now (path .entry)) (now (body .entry)) (now (reply .entry)) r ⌝ }
+{
     (server_key.len() == 32)
         & ((value.len() <= MOST_VALUE)
             & ((head.len() <= MOST_LINES)
                 & ((aside.len() <= MOST_LINES)
                     & (between(1, MOST_PATH, path)
-                        & ((body.len() <= MOST_BODY)
-                            & (table_fits(table) & (LEAST_REPLY <= reply.len())))))))
+                        & ((body.len() <= MOST_BODY) & (LEAST_REPLY <= reply.len()))))))
 }
 
 pub fn end_fits(iv: &[u8], table: &[u8]) -> bool

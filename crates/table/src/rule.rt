@@ -37,7 +37,7 @@ fn window_sound(session: Record) -> bool
     (session.any == 1) & (session.bits % 2 == 1)
 }
 
-fn record_sound(session: Record) -> bool
+pub fn record_sound(session: Record) -> bool
     ensures { λ r. ⌜ r ≡ sound session ⌝ }
 {
     if session.used == 0 {

@@ -5,7 +5,7 @@ ghost use Prim.Native.Nat.{_*_, _<_};
 ghost use lib.ListN.{length};
 ghost use Rattle.cells.specs.Runs.{spliced};
 ghost use Rattle.table.specs.Record.{size, recordOf, recordBytes, freed, begun, mark, windowOf, withWindow};
-ghost use Rattle.table.specs.Table.{places, recordAt};
+ghost use Rattle.table.specs.Table.{places, recordAt, holds};
 use window::Nonce;
 use window::Window;
 use window::time::Time;
@@ -113,7 +113,30 @@ pub fn begin(iv: &[u8], expiry: Time) -> Record
     }
 }
 
+// A record that is free.
+pub fn freed() -> Record
+    ensures { λ r. ⌜ r ≡ freed ⌝ }
+{
+    let zeros = [0u8; 12];
+    Record {
+        used: 0,
+        iv: zeros,
+        expiry: 0,
+        any: 0,
+        highest: 0,
+        bits: 0,
+    }
+}
+
 impl Record {
+    // Whether the record is used and has this IV.
+    pub fn is_of(self, iv: &[u8]) -> bool
+        ensures { λ r. ⌜ r ≡ holds (now (iv .entry)) self ⌝ }
+    {
+        let own = self.iv;
+        (self.used == 1) & cells::same(&own, iv)
+    }
+
     pub fn window(self) -> Window
         ensures { λ r. ⌜ r ≡ windowOf self ⌝ }
     {

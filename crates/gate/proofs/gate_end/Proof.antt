@@ -3,6 +3,7 @@ use mathlib.Core.Path.{sym, _∙_}
 use borrow.Author.Needs.{needs}
 use borrow.Author.Tests.{not-true, not-false}
 use Rattle.gate.specs.Checks.{tableChecks}
+use Rattle.gate.specs.Session.{without}
 use Rattle.gate.specs.End.{endChecks, ended}
 use Rattle.gate.proofs.gate_end.Statement.{statement}
 use Rattle.gate.proofs.gate_end.Tie as tie
@@ -28,20 +29,23 @@ returns-3 c =
       not-false (fits .result) (c .before .before .before .before .before .before .before .if1 .left),
       ← (formed .ensures),
       not-false (formed .result) (c .before .before .before .before .if2 .left),
-      sym (c .before .before .find .ensures .is) ∙ c .enum-told2 .given .1,
+      sym (c .before .before .find .ensures .is) ∙ c .enum-told .given .1,
     )
 
+free-requires : tie.Need-free-requires
+free-requires c κs = rw (c .before .before .at .given .1) at (c .before .before .before .before .find .ensures .within)
+
 returns-4 : tie.Need-returns-4
-unfolding ended endChecks tableChecks
+unfolding ended endChecks tableChecks without
 returns-4 c =
-    let fits = c .before .before .before .before .before .before .before .before .before .before .before .before .end-fits in
-    let formed = c .before .before .before .before .before .before .before .before .before .well-formed in
+    let fits = c .before .before .before .before .before .before .before .before .before .before .before .before .before .end-fits in
+    let formed = c .before .before .before .before .before .before .before .before .before .before .well-formed in
     simp (
       ← (fits .ensures),
-      not-false (fits .result) (c .before .before .before .before .before .before .before .before .before .before .before .if1 .left),
+      not-false (fits .result) (c .before .before .before .before .before .before .before .before .before .before .before .before .if1 .left),
       ← (formed .ensures),
-      not-false (formed .result) (c .before .before .before .before .before .before .before .before .if2 .left),
-      sym (c .before .before .before .before .before .before .find .ensures .is) ∙ c .before .before .before .before .enum-told .given .1,
+      not-false (formed .result) (c .before .before .before .before .before .before .before .before .before .if2 .left),
+      sym (c .before .before .before .before .before .before .before .find .ensures .is) ∙ c .before .before .before .before .before .at .given .1,
       c .before .before .free .ensures,
     )
 
@@ -60,6 +64,6 @@ gate-end-spec =
     (λ c. search needs)
     (λ c. search needs)
     returns-3
-    (λ c κs. search needs)
+    free-requires
     (λ c. search needs)
     returns-4)

@@ -11,14 +11,23 @@ asked c =
     requestOf (ordersOf (c .args .mask) (c .args .extra .now) (c .args .request-life) (c .args .idle) (c .args .session-life)) (c .args .clock) (c .args .server-key .now)
     (c .args .value .now) (c .args .head .now) (c .args .aside .now) (c .args .path .now) (c .args .body .now) (c .args .reply .now)
 
-apply-requires : tie.Need-apply-requires
-apply-requires c κs =
-    let decided = c .before .before .decide .ensures in
+answer-requires : tie.Need-answer-requires
+answer-requires c κs =
+    let decided = c .before .before .before .before .before .decide .ensures in
     (decided-small _ _ _ decided, λ t. (decided .knows t .id-fits, decided .room t))
 
 returns : tie.Need-returns
-returns c = c .before .before .before .before .apply .ensures ∙ applied-judged (asked (c .before .before .before .before .before .before .before .before .before .before .before .before .before .before .before .before .before .before .before)) _ _ (c .before .before .before .before .before .before .before .decide .ensures)
+returns c =
+    c .before .before .answer .ensures _
+    ∙ rw (c .before .before .before .before .before .before .apply .ensures) (applied-judged (asked (c .before .before .before .before .before .before .before .before .before .before .before .before .before .before .before .before .before .before .before .before)) _ _ (c .before .before .before .before .before .before .before .before .decide .ensures))
 
 pub gate-judge-spec : {M : Type 1} → statement M
 gate-judge-spec =
-    tie.close (tie.spec (λ c κs. search needs) apply-requires (λ c. search needs) (λ c. search needs) returns)
+    tie.close
+    (tie.spec
+    (λ c κs. search needs)
+    (λ c κs. c .before .decide .ensures .within)
+    answer-requires
+    (λ c. search needs)
+    (λ c. search needs)
+    returns)

@@ -1,28 +1,35 @@
 -- `one::judge` meets its contract.
-use mathlib.Core.Path.{ap, _∙_}
-use mathlib.Core.List.{List}
-use Prim.Native.Nat.{ℕ}
+-- Assumes nothing.
+use mathlib.Core.Path.{_∙_}
 use borrow.Author.Needs.{needs}
-use Rattle.gate.specs.Outcome.{outcome}
-use Rattle.gate.specs.Judge.{judged}
+use Rattle.table.specs.Record.{Fits}
+use Rattle.table.proofs.Single.{one-place}
+use Rattle.gate.specs.Calls.{Request, ordersOf, requestOf}
+use Rattle.gate.proofs.Stages.{decided-small, applied-judged}
 use Rattle.gate.proofs.one.judge.Statement.{statement}
 use Rattle.gate.proofs.one.judge.Tie as tie
 
+abbrev asked : tie.Start → Request
+asked c =
+    requestOf (ordersOf (c .args .mask) (c .args .extra .now) (c .args .request-life) (c .args .idle) (c .args .session-life)) (c .args .clock) (c .args .server-key .now)
+    (c .args .value .now) (c .args .head .now) (c .args .aside .now) (c .args .path .now) (c .args .body .now) (c .args .reply .now)
+
+fits : (c : tie.Start) → Fits (c .args .«record»)
+fits c =
+    record { used = search needs; iv = search needs; expiry = search needs; any = search needs; highest = search needs; bits = search needs }
+
+after-requires : tie.Need-after-requires
+after-requires c κs = rw (one-place _ (fits (c .before .before .before .before .before .before .before .before .before .before .before))) at (c .before .decide .ensures .within)
+
+answer-requires : tie.Need-answer-requires
+answer-requires c κs =
+    let decided = c .before .before .before .decide .ensures in
+    (decided-small _ _ _ decided, λ t. (decided .knows t .id-fits, decided .room t))
+
 returns : tie.Need-returns
 returns c =
-    let call = c .before .before .before .before .before in
-    ap (λ (table : List ℕ). outcome (call .gate-judge .result) (call .gate-judge .last .1 .1 .1 .1 .1 .1 .1 .1 .1 .1 .1 .1 .1 .0) table) (c .only-record .ensures)
-    ∙ call .gate-judge .ensures
-    ∙ ap (judged _) (call .before .before .before .table-of .ensures)
+    c .before .before .answer .ensures _
+    ∙ rw (c .before .before .before .before .after .ensures) (applied-judged (asked (c .before .before .before .before .before .before .before .before .before .before .before .before .before .before .before .before)) _ _ (c .before .before .before .before .before .before .decide .ensures))
 
 pub judge-spec : {M : Type 1} → statement M
-judge-spec =
-    tie.close
-    (tie.spec
-    (λ c κs. search needs)
-    (λ c. search needs)
-    (λ c κs. search needs)
-    (λ c. search needs)
-    (λ c κs. search needs)
-    (λ c. search needs)
-    returns)
+judge-spec = tie.close (tie.spec (λ c κs. search needs) after-requires answer-requires (λ c. search needs) returns)

@@ -1,0 +1,16 @@
+-- `judge::held_at` meets its contract.
+-- Assumes nothing.
+use mathlib.Core.Path.{_∙_}
+use borrow.Author.Needs.{needs}
+use Rattle.gate.proofs.judge.held_at.Statement.{statement}
+use Rattle.gate.proofs.judge.held_at.Tie as tie
+
+read-requires : tie.Need-read-requires
+read-requires c κs = rw (c .before .place .given .1) at (c .before .before .before .before .pre)
+
+returns : tie.Need-returns
+returns c = rw (c .before .before .place .given .1) (c .read .ensures)
+
+pub held-at-spec : {M : Type 1} → statement M
+held-at-spec =
+    tie.close (tie.spec (λ c. search needs) read-requires (λ c. search needs) (λ c κs. search needs) returns (λ c. search needs))

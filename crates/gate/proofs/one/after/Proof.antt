@@ -1,0 +1,49 @@
+-- `one::after` meets its contract: in a table of one record the only place is the first.
+-- Assumes nothing.
+use mathlib.Core.Path.{_≡_, refl, sym, ap, _∙_}
+use mathlib.Core.Bool.{false, true≢false}
+use Prim.Native.Nat.{zero, suc}
+use native.Mathlib.Omega.{arith}
+use borrow.Author.Needs.{needs}
+use lib.ListN.{length}
+use Rattle.table.specs.declared.session.Record.{Record}
+use Rattle.table.specs.declared.place.Place.{Place}
+use Rattle.table.specs.declared.place.Place.the-variants.{At, Nowhere}
+use Rattle.table.specs.Record.{freed, recordBytes}
+use Rattle.table.specs.Table.{Within}
+use Rattle.table.proofs.Single.{single-stored}
+use Rattle.gate.specs.Checks.{nowhere}
+use Rattle.gate.specs.Session.{with-record}
+use Rattle.gate.proofs.Stages.{table-nowhere, table-stepped, table-freed, table-kept}
+use Rattle.gate.proofs.one.after.Statement.{statement}
+use Rattle.gate.proofs.one.after.Tie as tie
+
+stored : (place : Place) (r next : Record) → Within 1 place → nowhere place ≡ false → length (r .iv) ≡ 12 → length (next .iv) ≡ 12
+    → recordBytes next ≡ with-record (recordBytes r) place next
+stored (At zero) r next w there f g = sym (single-stored r next f g)
+stored (At (suc k)) r next w there f g = absurd (omega arith)
+stored Nowhere r next w there f g = absurd (true≢false there)
+
+returns : tie.Need-returns
+returns c = sym (rw (c .enum-told2 .given .1) (table-nowhere _ _ _ _))
+
+returns-2 : tie.Need-returns-2
+returns-2 c =
+    let s = c .before .before .before in
+    let f : length (s .args .«record» .iv) ≡ 12 = search needs in
+    let g : length (s .args .next .iv) ≡ 12 = search needs in
+    stored (s .args .place) (s .args .«record») (s .args .next) (s .pre) (ap nowhere (c .before .enum-told .given .1)) f g ∙ sym (table-stepped _ _ _ _ _ (c .if1 .taken))
+
+returns-3 : tie.Need-returns-3
+returns-3 c =
+    let s = c .before .before .before .before .before in
+    let f : length (s .args .«record» .iv) ≡ 12 = search needs in
+    ap recordBytes (c .freed .ensures)
+    ∙ stored (s .args .place) (s .args .«record») freed (s .pre) (ap nowhere (c .before .before .before .enum-told .given .1)) f refl
+    ∙ sym (table-freed _ _ _ _ _ (c .before .if2 .taken))
+
+returns-4 : tie.Need-returns-4
+returns-4 c = sym (table-kept _ _ _ _ _ (c .before .if1 .left) (c .if2 .left))
+
+pub after-spec : {M : Type 1} → statement M
+after-spec = tie.close (tie.spec (λ c. search needs) (λ c. search needs) returns returns-2 (λ c κs. search needs) returns-3 returns-4)
