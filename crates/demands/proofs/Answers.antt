@@ -12,13 +12,14 @@ use Rattle.table.specs.declared.session.Record.{Record}
 use Rattle.table.specs.declared.place.Place.the-variants.{At}
 use Rattle.table.specs.Record.{size, recordBytes, begun, windowOf, withWindow}
 use Rattle.table.specs.Table.{records, recordAt, taken}
+use Rattle.reply.specs.Replies.{invalidation}
 use Rattle.gate.specs.Calls.{Setup, Request}
-use Rattle.gate.specs.Outcome.{Outcome, untouched}
+use Rattle.gate.specs.Outcome.{Outcome, untouched, replied}
 use Rattle.gate.specs.Checks.{first}
-use Rattle.gate.specs.Session.{placeOf, without, steppedIn}
+use Rattle.gate.specs.Session.{placeOf, with-record, without}
 use Rattle.gate.specs.Setup
 use Rattle.gate.specs.Setup.{expiryOf, setupChecks, setUp}
-use Rattle.gate.specs.Judge.{ivOf, nonceOf, tokenOf, ordered, stepped, requestChecks, accepted, invalidated, invalidates, effect, judged}
+use Rattle.gate.specs.Judge.{ivOf, nonceOf, ordered, stepped, nextOf, requestChecks, invalidates, tableAfter, answered, judged}
 use Rattle.gate.specs.End.{endChecks, ended}
 
 -- the number and the table of the outcome that a number picks
@@ -59,29 +60,40 @@ module _ (iv table : List ℕ) where
 abbrev pub next : ℕ → Record → Record
 next nonce r = withWindow r (stepOf (windowOf r) nonce .window)
 
--- the table with the session's next window, where nonces are ordered
+-- the table with the session's next record, where nonces are ordered
 abbrev pub steppedFor : Request → List ℕ → List ℕ
-steppedFor q table = steppedIn table (ivOf q) (ordered q) (stepped q table .window)
+steppedFor q table = cond (ordered q) (with-record table (placeOf table (ivOf q)) (nextOf q table)) table
 
 module _ (q : Request) (table : List ℕ) where
-  refused-number : (n : ℕ) (t : Bool) → cond t (invalidated n (tokenOf q .key) (ivOf q) (q .reply) table) (untouched n (q .reply) table) .number ≡ n
-  unfolding invalidated
-  refused-number n true = refl
-  refused-number n false = refl
+  answered-number : (n : ℕ) (id key reply after : List ℕ) → answered n id key reply after .number ≡ n
+  unfolding answered
+  answered-number n id key reply after = by (eqb n 0) refl (invalidates n)
+    where
+      by : (t : Bool) → eqb n 0 ≡ t → (u : Bool)
+          → cond t (replied 0 id reply after) (cond u (replied n (invalidation key) reply after) (untouched n reply after)) .number ≡ n
+      by true e u = sym (eqb-true n 0 e)
+      by false e true = refl
+      by false e false = refl
+
+  answered-table : (n : ℕ) (id key reply after : List ℕ) → answered n id key reply after .table ≡ after
+  unfolding answered
+  answered-table n id key reply after = by (eqb n 0) (invalidates n)
+    where
+      by : (t u : Bool)
+          → cond t (replied 0 id reply after) (cond u (replied n (invalidation key) reply after) (untouched n reply after)) .table ≡ after
+      by true u = refl
+      by false true = refl
+      by false false = refl
 
   pub judged-number : judged q table .number ≡ first (requestChecks q table)
-  unfolding judged effect accepted
-  judged-number =
-      let n = first (requestChecks q table) in
-      number-by n _ _ refl (refused-number n (invalidates n)) (eqb n 0) refl
+  unfolding judged
+  judged-number = answered-number (first (requestChecks q table)) _ _ _ _
 
   pub judged-table : judged q table .table
       ≡ cond (eqb (first (requestChecks q table)) 0) (steppedFor q table)
       (cond (invalidates (first (requestChecks q table))) (without table (ivOf q)) table)
-  unfolding judged effect accepted invalidated
-  judged-table =
-      let n = first (requestChecks q table) in
-      table-by (eqb n 0) _ _ ∙ ap (cond (eqb n 0) (steppedFor q table)) (table-by (invalidates n) _ _)
+  unfolding judged tableAfter without
+  judged-table = answered-table (first (requestChecks q table)) _ _ _ _
 
   -- with the place of the session
   pub found-step : (place : ℕ) → placeOf table (ivOf q) ≡ At place → stepped q table ≡ stepOf (windowOf (recordAt table place)) (nonceOf q)
@@ -90,9 +102,8 @@ module _ (q : Request) (table : List ℕ) where
 
   pub ordered-table : (place : ℕ) → placeOf table (ivOf q) ≡ At place → ordered q ≡ true
       → steppedFor q table ≡ spliced table (size * place) (recordBytes (next (nonceOf q) (recordAt table place)))
-  unfolding steppedIn
+  unfolding nextOf
   ordered-table place e o = rw (o, found-step place e, e)
 
   pub unordered-table : ordered q ≡ false → steppedFor q table ≡ table
-  unfolding steppedIn
   unordered-table o = rw o

@@ -13,11 +13,10 @@ use Rattle.reply.specs.Replies.{invalidation}
 use Rattle.gate.specs.Calls.{Request}
 use Rattle.gate.specs.Outcome.{Outcome, untouched, replied}
 use Rattle.gate.specs.Checks.{first}
-use Rattle.gate.specs.Session.{without}
-use Rattle.gate.specs.Judge.{ivOf, nonceOf, timeOf, lastTimeOf, signatureOf, tokenOf, limits, textOf, codeOf, stepped, signaturePart, sessionPart, noncePart, admittingPart, requestChecks, accepted, invalidated, invalidates, effect, outcomeAt, judged}
+use Rattle.gate.specs.Session.{placeOf}
+use Rattle.gate.specs.Judge.{ivOf, nonceOf, timeOf, lastTimeOf, signatureOf, tokenOf, limits, textOf, codeOf, ordered, stepped, nextOf, signaturePart, sessionPart, noncePart, admittingPart, requestChecks, invalidates, tableAfter, answered, outcomeAt, judged}
 use Rattle.demands.specs.Passing.{Reaches}
 use Rattle.demands.proofs.Checks.{signature-decides}
-use Rattle.demands.proofs.Answers.{steppedFor}
 
 -- two requests of which judging reads the same
 pub record ReadAlike (p q : Request) : Type 0 where
@@ -49,6 +48,10 @@ replied-alike n {text} {other} buffer lent e f = record {
 }
 
 module _ (p q : Request) (table : List ℕ) (same : ReadAlike p q) where
+  -- the table after a number
+  abbrev tableOf : ℕ → Request → List ℕ
+  tableOf n r = tableAfter n (ordered r) (placeOf table (ivOf r)) (nextOf r table) table
+
   step-same : stepped p table ≡ stepped q table
   unfolding stepped
   step-same = rw (same .iv, same .nonce)
@@ -61,8 +64,12 @@ module _ (p q : Request) (table : List ℕ) (same : ReadAlike p q) where
   unfolding codeOf
   code-same = rw (same .token, same .text)
 
-  table-same : steppedFor p table ≡ steppedFor q table
-  table-same = rw (same .iv, step-same, same .orders)
+  next-same : nextOf p table ≡ nextOf q table
+  unfolding nextOf
+  next-same = rw (same .iv, step-same)
+
+  table-same : (n : ℕ) → tableOf n p ≡ tableOf n q
+  table-same n = rw (same .iv, next-same, same .orders)
 
   rest-same : signaturePart p ++ admittingPart p table ≡ signaturePart q ++ admittingPart q table
   unfolding signaturePart sessionPart noncePart
@@ -72,16 +79,15 @@ module _ (p q : Request) (table : List ℕ) (same : ReadAlike p q) where
   number-same rp rq = signature-decides p table rp ∙ ap first rest-same ∙ sym (signature-decides q table rq)
 
   outcome-alike : (n : ℕ) → Alike (outcomeAt n p table) (outcomeAt n q table)
-  unfolding effect accepted invalidated
+  unfolding answered
   outcome-alike n = by (eqb n 0) (invalidates n)
     where
       by : (t u : Bool)
-          → Alike (cond t (replied 0 (tokenOf p .id) (p .reply) (steppedFor p table)) (cond u (replied n (invalidation (tokenOf p .key)) (p .reply) (without table (ivOf p))) (untouched n (p .reply) table)))
-          (cond t (replied 0 (tokenOf q .id) (q .reply) (steppedFor q table)) (cond u (replied n (invalidation (tokenOf q .key)) (q .reply) (without table (ivOf q))) (untouched n (q .reply) table)))
-      by true u = replied-alike 0 (p .reply) (q .reply) (ap (λ (t : Token). t .id) (same .token)) table-same
-      by false true =
-          replied-alike n (p .reply) (q .reply) (ap (λ (t : Token). invalidation (t .key)) (same .token)) (ap (without table) (same .iv))
-      by false false = record { number = refl; long = refl; reply = refl; table = refl }
+          → Alike (cond t (replied 0 (tokenOf p .id) (p .reply) (tableOf n p)) (cond u (replied n (invalidation (tokenOf p .key)) (p .reply) (tableOf n p)) (untouched n (p .reply) (tableOf n p))))
+          (cond t (replied 0 (tokenOf q .id) (q .reply) (tableOf n q)) (cond u (replied n (invalidation (tokenOf q .key)) (q .reply) (tableOf n q)) (untouched n (q .reply) (tableOf n q))))
+      by true u = replied-alike 0 (p .reply) (q .reply) (ap (λ (t : Token). t .id) (same .token)) (table-same n)
+      by false true = replied-alike n (p .reply) (q .reply) (ap (λ (t : Token). invalidation (t .key)) (same .token)) (table-same n)
+      by false false = record { number = refl; long = refl; reply = refl; table = table-same n }
 
   -- they get the same verdict, reply and table after
   pub judged-alike : Reaches p table → Reaches q table → Alike (judged p table) (judged q table)
@@ -90,7 +96,7 @@ module _ (p q : Request) (table : List ℕ) (same : ReadAlike p q) where
       subst (λ (n : ℕ). Alike (outcomeAt n p table) (judged q table)) (sym (number-same rp rq)) (outcome-alike (first (requestChecks q table)))
 
   outcome-same : (n : ℕ) → p .reply ≡ q .reply → outcomeAt n p table ≡ outcomeAt n q table
-  outcome-same n e = rw (same .token, step-same, same .iv, e, same .orders)
+  outcome-same n e = rw (same .token, same .iv, next-same, e, same .orders)
 
   -- and in equal reply buffers every byte is the same
   pub judged-same : Reaches p table → Reaches q table → p .reply ≡ q .reply → judged p table ≡ judged q table

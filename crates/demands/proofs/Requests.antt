@@ -15,10 +15,10 @@ use Rattle.table.proofs.Sessions.{recordAt-fits, stepped-fits}
 use Rattle.reply.specs.Replies.{invalidation}
 use Rattle.reply.proofs.Lengths.{length-invalidation}
 use Rattle.gate.specs.Calls.{Request}
-use Rattle.gate.specs.Outcome.{untouched}
+use Rattle.gate.specs.Outcome.{untouched, replied}
 use Rattle.gate.specs.Checks.{first, nowhere, tableChecks, entryChecks}
 use Rattle.gate.specs.Session.{placeOf, without}
-use Rattle.gate.specs.Judge.{ivOf, nonceOf, tokenOf, ordered, stepped, entryPart, readingPart, coveringPart, tokenPart, signaturePart, vouchingPart, sessionPart, noncePart, admittingPart, requestChecks, accepted, invalidated, invalidates, effect, outcomeAt, judged}
+use Rattle.gate.specs.Judge.{ivOf, nonceOf, tokenOf, ordered, entryPart, readingPart, coveringPart, tokenPart, signaturePart, vouchingPart, sessionPart, noncePart, admittingPart, requestChecks, invalidates, tableAfter, answered, outcomeAt, judged}
 use Rattle.gate.proofs.Numbers.{Exactly, comes-later, first-among, first-exactly, request-numbered}
 use Rattle.demands.proofs.Checks.{accepted-passes, read-through, finds}
 use Rattle.demands.proofs.Others.{passes-finds}
@@ -29,8 +29,8 @@ use Rattle.demands.proofs.Passed.{Passed, passed, accepted-passed}
 use Rattle.demands.proofs.Carried.{nonce-small}
 use Rattle.demands.proofs.Effects.{judgeNumbers, TenOrThirteen, Invalidated, Moved, Accepted, JudgeEffects, fronted-replied}
 
-freed-by : (q : Request) (n : ℕ) (table : List ℕ) → Passed q table → Invalidated q table (invalidated n (tokenOf q .key) (ivOf q) (q .reply) table)
-unfolding invalidated
+-- at 10 and 13 the record is freed, and the reply is the invalidation
+freed-by : (q : Request) (n : ℕ) (table : List ℕ) → Passed q table → Invalidated q table (replied n (invalidation (tokenOf q .key)) (q .reply) (without table (ivOf q)))
 freed-by q n table p = record {
   long = length-invalidation (tokenOf q .key);
   reply = fronted-replied n (invalidation (tokenOf q .key)) (q .reply) (without table (ivOf q));
@@ -53,8 +53,7 @@ stepped-there q table place p s b o =
       expiry = ap (λ (x : Record). x .expiry) (all .here);
     }
 
-accepts : (q : Request) (table : List ℕ) → first (requestChecks q table) ≡ 0 → Accepted q table (outcomeAt 0 q table)
-unfolding effect accepted
+accepts : (q : Request) (table : List ℕ) → first (requestChecks q table) ≡ 0 → Accepted q table (replied 0 (tokenOf q .id) (q .reply) (steppedFor q table))
 accepts q table e =
     let p = accepted-passed q table e in
     let f = passes-finds q table (accepted-passes q table e) in
@@ -91,8 +90,7 @@ idle-found q table e =
     finds q table (noncePart q table) 13 (comes-later (vouchingPart q) (admittingPart q table) 13 refl refl (read .later) .later) (λ z. omega arith)
 
 -- the three ways in which a judged request ends
-judge-zero : (q : Request) (table : List ℕ) → first (requestChecks q table) ≡ 0 → JudgeEffects q table (outcomeAt 0 q table)
-unfolding effect accepted
+judge-zero : (q : Request) (table : List ℕ) → first (requestChecks q table) ≡ 0 → JudgeEffects q table (replied 0 (tokenOf q .id) (q .reply) (steppedFor q table))
 judge-zero q table e = record {
   listed = List·Memᴰ·head refl;
   in-order = subst (Exactly (requestChecks q table)) e (first-exactly (requestChecks q table) (request-numbered q table));
@@ -103,8 +101,7 @@ judge-zero q table e = record {
 }
 
 judge-freed : (q : Request) (table : List ℕ) (n : ℕ) → first (requestChecks q table) ≡ n → List·Memᴰ n judgeNumbers → invalidates n ≡ true
-    → JudgeEffects q table (invalidated n (tokenOf q .key) (ivOf q) (q .reply) table)
-unfolding invalidated
+    → JudgeEffects q table (replied n (invalidation (tokenOf q .key)) (q .reply) (without table (ivOf q)))
 judge-freed q table n e m u =
     let two = ten-or-thirteen n u in
     let p = two-passed q table n two e in
@@ -130,11 +127,14 @@ judge-kept q table n e m z u = record {
 
 judge-by : (q : Request) (table : List ℕ) (n : ℕ) → first (requestChecks q table) ≡ n → List·Memᴰ n judgeNumbers
     → JudgeEffects q table (outcomeAt n q table)
-unfolding effect
+unfolding answered tableAfter without
 judge-by q table n e m = by (eqb n 0) refl (invalidates n) refl
   where
+    left : Bool → Bool → List ℕ
+    left t u = cond t (steppedFor q table) (cond u (without table (ivOf q)) table)
+
     by : (t : Bool) → eqb n 0 ≡ t → (u : Bool) → invalidates n ≡ u
-        → JudgeEffects q table (cond t (accepted (tokenOf q .id) (ivOf q) (ordered q) (stepped q table .window) (q .reply) table) (cond u (invalidated n (tokenOf q .key) (ivOf q) (q .reply) table) (untouched n (q .reply) table)))
+        → JudgeEffects q table (cond t (replied 0 (tokenOf q .id) (q .reply) (left t u)) (cond u (replied n (invalidation (tokenOf q .key)) (q .reply) (left t u)) (untouched n (q .reply) (left t u))))
     by true z u v = judge-zero q table (e ∙ eqb-true n 0 z)
     by false z true v = judge-freed q table n e m v
     by false z false v = judge-kept q table n e m z v

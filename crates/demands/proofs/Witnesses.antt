@@ -38,11 +38,11 @@ use Rattle.token.specs.Token.{tokenText, tokenIn, tokenFrom, openedToken}
 use Rattle.token.proofs.Text.{length-three}
 use Rattle.token.proofs.Exactly.{no-token}
 use Rattle.gate.specs.Calls.{Orders, Setup, Request, ordersOf, setupOf, requestOf}
-use Rattle.gate.specs.Sizes.{tableFits, setupFits, requestFits, endFits}
+use Rattle.gate.specs.Sizes.{tableFits, setupFits, lentFits, requestFits, endFits}
 use Rattle.gate.specs.Checks.{ordersBad, tableChecks, entryChecks}
 use Rattle.gate.specs.Setup as S
 use Rattle.gate.specs.Setup.{offered, expiryOf, offerPart, lastingPart, roomPart, setupChecks, setUp}
-use Rattle.gate.specs.Judge.{fieldsOf, ivOf, openedOf, twice, entryPart, readingPart, coveringPart, tokenPart, signaturePart, sessionPart, noncePart, requestChecks, effect, judged}
+use Rattle.gate.specs.Judge.{fieldsOf, ivOf, openedOf, twice, entryPart, readingPart, coveringPart, tokenPart, signaturePart, sessionPart, noncePart, requestChecks, answered, judged}
 use Rattle.gate.specs.End.{endChecks, ended}
 use Rattle.demands.specs.History.{emptyTable}
 
@@ -148,7 +148,7 @@ pub record RequestWitnesses : Type 0 where
   pub nine : judged (sending 2 fields []) (emptyTable 1) .number ≡ 9
 
 pub request-witnesses : RequestWitnesses
-unfolding judged effect requestChecks entryPart readingPart coveringPart tokenPart signaturePart sessionPart noncePart entryChecks tableChecks requestFits tableFits ordersBad ordersGood goodExtra extraNames goodNames wellFormed fitting sound same records recordOf number codes Value.grammar Value.fieldsOf Value.fieldsIn Value.fieldOf Value.allGood Value.fieldGood Value.carried Pieces.pieces Pieces.upTo Pieces.after decoded full two one ending coded sixBits placeIn alphabet counted obeys ruleOf ruleAt keyNumber placeOf keys isMask isNumeral isNumber plain requestFields required once times contents only nonceBit the maskOf fieldsOf goodBlock linesIn linesUpTo startsLine frontLine lineText textOf goodLine valueByte isToken tokenByte hasByte all leading twice repeated timesNamed sameName lower coveredNames chosen headerNames asOrdered maskBytes numberBytes shortest bytesOf openedOf ivOf
+unfolding judged answered requestChecks entryPart readingPart coveringPart tokenPart signaturePart sessionPart noncePart entryChecks tableChecks requestFits lentFits tableFits ordersBad ordersGood goodExtra extraNames goodNames wellFormed fitting sound same records recordOf number codes Value.grammar Value.fieldsOf Value.fieldsIn Value.fieldOf Value.allGood Value.fieldGood Value.carried Pieces.pieces Pieces.upTo Pieces.after decoded full two one ending coded sixBits placeIn alphabet counted obeys ruleOf ruleAt keyNumber placeOf keys isMask isNumeral isNumber plain requestFields required once times contents only nonceBit the maskOf fieldsOf goodBlock linesIn linesUpTo startsLine frontLine lineText textOf goodLine valueByte isToken tokenByte hasByte all leading twice repeated timesNamed sameName lower coveredNames chosen headerNames asOrdered maskBytes numberBytes shortest bytesOf openedOf ivOf
 request-witnesses = record {
   one = refl;
   two = refl;
