@@ -8,6 +8,7 @@ ghost use Rattle.table.specs.declared.place.Place.the-variants.{Nowhere};
 ghost use Rattle.table.specs.Table.{places, Within};
 ghost use Rattle.gate.specs.Calls.{ordersOf, requestOf};
 ghost use Rattle.gate.specs.Session.{heldAt, with-record};
+ghost use Rattle.gate.specs.Judge.{invalidates};
 ghost use Rattle.gate.specs.Stages.{tells, Decides, SettleIs, decisionOf, leftBy, AnswerIs};
 use super::admitting;
 use super::reading;
@@ -177,6 +178,13 @@ fn decided(number: u32, place: Place, token: Unsealed, nonces: bool, next: Recor
     }
 }
 
+// Whether a number frees the session's record and tells the client.
+pub fn invalidates(number: u32) -> bool
+    ensures { λ r. ⌜ r ≡ invalidates number ⌝ }
+{
+    (number == 10) | (number == 13)
+}
+
 // The effect of a decision on the table.
 pub fn apply(decision: Decision, table: &mut [u8])
     requires { ⌜ Within (places (now table)) (decision .place) ⌝ }
@@ -188,7 +196,7 @@ pub fn apply(decision: Decision, table: &mut [u8])
         put(table, place, next);
         return;
     }
-    if (decision.number == 10) | (decision.number == 13) {
+    if invalidates(decision.number) {
         let next = session::freed();
         put(table, place, next);
     }
@@ -216,7 +224,7 @@ pub fn answer(decision: Decision, reply: &mut [u8]) -> u32
         cells::put_front(reply, &id[..len]);
         return 256 * (len as u32);
     }
-    if (decision.number == 10) | (decision.number == 13) {
+    if invalidates(decision.number) {
         let key = decision.key;
         reply::invalidate(reply, &key);
         return decision.number + 256 * 90;

@@ -136,7 +136,7 @@ fn after(number: u32, nonces: bool, place: Place, next: Record, record: Record) 
     if (number == 0) & nonces {
         return next;
     }
-    if (number == 10) | (number == 13) {
+    if judge::invalidates(number) {
         return session::freed();
     }
     record

@@ -49,20 +49,21 @@ returns c table =
 
 invalidate-requires : tie.Need-invalidate-requires
 invalidate-requires c κs =
-    let room = c .before .before .before .before .before .before .before .before .before .pre .1 (told (c .before .before .before .before .before .before .before .before .before .args .decision .number) (c .before .before .before .if2 .taken)) .1 in
+    let d = c .before .before .before .before .before .before .before .before .args .decision in
+    let room = c .before .before .before .before .before .before .before .before .pre .1 (told (d .number) (sym (c .before .before .before .before .invalidates .ensures) ∙ c .before .before .before .if2 .taken)) .1 in
     search needs
 
 returns-2 : tie.Need-returns-2
 returns-2 c table =
-    let d = c .before .before .before .before .before .before .before .before .before .before .before .before .before .args .decision in
-    answer-is _ (d .number) (length (invalidation (d .key))) _ table (omega (arith, length-invalidation (d .key))) (c .before .before .before .before .before .before .before .before .before .before .before .before .before .pre .0)
-    ∙ sym (answered-freed (d .number) _ _ _ table (c .before .before .before .before .before .before .before .if2 .taken) ∙ simp (sym (c .before .before .before .invalidate .ensures)))
+    let d = c .before .before .before .before .before .before .before .before .before .before .before .before .args .decision in
+    answer-is _ (d .number) (length (invalidation (d .key))) _ table (omega (arith, length-invalidation (d .key))) (c .before .before .before .before .before .before .before .before .before .before .before .before .pre .0)
+    ∙ sym (answered-freed (d .number) _ _ _ table (sym (c .before .before .before .before .before .before .before .before .invalidates .ensures) ∙ c .before .before .before .before .before .before .before .if2 .taken) ∙ simp (sym (c .before .before .before .invalidate .ensures)))
 
 returns-3 : tie.Need-returns-3
 returns-3 c table =
-    let d = c .before .before .before .before .before .before .args .decision in
-    answer-is _ (d .number) 0 _ table (omega arith) (c .before .before .before .before .before .before .pre .0)
-    ∙ sym (answered-kept (d .number) _ _ _ table (c .before .before .before .if1 .left) (c .if2 .left))
+    let d = c .before .before .before .before .before .args .decision in
+    answer-is _ (d .number) 0 _ table (omega arith) (c .before .before .before .before .before .pre .0)
+    ∙ sym (answered-kept (d .number) _ _ _ table (c .before .before .if1 .left) (sym (c .before .invalidates .ensures) ∙ c .if2 .left))
 
 pub answer-spec : {M : Type 1} → statement M
 answer-spec =
@@ -75,6 +76,7 @@ answer-spec =
     mul-result
     (λ c. search needs)
     returns
+    (λ c κs. search needs)
     (λ c. search needs)
     invalidate-requires
     (λ c. search needs)

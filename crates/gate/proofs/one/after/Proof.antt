@@ -36,14 +36,14 @@ returns-2 c =
 
 returns-3 : tie.Need-returns-3
 returns-3 c =
-    let s = c .before .before .before .before .before in
+    let s = c .before .before .before .before .before .before in
     let f : length (s .args .«record» .iv) ≡ 12 = search needs in
     ap recordBytes (c .freed .ensures)
-    ∙ stored (s .args .place) (s .args .«record») freed (s .pre) (ap nowhere (c .before .before .before .enum-told .given .1)) f refl
-    ∙ sym (table-freed _ _ _ _ _ (c .before .if2 .taken))
+    ∙ stored (s .args .place) (s .args .«record») freed (s .pre) (ap nowhere (c .before .before .before .before .enum-told .given .1)) f refl
+    ∙ sym (table-freed _ _ _ _ _ (sym (c .before .before .invalidates .ensures) ∙ c .before .if2 .taken))
 
 returns-4 : tie.Need-returns-4
-returns-4 c = sym (table-kept _ _ _ _ _ (c .before .if1 .left) (c .if2 .left))
+returns-4 c = sym (table-kept _ _ _ _ _ (c .before .before .if1 .left) (sym (c .before .invalidates .ensures) ∙ c .if2 .left))
 
 pub after-spec : {M : Type 1} → statement M
-after-spec = tie.close (tie.spec (λ c. search needs) (λ c. search needs) returns returns-2 (λ c κs. search needs) returns-3 returns-4)
+after-spec = tie.close (tie.spec (λ c. search needs) (λ c. search needs) returns returns-2 (λ c κs. search needs) (λ c κs. search needs) returns-3 returns-4)
