@@ -1,5 +1,5 @@
 #!/usr/bin/env python3
-"""What docs/ and README.md cite is there: each path, each must-fail edit, and each name that is cited with its file."""
+"""What docs/ and README.md cite is there: each path, each edit, and each name that is cited with its file."""
 
 import pathlib
 import re
@@ -21,13 +21,18 @@ def files_called(name):
     return list((ROOT / "crates").rglob(name))
 
 
+def is_edit(crate, label):
+    folders = (ROOT / "crates" / crate / "must-fail", ROOT / "tests" / "edits" / crate)
+    return any((folder / f"{label}.edit").exists() for folder in folders)
+
+
 def missing(text):
     for path in PATH.findall(text):
         path = path.rstrip(".")
         if "NAME" not in path and not (ROOT / path).exists():
             yield path
     for crate, label in EDIT.findall(text):
-        if crate in CRATES and not (ROOT / "crates" / crate / "must-fail" / f"{label}.edit").exists():
+        if crate in CRATES and not is_edit(crate, label):
             yield f"{crate}/{label}"
     for name, cited in NAMES.findall(text):
         texts = [file.read_text() for file in files_called(name) if file.exists()]
