@@ -1,159 +1,146 @@
 -- A text decodes to a run of bytes exactly if it is that run's encoding.
 -- Assumes nothing.
 use mathlib.Core.Path.{_≡_, refl, sym, ap, subst, _∙_}
+use mathlib.Core.Bool.{Bool, true, false, false≢true}
 use mathlib.Core.Logic.{_↔_}
 use mathlib.Core.List.{List, [], _∷_, _++_}
-use Prim.Native.Nat.{ℕ, zero, suc, _+_, _/_, _%_, _<_}
+use Prim.Native.Nat.{ℕ, zero, suc, _+_, _*_, _/_, _%_, _<_}
 use native.Mathlib.Omega.{arith}
-use lib.ListN.{take}
+use lib.Dec.{eqb}
+use lib.ListN.{length, take}
+use borrow.Author.Tests.{ltb-true, eqb-true}
 use Rattle.cells.specs.Runs.{Bytes}
-use Rattle.base64.specs.Alphabet.{character, sixBits}
+use Rattle.base64.specs.declared.Measured.{Measured}
+use Rattle.base64.specs.Alphabet.{character, sixBits, pad}
 use Rattle.base64.specs.Encoding.{group, first, second, third, fourth, encoded}
-use Rattle.base64.specs.Decoding.{bytes, joined, three, decoded}
-use Rattle.base64.proofs.Alphabet.{character-sixBits, sixBits-character}
-use Rattle.base64.proofs.Groups.{joined-same, joined-first, joined-second, joined-third, joined-fourth, joined-group, joined-two, joined-one, group-first, group-second, group-third, group-joined, group-spare-two, group-spare-one}
-use Rattle.base64.proofs.Reading.{Reads, none, some-one, some-two, more, reads, read}
+use Rattle.base64.specs.Decoding.{Decoding, nothing, bytes, pick, both, before, last, coded, joined, full, three, two, one, ending, decoded}
+use Rattle.base64.specs.Answers.{sizeOf, measured}
+use Rattle.base64.specs.Steps.{content}
+use Rattle.base64.proofs.Alphabet.{spelled, six, six-coded, six-not-pad, pad-uncoded}
+use Rattle.base64.proofs.Groups.{three-back, two-back, one-back, whole-one, whole-two, whole-three}
 
-same : {p q r s a b c d : ℕ} {l m : List ℕ} → a ≡ p → b ≡ q → c ≡ r → d ≡ s → l ≡ m → p ∷ q ∷ r ∷ s ∷ l ≡ a ∷ b ∷ c ∷ d ∷ m
-same ep eq er es el = cc
+-- that a text is the encoding of what it decodes to, if that is anything
+abbrev Right : List ℕ → Decoding → Type 0
+Right text nothing = Unit {0}
+Right text (bytes bs) = (text ≡ encoded bs) × Bytes bs
 
--- 24 bits that were joined are split into the characters that they came from
-module _ (w x y z n : ℕ) (hw : w < 64) (hx : x < 64) (hy : y < 64) (hz : z < 64) (e : n ≡ joined w x y z) where
-  first-of : first n ≡ character w
-  first-of = ap (λ (m : ℕ). character (m / 262144 % 64)) e ∙ ap character (joined-first w x y z hw hx hy hz)
+either : (text : List ℕ) (t : Bool) (d e : Decoding) → (t ≡ true → Right text d) → (t ≡ false → Right text e) → Right text (pick t d e)
+either text true d e f g = f refl
+either text false d e f g = g refl
 
-  second-of : second n ≡ character x
-  second-of = ap (λ (m : ℕ). character (m / 4096 % 64)) e ∙ ap character (joined-second w x y z hw hx hy hz)
+coded-both : (c : ℕ) (s t : Bool) → coded c ≡ s → both s t ≡ true → (sixBits c < 64) × (t ≡ true)
+unfolding coded
+coded-both c true t e h = (ltb-true (sixBits c) 64 e, h)
+coded-both c false t e h = absurd (false≢true h)
 
-  third-of : third n ≡ character y
-  third-of = ap (λ (m : ℕ). character (m / 64 % 64)) e ∙ ap character (joined-third w x y z hw hx hy hz)
+none : Bytes []
+none i = omega arith
 
-  fourth-of : fourth n ≡ character z
-  fourth-of = ap (λ (m : ℕ). character (m % 64)) e ∙ ap character (joined-fourth w x y z hw hx hy hz)
+byte : (n : ℕ) (xs : List ℕ) → Bytes xs → Bytes (n % 256 ∷ xs)
+byte n xs h zero = omega arith
+byte n xs h (suc i) = h i
 
--- what is read is encoded
-encodes : {text bs : List ℕ} → Reads text bs → text ≡ encoded bs
-unfolding encoded
-encodes none = refl
-encodes (some-one {p = p} {q = q} {r = r} {s = s} hp hq h er es) =
-    let w = sixBits p in
-    let x = sixBits q in
-    let n = group (joined w x 0 0 / 65536 % 256) 0 0 in
-    let e : n ≡ joined w x 0 0 = joined-one w x hp hq h in
+-- the characters of 24 bits that values were put in
+letters : (p q y z n : ℕ) → n ≡ joined (sixBits p) (sixBits q) y z → sixBits p < 64 → sixBits q < 64 → y < 64 → z < 64
+    → (first n ≡ p) × (second n ≡ q) × (third n ≡ character y) × (fourth n ≡ character z)
+letters p q y z n e hp hq hy hz =
+    (spelled p _ hp (omega arith), spelled q _ hq (omega arith), ap character (omega arith), ap character (omega arith))
+
+right-one : (p q : ℕ) → Right (p ∷ q ∷ pad ∷ pad ∷ []) (one p q)
+unfolding one encoded
+right-one p q =
+    either _ (both (coded p) (both (coded q) (eqb (sixBits q % 16) 0))) _ _
+    (λ h.
+    let (hp, h′) = coded-both p _ _ refl h in
+    let (hq, e) = coded-both q _ _ refl h′ in
     let o : 0 < 64 = omega arith in
-    same
-    (first-of w x 0 0 n hp hq o o e ∙ character-sixBits p hp)
-    (second-of w x 0 0 n hp hq o o e ∙ character-sixBits q hq)
-    (sym er)
-    (sym es)
-    refl
-encodes (some-two {p = p} {q = q} {r = r} {s = s} hp hq hr h es) =
-    let w = sixBits p in
-    let x = sixBits q in
-    let y = sixBits r in
-    let n = group (joined w x y 0 / 65536 % 256) (joined w x y 0 / 256 % 256) 0 in
-    let e : n ≡ joined w x y 0 = joined-two w x y hp hq hr h in
-    let o : 0 < 64 = omega arith in
-    same
-    (first-of w x y 0 n hp hq hr o e ∙ character-sixBits p hp)
-    (second-of w x y 0 n hp hq hr o e ∙ character-sixBits q hq)
-    (third-of w x y 0 n hp hq hr o e ∙ character-sixBits r hr)
-    (sym es)
-    refl
-encodes (more {p = p} {q = q} {r = r} {s = s} hp hq hr hs l) =
-    let w = sixBits p in
-    let x = sixBits q in
-    let y = sixBits r in
-    let z = sixBits s in
-    let n = group (joined w x y z / 65536 % 256) (joined w x y z / 256 % 256) (joined w x y z % 256) in
-    let e : n ≡ joined w x y z = joined-group w x y z hp hq hr hs in
-    same
-    (first-of w x y z n hp hq hr hs e ∙ character-sixBits p hp)
-    (second-of w x y z n hp hq hr hs e ∙ character-sixBits q hq)
-    (third-of w x y z n hp hq hr hs e ∙ character-sixBits r hr)
-    (fourth-of w x y z n hp hq hr hs e ∙ character-sixBits s hs)
-    (encodes l)
+    let l = letters p q 0 0 _ (whole-one (sixBits p) (sixBits q) hp hq (eqb-true _ 0 e)) hp hq o o in
+    (cc, byte _ [] none))
+    (λ _. tt)
 
--- six bits of any number
-six : (n : ℕ) → sixBits (character (n % 64)) ≡ n % 64
-six n = sixBits-character (n % 64) (omega arith)
+right-two : (p q r : ℕ) → Right (p ∷ q ∷ r ∷ pad ∷ []) (two p q r)
+unfolding two encoded
+right-two p q r =
+    either _ (both (coded p) (both (coded q) (both (coded r) (eqb (sixBits r % 4) 0)))) _ _
+    (λ h.
+    let (hp, h′) = coded-both p _ _ refl h in
+    let (hq, h″) = coded-both q _ _ refl h′ in
+    let (hr, e) = coded-both r _ _ refl h″ in
+    let n = joined (sixBits p) (sixBits q) (sixBits r) 0 in
+    let l = letters p q (sixBits r) 0 _ (whole-two (sixBits p) (sixBits q) (sixBits r) hp hq hr (eqb-true _ 0 e)) hp hq hr (omega arith) in
+    let er = spelled r _ hr refl in
+    (cc, byte _ (n / 256 % 256 ∷ []) (byte _ [] none)))
+    (λ _. tt)
 
-below : (n : ℕ) → sixBits (character (n % 64)) < 64
-below n = rw (six n) (omega arith)
+right-last : (p q r s : ℕ) (rest : List ℕ) → Right (p ∷ q ∷ r ∷ s ∷ rest) (last (ending p q r s) rest)
+unfolding ending
+right-last p q r s (c ∷ cs) = tt
+right-last p q r s [] =
+    either _ (eqb s pad) _ _
+    (λ es. rw (eqb-true s pad es) (either _ (eqb r pad) _ _ (λ er. rw (eqb-true r pad er) (right-one p q)) (λ _. right-two p q r)))
+    (λ _. tt)
 
--- the three bytes of 24 bits that three bytes are
-three-group : (a b c n : ℕ) → n ≡ group a b c → a < 256 → b < 256 → c < 256 → three n ≡ a ∷ b ∷ c ∷ []
-three-group a b c n e ha hb hc =
-    ap three e ∙ simp (group-first a b c ha hb hc, group-second a b c ha hb hc, group-third a b c ha hb hc)
+right-more : (p q r s : ℕ) (rest : List ℕ) (d : Decoding) → full p q r s ≡ true → Right rest d
+    → Right (p ∷ q ∷ r ∷ s ∷ rest) (before (three (joined (sixBits p) (sixBits q) (sixBits r) (sixBits s))) d)
+unfolding full encoded coded
+right-more p q r s rest nothing h k = tt
+right-more p q r s rest (bytes bs) h k =
+    let (hp, h′) = coded-both p _ _ refl h in
+    let (hq, h″) = coded-both q _ _ refl h′ in
+    let (hr, h‴) = coded-both r _ _ refl h″ in
+    let hs = ltb-true _ 64 h‴ in
+    let n = joined (sixBits p) (sixBits q) (sixBits r) (sixBits s) in
+    let l = letters p q (sixBits r) (sixBits s) _ (whole-three (sixBits p) (sixBits q) (sixBits r) (sixBits s) hp hq hr hs) hp hq hr hs in
+    let er = spelled r _ hr refl in
+    let es = spelled s _ hs refl in
+    (cc, byte _ (n / 256 % 256 ∷ n % 256 ∷ bs) (byte _ (n % 256 ∷ bs) (byte _ bs (k .1))))
 
--- what is encoded is read
-encoded-reads : (bs : List ℕ) → Bytes bs → Reads (encoded bs) bs
-unfolding encoded
-encoded-reads [] h = none
-encoded-reads (a ∷ []) h =
-    let n = group a 0 0 in
-    let o : 0 < 256 = omega arith in
-    let spare = group-spare-one a (h 0) in
-    let e : joined (sixBits (first n)) (sixBits (second n)) 0 0 ≡ n =
-    joined-same (six (n / 262144)) (six (n / 4096)) (sym (spare .1)) (sym (spare .2)) ∙ group-joined a 0 0 (h 0) o o in
-    subst (λ (l : List ℕ). Reads (encoded (a ∷ [])) l) (ap (take 1) (three-group a 0 0 _ e (h 0) o o))
-    (some-one (below (n / 262144)) (below (n / 4096)) (rw (six (n / 4096)) (spare .0)) refl refl)
-encoded-reads (a ∷ b ∷ []) h =
-    let n = group a b 0 in
-    let o : 0 < 256 = omega arith in
-    let spare = group-spare-two a b (h 0) (h 1) in
-    let e : joined (sixBits (first n)) (sixBits (second n)) (sixBits (third n)) 0 ≡ n =
-    joined-same (six (n / 262144)) (six (n / 4096)) (six (n / 64)) (sym (spare .1)) ∙ group-joined a b 0 (h 0) (h 1) o in
-    subst (λ (l : List ℕ). Reads (encoded (a ∷ b ∷ [])) l) (ap (take 2) (three-group a b 0 _ e (h 0) (h 1) o))
-    (some-two (below (n / 262144)) (below (n / 4096)) (below (n / 64)) (rw (six (n / 64)) (spare .0)) refl)
-encoded-reads (a ∷ b ∷ c ∷ rest) h =
-    let n = group a b c in
-    let e : joined (sixBits (first n)) (sixBits (second n)) (sixBits (third n)) (sixBits (fourth n)) ≡ n =
-    joined-same (six (n / 262144)) (six (n / 4096)) (six (n / 64)) (six n) ∙ group-joined a b c (h 0) (h 1) (h 2) in
-    subst (λ (l : List ℕ). Reads (encoded (a ∷ b ∷ c ∷ rest)) l)
-    (ap (λ (l : List ℕ). l ++ rest) (three-group a b c _ e (h 0) (h 1) (h 2)))
-    (more
-    (below (n / 262144))
-    (below (n / 4096))
-    (below (n / 64))
-    (below n)
-    (encoded-reads rest (λ i. h (suc (suc (suc i))))))
+right : (text : List ℕ) → Right text (decoded text)
+unfolding decoded encoded
+right [] = (refl, none)
+right (p ∷ []) = tt
+right (p ∷ q ∷ []) = tt
+right (p ∷ q ∷ r ∷ []) = tt
+right (p ∷ q ∷ r ∷ s ∷ rest) =
+    either _ (full p q r s) _ _ (λ h. right-more p q r s rest (decoded rest) h (right rest)) (λ _. right-last p q r s rest)
+
+-- a run's encoding decodes to it
+back : (bs : List ℕ) → Bytes bs → decoded (encoded bs) ≡ bytes bs
+unfolding encoded decoded full ending one two
+back [] h = refl
+back (a ∷ []) h =
+    let ha = h 0 in
+    let spare : group a 0 0 / 4096 % 64 % 16 ≡ 0 = omega arith in
+    simp (six-coded, pad-uncoded, six, spare) (ap bytes (one-back a ha))
+back (a ∷ b ∷ []) h =
+    let hb = h 1 in
+    let spare : group a b 0 / 64 % 64 % 4 ≡ 0 = omega arith in
+    simp (six-coded, pad-uncoded, six, six-not-pad, spare) (ap bytes (two-back a b (h 0) hb))
+back (a ∷ b ∷ c ∷ rest) h =
+    simp (six-coded, six, back rest (λ i. h (suc (suc (suc i))))) (ap (λ (l : List ℕ). bytes (l ++ rest)) (three-back a b c (h 0) (h 1) (h 2)))
 
 -- THE THEOREM: of a run of bytes and any text, the text decodes to the run exactly if it is the run's encoding
 pub decoded-exactly : (text bs : List ℕ) → Bytes bs → (decoded text ≡ bytes bs) ↔ (text ≡ encoded bs)
-decoded-exactly text bs h =
-    (λ e. encodes (reads text bs e), λ e. ap decoded e ∙ read (encoded-reads bs h))
-
-no-bytes : Bytes []
-no-bytes i = omega arith
-
-one-more : (x : ℕ) (xs : List ℕ) → x < 256 → Bytes xs → Bytes (x ∷ xs)
-one-more x xs h hs zero = h
-one-more x xs h hs (suc i) = hs i
-
-three-more : (n : ℕ) (xs : List ℕ) → Bytes xs → Bytes (three n ++ xs)
-three-more n xs h =
-    one-more (n / 65536 % 256) (n / 256 % 256 ∷ n % 256 ∷ xs) (omega arith)
-    (one-more (n / 256 % 256) (n % 256 ∷ xs) (omega arith) (one-more (n % 256) xs (omega arith) h))
-
-read-bytes : {text bs : List ℕ} → Reads text bs → Bytes bs
-read-bytes none = no-bytes
-read-bytes (some-one {p = p} {q = q} hp hq h er es) =
-    let n = joined (sixBits p) (sixBits q) 0 0 in
-    one-more (n / 65536 % 256) [] (omega arith) no-bytes
-read-bytes (some-two {p = p} {q = q} {r = r} hp hq hr h es) =
-    let n = joined (sixBits p) (sixBits q) (sixBits r) 0 in
-    one-more (n / 65536 % 256) (n / 256 % 256 ∷ []) (omega arith) (one-more (n / 256 % 256) [] (omega arith) no-bytes)
-read-bytes (more {p = p} {q = q} {r = r} {s = s} {bs = bs} hp hq hr hs l) =
-    three-more (joined (sixBits p) (sixBits q) (sixBits r) (sixBits s)) bs (read-bytes l)
+decoded-exactly text bs h = (λ e. subst (Right text) e (right text) .0, λ e. ap decoded e ∙ back bs h)
 
 -- what a text decodes to are bytes
 pub decoded-bytes : (text bs : List ℕ) → decoded text ≡ bytes bs → Bytes bs
-decoded-bytes text bs e = read-bytes (reads text bs e)
+decoded-bytes text bs e = subst (Right text) e (right text) .1
+
+sized : (text : List ℕ) (d : Decoding) (n : ℕ) → Right text d → sizeOf d ≡ Measured.Bytes n
+    → (text ≡ encoded (content d)) × Bytes (content d) × (length (content d) ≡ n)
+sized text nothing n r e = let z : _≡_ {A = ℕ} 0 1 = cc in absurd (omega arith)
+sized text (bytes bs) n r e = (r .0, r .1, cc)
+
+-- the run of a text that encodes n bytes
+pub known : (text : List ℕ) (n : ℕ) → measured text ≡ Measured.Bytes n
+    → (text ≡ encoded (content (decoded text))) × Bytes (content (decoded text)) × (length (content (decoded text)) ≡ n)
+unfolding measured
+known text n e = sized text (decoded text) n (right text) e
 
 -- every run of bytes has one text
 pub encoded-injective : (a b : List ℕ) → Bytes a → Bytes b → encoded a ≡ encoded b → a ≡ b
 encoded-injective a b ha hb e =
-    let left : decoded (encoded a) ≡ bytes a = decoded-exactly (encoded a) a ha .1 refl in
-    let right : decoded (encoded a) ≡ bytes b = decoded-exactly (encoded a) b hb .1 e in
+    let left : decoded (encoded a) ≡ bytes a = back a ha in
+    let right : decoded (encoded b) ≡ bytes b = back b hb in
     cc

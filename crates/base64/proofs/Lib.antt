@@ -2,8 +2,7 @@
 pub mod Listed
 pub mod Alphabet
 pub mod Groups
-pub mod Reading
-pub mod Steps
 pub mod Exactly
 pub mod Encoded
+pub mod Measuring
 pub mod Filling

@@ -6,6 +6,7 @@ use Prim.Native.Nat.{ℕ, zero, suc, _+_, _<_}
 use native.Mathlib.Nat.{zero-add, not-suc-le-zero, le-of-suc-le-suc}
 use native.Mathlib.Omega.{arith}
 use lib.ListN.{getD}
+use Rattle.base64.specs.Steps.{Lists}
 
 -- the values of f at n numbers, counted up from i
 unfoldable pub listed : (ℕ → ℕ) → ℕ → ℕ → List ℕ
@@ -18,6 +19,5 @@ from f i zero k h = absurd (not-suc-le-zero h)
 from f i (suc n) zero h = ap f (omega arith)
 from f i (suc n) (suc k) h = from f (suc i) n k (le-of-suc-le-suc h) ∙ ap f (omega arith)
 
--- an entry of a table that lists f from 0 on
-pub entry : (f : ℕ → ℕ) (n k : ℕ) → k < n → getD (listed f 0 n) k 0 ≡ f k
-entry f n k h = from f 0 n k h ∙ ap f (zero-add k)
+pub lists : (f : ℕ → ℕ) (n : ℕ) → Lists f n (listed f 0 n)
+lists f n = record { at = λ k h. from f 0 n k h ∙ ap f (zero-add k) }

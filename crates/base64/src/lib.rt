@@ -1,17 +1,16 @@
 // Base64 as RFC 4648, section 4, has it: padded, the spare bits zero.
 ghost use mathlib.Core.Path.{_≡_};
-ghost use mathlib.Core.List.{[], _∷_};
 ghost use Prim.Native.Nat.{_+_, _*_, _/_, _≤_, _<_};
 ghost use lib.ListN.{length};
-ghost use Rattle.cells.specs.Runs.{spliced, fronted};
+ghost use Rattle.cells.specs.Runs.{fronted};
 ghost use Rattle.base64.specs.Alphabet.{sixBits};
-ghost use Rattle.base64.specs.Encoding;
 ghost use Rattle.base64.specs.Encoding.{encoded};
-ghost use Rattle.base64.specs.Decoding;
 ghost use Rattle.base64.specs.Decoding.{decoded};
-ghost use Rattle.base64.specs.Answers.{sizeOf, measured, outcome, decodedInto};
-ghost use Rattle.base64.specs.Steps.{content, oneAt, twoAt, threeAt, FullBefore};
+ghost use Rattle.base64.specs.Answers.{measured, outcome, decodedInto};
+ghost use Rattle.base64.specs.Steps.{Lists, content, fullOf, oneOf, twoOf, sizeFirst, eightOf, byteOf};
+use tables::alphabet;
 use tables::character;
+use tables::reverse;
 use tables::six_bits;
 
 mod tables;
@@ -29,173 +28,111 @@ pub enum Decoded {
     TooLong,
 }
 
-// Whether all four bytes of a group are characters.
-fn full(p: u8, q: u8, r: u8, s: u8) -> bool
-    ensures { λ t. ⌜ t ≡ Decoding.full p q r s ⌝ }
+// Whether all four values of a group are those of characters.
+fn full(w: u8, x: u8, y: u8, z: u8) -> bool
+    ensures { λ t. ⌜ t ≡ fullOf w x y z ⌝ }
 {
-    if six_bits(p) >= 64 {
-        return false;
-    }
-    if six_bits(q) >= 64 {
-        return false;
-    }
-    if six_bits(r) >= 64 {
-        return false;
-    }
-    six_bits(s) < 64
+    (w < 64) & ((x < 64) & ((y < 64) & (z < 64)))
 }
 
-// Four six-bit values in a row as 24 bits.
-fn joined(w: u32, x: u32, y: u32, z: u32) -> u32
-    requires { ⌜ (w ≤ 64) × (x ≤ 64) × (y ≤ 64) × (z ≤ 64) ⌝ }
-    ensures { λ n. ⌜ n ≡ Decoding.joined w x y z ⌝ }
+// Whether a text is a last group with one byte, whose second character has four spare bits.
+fn one(text: &[u8], w: u8, x: u8) -> bool
+    requires { ⌜ 4 ≤ length (now text) ⌝ }
+    ensures { λ t. ⌜ t ≡ oneOf (now (text .entry)) w x ⌝ }
 {
-    w * 262144 + x * 4096 + y * 64 + z
+    (text.len() == 4)
+        & ((text[3] == b'=') & ((text[2] == b'=') & ((w < 64) & ((x < 64) & (x % 16 == 0)))))
 }
 
-// The 24 bits of a full group.
-fn bits(p: u8, q: u8, r: u8, s: u8) -> u32
-    ensures { λ n. ⌜ n ≡ Decoding.joined (sixBits p) (sixBits q) (sixBits r) (sixBits s) ⌝ }
+// Whether a text is a last group with two bytes, whose third character has two spare bits.
+fn two(text: &[u8], w: u8, x: u8, y: u8) -> bool
+    requires { ⌜ 4 ≤ length (now text) ⌝ }
+    ensures { λ t. ⌜ t ≡ twoOf (now (text .entry)) w x y ⌝ }
 {
-    joined(six_bits(p), six_bits(q), six_bits(r), six_bits(s))
+    (text.len() == 4)
+        & ((text[3] == b'=')
+            & ((text[2] != b'=') & ((w < 64) & ((x < 64) & ((y < 64) & (y % 4 == 0))))))
 }
 
-// The size of a last group with one byte, whose second character has four spare bits.
-fn one(p: u8, q: u8) -> Measured
-    ensures { λ m. ⌜ m ≡ sizeOf (Decoding.one p q) ⌝ }
+// How many bytes the first group of a text has, which are fewer than three only where nothing follows it; 0 where it is none.
+fn group_size(table: &[u8; 256], text: &[u8]) -> usize
+    requires { ⌜ Lists sixBits 256 (now table) × (4 ≤ length (now text)) ⌝ }
+    ensures { λ n. ⌜ (n ≡ sizeFirst (now (text .entry))) × (n ≤ 3) ⌝ }
 {
-    if six_bits(p) >= 64 {
-        return Measured::Bad;
+    let w = six_bits(table, text, 0);
+    let x = six_bits(table, text, 1);
+    let y = six_bits(table, text, 2);
+    let z = six_bits(table, text, 3);
+    if full(w, x, y, z) {
+        return 3;
     }
-    let x = six_bits(q);
-    if x >= 64 {
-        return Measured::Bad;
+    if one(text, w, x) {
+        return 1;
     }
-    if x % 16 != 0 {
-        return Measured::Bad;
+    if two(text, w, x, y) {
+        return 2;
     }
-    Measured::Bytes(1)
+    0
 }
 
-// The size of a last group with two bytes, whose third character has two spare bits.
-fn two(p: u8, q: u8, r: u8) -> Measured
-    ensures { λ m. ⌜ m ≡ sizeOf (Decoding.two p q r) ⌝ }
-{
-    if six_bits(p) >= 64 {
-        return Measured::Bad;
-    }
-    if six_bits(q) >= 64 {
-        return Measured::Bad;
-    }
-    let y = six_bits(r);
-    if y >= 64 {
-        return Measured::Bad;
-    }
-    if y % 4 != 0 {
-        return Measured::Bad;
-    }
-    Measured::Bytes(2)
-}
-
-// The size of a last group that = fills up.
-fn ending(p: u8, q: u8, r: u8, s: u8) -> Measured
-    ensures { λ m. ⌜ m ≡ sizeOf (Decoding.ending p q r s) ⌝ }
-{
-    if s != b'=' {
-        return Measured::Bad;
-    }
-    if r == b'=' {
-        return one(p, q);
-    }
-    two(p, q, r)
-}
-
-// Where the first group stands that is not full.
-fn full_before(text: &[u8]) -> usize
-    ensures { λ r. ⌜ FullBefore (now (text .entry)) r ⌝ }
+fn size(table: &[u8; 256], text: &[u8]) -> Measured
+    requires { ⌜ Lists sixBits 256 (now table) ⌝ }
+    ensures { λ m. ⌜ m ≡ measured (now (text .entry)) ⌝ }
 {
     let mut at = 0;
+    let mut n = 0;
     while at + 4 <= text.len() {
-        if !full(text[at], text[at + 1], text[at + 2], text[at + 3]) {
-            return at;
+        let k = group_size(table, &text[at..]);
+        if k == 0 {
+            return Measured::Bad;
         }
+        n += k;
         at += 4;
     }
-    at
+    if at != text.len() {
+        return Measured::Bad;
+    }
+    Measured::Bytes(n)
 }
 
 // How many bytes a text encodes, if it encodes any. The empty text encodes the empty run.
 pub fn measure(text: &[u8]) -> Measured
     ensures { λ m. ⌜ m ≡ measured (now (text .entry)) ⌝ }
 {
-    let at = full_before(text);
-    let left = text.len() - at;
-    if left == 0 {
-        return Measured::Bytes(at / 4 * 3);
-    }
-    if left != 4 {
-        return Measured::Bad;
-    }
-    let last = ending(text[at], text[at + 1], text[at + 2], text[at + 3]);
-    let Measured::Bytes(n) = last else {
-        return Measured::Bad;
-    };
-    Measured::Bytes(at / 4 * 3 + n)
+    let table = reverse();
+    size(&table, text)
 }
 
-// The three bytes of the full group at byte at of the text.
-fn put_three(text: &[u8], at: usize, out: &mut [u8], i: usize)
-    requires { ⌜ (at + 4 ≤ length (now text)) × (i + 3 ≤ length (now out)) ⌝ }
-    ensures { λ _. ⌜ now (out .exit) ≡ spliced (now (out .entry)) i (threeAt (now (text .entry)) at) ⌝ }
+// Eight bits of two six-bit values in a row: those of byte k of a group.
+fn eight(a: u8, b: u8, k: usize) -> u8
+    requires { ⌜ k < 3 ⌝ }
+    ensures { λ r. ⌜ r ≡ eightOf a b k ⌝ }
 {
-    let n = bits(text[at], text[at + 1], text[at + 2], text[at + 3]);
-    out[i] = (n / 65536 % 256) as u8;
-    out[i + 1] = (n / 256 % 256) as u8;
-    out[i + 2] = (n % 256) as u8;
+    ((((a as u32) * 64 + (b as u32)) >> (4 - 2 * k)) % 256) as u8
 }
 
-// The two bytes of a last group.
-fn put_two(text: &[u8], at: usize, out: &mut [u8], i: usize)
-    requires { ⌜ (at + 4 ≤ length (now text)) × (i + 2 ≤ length (now out)) ⌝ }
-    ensures { λ _. ⌜ now (out .exit) ≡ spliced (now (out .entry)) i (twoAt (now (text .entry)) at) ⌝ }
+// Byte i of those that a text encodes.
+fn byte(table: &[u8; 256], text: &[u8], i: usize) -> u8
+    requires { ⌜ Lists sixBits 256 (now table) × (i + i / 3 + 1 < length (now text)) ⌝ }
+    ensures { λ b. ⌜ b ≡ byteOf (now (text .entry)) i ⌝ }
 {
-    let n = joined(
-        six_bits(text[at]),
-        six_bits(text[at + 1]),
-        six_bits(text[at + 2]),
-        0,
-    );
-    out[i] = (n / 65536 % 256) as u8;
-    out[i + 1] = (n / 256 % 256) as u8;
-}
-
-// The one byte of a last group.
-fn put_one(text: &[u8], at: usize, out: &mut [u8], i: usize)
-    requires { ⌜ (at + 4 ≤ length (now text)) × (i + 1 ≤ length (now out)) ⌝ }
-    ensures { λ _. ⌜ now (out .exit) ≡ spliced (now (out .entry)) i (oneAt (now (text .entry)) at) ⌝ }
-{
-    let n = joined(six_bits(text[at]), six_bits(text[at + 1]), 0, 0);
-    out[i] = (n / 65536 % 256) as u8;
+    let at = i + i / 3;
+    eight(
+        six_bits(table, text, at),
+        six_bits(table, text, at + 1),
+        i % 3,
+    )
 }
 
 // The bytes of a text that encodes n of them.
-fn fill(text: &[u8], n: usize, out: &mut [u8])
-    requires { ⌜ (measured (now text) ≡ Measured.Bytes n) × (n ≤ length (now out)) ⌝ }
+fn fill(table: &[u8; 256], text: &[u8], n: usize, out: &mut [u8])
+    requires { ⌜ Lists sixBits 256 (now table) × (measured (now text) ≡ Measured.Bytes n) × (n ≤ length (now out)) ⌝ }
     ensures { λ _. ⌜ now (out .exit) ≡ fronted (content (decoded (now (text .entry)))) (now (out .entry)) ⌝ }
 {
-    let mut at = 0;
     let mut i = 0;
-    while i + 3 <= n {
-        put_three(text, at, out, i);
-        at += 4;
-        i += 3;
-    }
-    if i + 2 == n {
-        put_two(text, at, out, i);
-        return;
-    }
-    if i + 1 == n {
-        put_one(text, at, out, i);
+    while i < n {
+        out[i] = byte(table, text, i);
+        i += 1;
     }
 }
 
@@ -203,65 +140,15 @@ fn fill(text: &[u8], n: usize, out: &mut [u8])
 pub fn decode(text: &[u8], out: &mut [u8]) -> Decoded
     ensures { λ r. ⌜ outcome r (now (out .exit)) ≡ decodedInto (now (text .entry)) (now (out .entry)) ⌝ }
 {
-    let Measured::Bytes(n) = measure(text) else {
+    let table = reverse();
+    let Measured::Bytes(n) = size(&table, text) else {
         return Decoded::Bad;
     };
     if out.len() < n {
         return Decoded::TooLong;
     }
-    fill(text, n, out);
+    fill(&table, text, n, out);
     Decoded::Bytes(n)
-}
-
-// Three bytes in a row as 24 bits.
-fn group(a: u8, b: u8, c: u8) -> u32
-    ensures { λ n. ⌜ n ≡ Encoding.group a b c ⌝ }
-{
-    (a as u32) * 65536 + (b as u32) * 256 + (c as u32)
-}
-
-// The four characters of a group, from byte at of the buffer on.
-fn put(out: &mut [u8], at: usize, p: u8, q: u8, r: u8, s: u8)
-    requires { ⌜ at + 4 ≤ length (now out) ⌝ }
-    ensures { λ _. ⌜ now (out .exit) ≡ spliced (now (out .entry)) at (p ∷ q ∷ r ∷ s ∷ []) ⌝ }
-{
-    out[at] = p;
-    out[at + 1] = q;
-    out[at + 2] = r;
-    out[at + 3] = s;
-}
-
-fn encode_three(a: u8, b: u8, c: u8, out: &mut [u8], at: usize)
-    requires { ⌜ at + 4 ≤ length (now out) ⌝ }
-    ensures { λ _. ⌜ now (out .exit) ≡ spliced (now (out .entry)) at (encoded (a ∷ b ∷ c ∷ [])) ⌝ }
-{
-    let n = group(a, b, c);
-    let p = character(n / 262144 % 64);
-    let q = character(n / 4096 % 64);
-    let r = character(n / 64 % 64);
-    let s = character(n % 64);
-    put(out, at, p, q, r, s);
-}
-
-fn encode_two(a: u8, b: u8, out: &mut [u8], at: usize)
-    requires { ⌜ at + 4 ≤ length (now out) ⌝ }
-    ensures { λ _. ⌜ now (out .exit) ≡ spliced (now (out .entry)) at (encoded (a ∷ b ∷ [])) ⌝ }
-{
-    let n = group(a, b, 0);
-    let p = character(n / 262144 % 64);
-    let q = character(n / 4096 % 64);
-    let r = character(n / 64 % 64);
-    put(out, at, p, q, r, b'=');
-}
-
-fn encode_one(a: u8, out: &mut [u8], at: usize)
-    requires { ⌜ at + 4 ≤ length (now out) ⌝ }
-    ensures { λ _. ⌜ now (out .exit) ≡ spliced (now (out .entry)) at (encoded (a ∷ [])) ⌝ }
-{
-    let n = group(a, 0, 0);
-    let p = character(n / 262144 % 64);
-    let q = character(n / 4096 % 64);
-    put(out, at, p, q, b'=', b'=');
 }
 
 // The text of a byte run, at the front of the buffer, and its length.
@@ -269,20 +156,12 @@ pub fn encode(bytes: &[u8], out: &mut [u8]) -> usize
     requires { ⌜ 4 * ((length (now bytes) + 2) / 3) ≤ length (now out) ⌝ }
     ensures { λ r. ⌜ (r ≡ length (encoded (now (bytes .entry)))) × (now (out .exit) ≡ fronted (encoded (now (bytes .entry))) (now (out .entry))) ⌝ }
 {
-    let mut at = 0;
+    let table = alphabet();
+    let n = (bytes.len() + 2) / 3 * 4;
     let mut i = 0;
-    while i + 3 <= bytes.len() {
-        encode_three(bytes[i], bytes[i + 1], bytes[i + 2], out, at);
-        at += 4;
-        i += 3;
+    while i < n {
+        out[i] = character(&table, bytes, i);
+        i += 1;
     }
-    if i + 2 == bytes.len() {
-        encode_two(bytes[i], bytes[i + 1], out, at);
-        return at + 4;
-    }
-    if i + 1 == bytes.len() {
-        encode_one(bytes[i], out, at);
-        return at + 4;
-    }
-    at
+    n
 }

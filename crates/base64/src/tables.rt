@@ -1,7 +1,10 @@
-// The alphabet both ways. Each table's rule is proved once, over the whole table.
+// The alphabet both ways. Each table's rule is proved once, over the whole table, where it is made. It is then lent: a constant that is indexed is
+// written anew on the stack each time.
 ghost use mathlib.Core.Path.{_≡_};
-ghost use Prim.Native.Nat.{_≤_, _<_};
+ghost use Prim.Native.Nat.{_+_, _-_, _*_, _/_, _%_, _^_, _<_};
+ghost use lib.ListN.{length, getD};
 ghost use Rattle.base64.specs.Alphabet.{character, sixBits};
+ghost use Rattle.base64.specs.Steps.{Lists, sixOf, characterOf};
 
 // The characters by their six-bit values.
 const ALPHABET: [u8; 64] = [
@@ -331,17 +334,52 @@ const REVERSE: [u8; 256] = [
     64,
 ];
 
-// The character of a six-bit value.
-pub fn character(v: u32) -> u8
-    requires { ⌜ v < 64 ⌝ }
-    ensures { λ r. ⌜ r ≡ character v ⌝ }
+pub fn alphabet() -> [u8; 64]
+    ensures { λ r. ⌜ Lists character 64 r ⌝ }
 {
-    ALPHABET[v as usize]
+    ALPHABET
 }
 
-// The six-bit value of a character, and 64 for every other byte.
-pub fn six_bits(c: u8) -> u32
-    ensures { λ r. ⌜ (r ≡ sixBits c) × (r ≤ 64) ⌝ }
+pub fn reverse() -> [u8; 256]
+    ensures { λ r. ⌜ Lists sixBits 256 r ⌝ }
 {
-    REVERSE[c as usize] as u32
+    REVERSE
+}
+
+// The six-bit value of byte i of a text, and 64 where that is no character.
+pub fn six_bits(table: &[u8; 256], text: &[u8], i: usize) -> u8
+    requires { ⌜ Lists sixBits 256 (now table) × (i < length (now text)) ⌝ }
+    ensures { λ r. ⌜ r ≡ sixBits (getD (now (text .entry)) i 0) ⌝ }
+{
+    table[text[i] as usize]
+}
+
+// The byte of a run at an index, and 0 past its end.
+fn byte_at(bytes: &[u8], i: usize) -> u8
+    ensures { λ r. ⌜ r ≡ getD (now (bytes .entry)) i 0 ⌝ }
+{
+    if i < bytes.len() {
+        return bytes[i];
+    }
+    0
+}
+
+// Six bits of two bytes in a row: those of character k of a group.
+fn six(a: u8, b: u8, k: usize) -> u32
+    requires { ⌜ k < 4 ⌝ }
+    ensures { λ v. ⌜ v ≡ sixOf a b k ⌝ }
+{
+    (((a as u32) * 256 + (b as u32)) >> (10 - 6 * k % 8)) % 64
+}
+
+// Character i of the text of a run, and = where the run has no byte for it.
+pub fn character(table: &[u8; 64], bytes: &[u8], i: usize) -> u8
+    requires { ⌜ Lists character 64 (now table) ⌝ }
+    ensures { λ c. ⌜ c ≡ characterOf (now (bytes .entry)) i ⌝ }
+{
+    let at = i / 4 * 3 + 3 * (i % 4) / 4;
+    if at >= bytes.len() {
+        return b'=';
+    }
+    table[six(byte_at(bytes, at), byte_at(bytes, at + 1), i % 4) as usize]
 }
