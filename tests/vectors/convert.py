@@ -1,12 +1,13 @@
 #!/usr/bin/env python3
-"""Writes the data files of the crate `vectors` and its expected output from the published vectors.
+"""Writes the input of the crate `vectors` and its expected output from the published vectors.
 
     apt-get install python3-cryptography-vectors      (NIST's files as they were published)
     tests/vectors/convert.py
 
 The expected output comes from the published answers alone: this program copies them and computes nothing.
-Line format of the data files: words between single spaces, the first one the kind; byte runs in hexadecimal, `-` for
-an empty one; a line that begins with `#` names the source.
+A line of the input is a kind and byte runs in hexadecimal, each after a comma; crates/vectors/src says which runs a kind
+takes. The answer stands in the same line of the expected output. A line that begins with `#` names the source; its answer
+is empty.
 """
 import pathlib
 
@@ -16,7 +17,7 @@ NIST = pathlib.Path(cryptography_vectors.__file__).parent
 CRATE = pathlib.Path(__file__).resolve().parents[2] / "crates" / "vectors"
 
 # FIPS 180-4 publishes its examples apart (the NIST page "Cryptographic Standards and Guidelines, example values");
-# the million letters stand in FIPS 180-2, C.3. Each: message or (count, byte), and digest.
+# the million letters stand in FIPS 180-2, C.3. Each: message, or the first part of it, and digest.
 FIPS_180_4 = [
     (b"abc",
      "ddaf35a193617abacc417349ae20413112e6fa4e89a97ea20a9eeee64b55d39a"
@@ -26,7 +27,7 @@ FIPS_180_4 = [
      "8e959b75dae313da8cf4f72814fc143f8f7779c6eb9f7fa17299aeadb6889018"
      "501d289e4900f7e4331b99dec4b5433ac7d329eeb6dd26545e96e55b874be909"),
 ]
-FIPS_180_2_MILLION = (1000000, 0x61,
+FIPS_180_2_MILLION = (b"a" * 999,
                       "e718483d0ce769644e2e42c7bc15b4638e1f98b13b2044285632a803afa973eb"
                       "de0ff244877ea60a4cb0432ce577c31beb009c5c2c49aa2e4eadb217ad8cc09b")
 # RFC 4231, 4.6: case 5, whose digest is cut to 128 bits. Debian's file leaves it out.
@@ -69,10 +70,6 @@ NOT_BASE64 = [
 ]
 
 
-def shown(run):
-    return run.hex() if run else "-"
-
-
 def records(path):
     """The records of a NIST response file: dictionaries of what stood before each blank line, section settings included."""
     settings, record = {}, {}
@@ -89,59 +86,37 @@ def records(path):
             record = {}
 
 
-class Writer:
-    """Data files and the expected output, which counts the vectors of each file."""
-
-    def __init__(self):
-        self.stdout = []
-
-    def file(self, name, source_and_vectors):
-        lines, count = [], 0
-        for item in source_and_vectors:
-            if isinstance(item, str):
-                lines.append("# " + item)
-                continue
-            words, answer = item
-            lines.append(" ".join(words))
-            self.stdout.append(answer)
-            count += 1
-        (CRATE / "data" / name).write_text("\n".join(lines) + "\n")
-        self.stdout.append(f"{name}: {count} vectors")
-
-
 def sha512():
     yield "FIPS 180-4, examples: each whole, then a byte at a time"
     for message, digest in FIPS_180_4:
-        yield ("whole", shown(message)), digest
-        yield ("parts", "1", shown(message)), digest
+        yield ("whole", message.hex()), digest
+        yield ("parts", message[:1].hex(), message.hex()), digest
     yield "FIPS 180-2, C.3: a million letters a, in parts of 999 bytes"
-    count, byte, digest = FIPS_180_2_MILLION
-    yield ("repeated", "999", str(count), f"{byte:02x}"), digest
+    first, digest = FIPS_180_2_MILLION
+    yield ("letters", first.hex()), digest
     for name in ("SHA512ShortMsg.rsp", "SHA512LongMsg.rsp"):
         yield f"NIST CAVS 11.0, {name}, all of it; the sizes of the parts are ours"
         for n, r in enumerate(records(NIST / "hashes" / "SHA2" / name)):
-            message = bytes.fromhex(r["Msg"])[:int(r["Len"]) // 8]
-            part = (None, 1, 127, 128, 129, 63)[n % 6]
-            yield (("parts", str(part)) if part else ("whole",)) + (shown(message),), r["MD"]
+            message = r["Msg"][:int(r["Len"]) // 4]
+            size = (None, 1, 127, 128, 129, 63)[n % 6]
+            yield ("parts", message[:2 * size], message) if size else ("whole", message), r["MD"]
 
 
 def monte():
-    yield "NIST CAVS 11.1, SHA512Monte.rsp, its seed and first ten rounds"
-    seed, rounds = None, []
-    for r in records(NIST / "hashes" / "SHA2" / "SHA512Monte.rsp"):
-        seed = r.get("Seed", seed)
-        if "COUNT" in r:
-            rounds.append(r["MD"])
-    yield ("monte", "10", seed), "\n".join(rounds[:10])
+    yield "NIST CAVS 11.1, SHA512Monte.rsp, its first ten rounds; the seed of each but the first is the digest before it"
+    rows = list(records(NIST / "hashes" / "SHA2" / "SHA512Monte.rsp"))
+    digests = [r["MD"] for r in rows if "COUNT" in r][:10]
+    seeds = [r["Seed"] for r in rows if "Seed" in r] + digests
+    for seed, digest in zip(seeds, digests):
+        yield ("monte", 3 * seed), digest
 
 
 def hmac():
-    yield "RFC 4231, cases 1 to 7 for SHA-512; the number is that of the digest's bytes that are published"
-    key, text, digest = RFC_4231_CASE_5
+    yield "RFC 4231, cases 1 to 7 for SHA-512; the fifth is published truncated to 128 bits"
     cases = [(bytes.fromhex(r["Key"]), bytes.fromhex(r["Msg"]), r["MD"])
              for r in records(NIST / "HMAC" / "rfc-4231-sha512.txt")]
     for key, text, digest in cases[:4] + [RFC_4231_CASE_5] + cases[4:]:
-        yield ("hmac", str(len(digest) // 2), shown(key), shown(text)), digest
+        yield ("hmac" if len(digest) == 128 else "truncated", key.hex(), text.hex()), digest
 
 
 def aes():
@@ -169,37 +144,39 @@ def gcm(name):
 def seal():
     yield "NIST CAVS 14.0, gcmEncryptExtIV256.rsp, all with an IV of 96 bits, a tag of 128 and no associated data"
     for r in gcm("gcmEncryptExtIV256.rsp"):
-        yield ("seal", r["Key"], r["IV"], r["PT"] or "-"), (r["CT"] or "-") + " " + r["Tag"]
+        yield ("seal", r["Key"], r["IV"], r["PT"]), r["CT"] + r["Tag"]
 
 
 def unseal():
+    """The call's number stands before the text: 2 where the tag is wrong, and the buffer is as it was, zeros."""
     yield "NIST CAVS 14.0, gcmDecrypt256.rsp, all with an IV of 96 bits, a tag of 128 and no associated data"
     for r in gcm("gcmDecrypt256.rsp"):
-        yield ("open", r["Key"], r["IV"], r["CT"] or "-", r["Tag"]), "wrong" if "FAIL" in r else r["PT"] or "-"
+        answer = "2" + "0" * len(r["CT"]) if "FAIL" in r else "0" + r["PT"]
+        yield ("open", r["Key"], r["IV"], r["CT"], r["Tag"]), answer
 
 
 def base64():
+    """A text that encodes nothing has the answer 1."""
     for source, pairs in (("RFC 4648, 10", RFC_4648_10), ("document 01, proved cases 2 to 5", DOCUMENT_01)):
-        yield f"{source}: each run encoded, then its text, in hexadecimal, decoded"
+        yield f"{source}: each run encoded, then its text decoded"
         for run, text in pairs:
-            yield ("encode", shown(run)), text.decode()
-            yield ("decode", shown(text)), shown(run)
+            yield ("encode", run.hex()), text.hex()
+            yield ("decode", text.hex()), run.hex()
     for reason, texts in NOT_BASE64:
         yield f"no encoding by RFC 4648, {reason}"
         for text in texts:
-            yield ("decode", shown(text)), "bad"
+            yield ("decode", text.hex()), "1"
 
 
 def main():
-    writer = Writer()
-    writer.file("sha512.txt", sha512())
-    writer.file("monte.txt", monte())
-    writer.file("hmac.txt", hmac())
-    writer.file("aes.txt", aes())
-    writer.file("seal.txt", seal())
-    writer.file("open.txt", unseal())
-    writer.file("base64.txt", base64())
-    (CRATE / "stdout").write_text("\n".join(writer.stdout) + "\n")
+    given, answers = [], []
+    for source in (sha512, monte, hmac, aes, seal, unseal, base64):
+        for item in source():
+            words, answer = (["# " + item], "") if isinstance(item, str) else item
+            given.append(",".join(words))
+            answers.append(answer)
+    (CRATE / "stdin").write_text("\n".join(given) + "\n")
+    (CRATE / "stdout").write_text("\n".join(answers) + "\n")
 
 
 if __name__ == "__main__":

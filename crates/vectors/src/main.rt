@@ -1,142 +1,152 @@
-// Published vectors: prints what our code computes for each line of the data files, and how many lines it ran.
+// Published vectors: prints, for each line of the input, a line of what our code computes for it.
+// A line is a kind, which is told by its first letter, and words in hexadecimal, each after a comma. A line of no kind,
+// as one that names a source, gives an empty line. A line that is malformed gives another answer than the published one.
+mod ciphers;
 mod digests;
-mod sealing;
 mod texts;
 
 ghost use mathlib.Core.Path.{_≡_};
-ghost use Prim.Native.Nat.{_≤_};
+ghost use Prim.Native.Nat.{_+_, _^_, _≤_, _<_};
 ghost use lib.ListN.{length};
+use bytes::scan;
+use libc::STDIN_FILENO;
 use libc::STDOUT_FILENO;
-use words::Ran;
 
 fn main() {
-    let mut room = io::large_buffer();
-    file(b"sha512.txt", &mut room);
-    file(b"monte.txt", &mut room);
-    file(b"hmac.txt", &mut room);
-    file(b"aes.txt", &mut room);
-    file(b"seal.txt", &mut room);
-    file(b"open.txt", &mut room);
-    file(b"base64.txt", &mut room);
+    let mut room = [0u8; 3145728];
+    let n = io::read_full(STDIN_FILENO, &mut room);
+    lines(&room, n);
 }
 
-// Runs the vectors of one data file, which is read through room.
-fn file(path: &[u8], room: &mut [u8])
-    requires { ⌜ length (now room) ≡ 65536 ⌝ }
-{
-    let fd = os::open_read(path);
-    if fd < 0 {
-        os::fail(path);
-        return;
-    }
-    let count = chunks(fd, room);
-    libc::close(fd);
-    io::write_all(STDOUT_FILENO, path);
-    io::write_all(STDOUT_FILENO, b": ");
-    io::print_decimal(STDOUT_FILENO, count);
-    io::write_all(STDOUT_FILENO, b" vectors\n");
-}
-
-// Reads a file of at most 1,024 buffers, runs its lines and counts the vectors. A last line that no line feed ends is malformed.
-fn chunks(fd: i32, room: &mut [u8]) -> u64
-    requires { ⌜ length (now room) ≡ 65536 ⌝ }
-{
-    let mut count: u64 = 0;
-    let mut held = 0;
-    let mut left: u64 = 1024;
-    while 0 < left {
-        let end = fill(fd, room, held);
-        if end == held {
-            return ended(count, held);
-        }
-        let ran = lines(room, end);
-        count += ran.count;
-        held = words::keep(room, ran.done, end);
-        left -= 1;
-    }
-    ended(count, held)
-}
-
-fn ended(count: u64, held: usize) -> u64 {
-    if 0 < held {
-        io::write_all(STDOUT_FILENO, b"malformed end\n");
-    }
-    count
-}
-
-// Reads on behind the bytes that room holds; where what it holds then ends.
-fn fill(fd: i32, room: &mut [u8], held: usize) -> usize
-    requires { ⌜ held ≤ length (now room) ⌝ }
-    ensures { λ r. ⌜ (held ≤ r) × (r ≤ length (now (room .entry))) ⌝ }
-{
-    held + io::read_full(fd, &mut room[held..])
-}
-
-// How many vectors were run, and where the last whole line ends.
-struct Chunk {
-    count: u64,
-    done: usize,
-}
-
-// Runs the whole lines of text before end.
-fn lines(text: &[u8], end: usize) -> Chunk
-    requires { ⌜ end ≤ length (now text) ⌝ }
-    ensures { λ r. ⌜ (r .done ≤ end) × (r .count ≤ r .done) ⌝ }
+// Runs the lines of the first n bytes of text.
+fn lines(text: &[u8], n: usize)
+    requires { ⌜ n ≤ length (now text) ⌝ }
 {
     let mut at = 0;
-    let mut count: u64 = 0;
-    while at < end {
-        let feed = words::line_end(text, at);
-        if end <= feed {
-            break;
+    let mut end = scan::find(text, 0, n, b'\n');
+    while end < n {
+        line(text, at, end);
+        at = end + 1;
+        end = scan::find(text, at, n, b'\n');
+    }
+}
+
+fn line(text: &[u8], at: usize, end: usize)
+    requires { ⌜ (at ≤ end) × (end < length (now text)) ⌝ }
+{
+    let mut bytes = io::large_buffer();
+    let words = decoded(text, at, end, &mut bytes);
+    run(text[at], words, &bytes);
+    io::write_all(STDOUT_FILENO, b"\n");
+}
+
+// The place up to which a line is decoded, where its last four words start among its bytes, and where they end.
+struct Words {
+    at: usize,
+    first: usize,
+    second: usize,
+    third: usize,
+    fourth: usize,
+    end: usize,
+}
+
+// The words of a line, whose bytes go to the front of out. They take up three quarters of it at most, so that their base64
+// text fits in as much.
+fn decoded(text: &[u8], from: usize, stop: usize, out: &mut [u8]) -> Words
+    requires { ⌜ (from ≤ stop) × (stop < length (now text)) × (length (now out) ≡ 65536) ⌝ }
+{
+    let mut words = Words {
+        at: scan::find(text, from, stop, b','),
+        first: 0,
+        second: 0,
+        third: 0,
+        fourth: 0,
+        end: 0,
+    };
+    while words.at < stop && words.end < 49152 {
+        let i = words.at;
+        words = words.next(text[i], text[i + 1], out);
+    }
+    words
+}
+
+impl Words {
+    // With what stands at the place: the comma before a word, or the digits of a byte.
+    fn next(self, high: u8, low: u8, out: &mut [u8]) -> Words
+        requires { ⌜ (self .at + 2 < 2 ^ 64) × (self .end < 49152) × (length (now out) ≡ 65536) ⌝ }
+        ensures { λ r. ⌜ self .at < r .at ⌝ }
+    {
+        let end = self.end;
+        if high == b',' {
+            return Words {
+                at: self.at + 1,
+                first: self.second,
+                second: self.third,
+                third: self.fourth,
+                fourth: end,
+                end,
+            };
         }
-        count = words::counted(count, line(&text[at..feed]));
-        at = feed + 1;
+        out[end] = 16 * digit(high) + digit(low);
+        Words {
+            at: self.at + 2,
+            first: self.first,
+            second: self.second,
+            third: self.third,
+            fourth: self.fourth,
+            end: end + 1,
+        }
     }
-    Chunk { count, done: at }
 }
 
-// Runs one line by its kind.
-fn line(line: &[u8]) -> Ran {
-    let kind = words::word(line, 0);
-    if check::same(kind, b"#") {
-        return Ran::Comment;
-    }
-    if check::same(kind, b"whole") {
-        return digests::whole(line);
-    }
-    if check::same(kind, b"parts") {
-        return digests::parts(line);
-    }
-    if check::same(kind, b"repeated") {
-        return digests::repeated(line);
-    }
-    if check::same(kind, b"monte") {
-        return digests::monte(line);
-    }
-    if check::same(kind, b"hmac") {
-        return digests::hmac(line);
-    }
-    other_line(line)
+// The value of a hexadecimal digit, and some number where b is none.
+fn digit(b: u8) -> u8
+    ensures { λ r. ⌜ r < 16 ⌝ }
+{
+    (b % 16 + 9 * (b / 64)) % 16
 }
 
-// The kinds that compute no digest.
-fn other_line(line: &[u8]) -> Ran {
-    let kind = words::word(line, 0);
-    if check::same(kind, b"aes") {
-        return sealing::aes(line);
+fn run(kind: u8, words: Words, bytes: &[u8])
+    requires { ⌜ length (now bytes) ≡ 65536 ⌝ }
+{
+    let first = word(bytes, words.first, words.second);
+    let second = word(bytes, words.second, words.third);
+    let third = word(bytes, words.third, words.fourth);
+    let fourth = word(bytes, words.fourth, words.end);
+    match kind {
+        b'w' => digests::whole(fourth),
+        b'p' => digests::parts(third, fourth),
+        b'l' => digests::letters(fourth),
+        b'm' => digests::monte(fourth),
+        b'h' => digests::hmac(third, fourth, 64),
+        b't' => digests::hmac(third, fourth, 16),
+        b'a' => ciphers::aes(third, fourth),
+        b's' => ciphers::seal(second, third, fourth),
+        b'o' => ciphers::open(first, second, third, fourth),
+        b'e' => texts::encode(fourth),
+        b'd' => texts::decode(fourth),
+        _ => {}
     }
-    if check::same(kind, b"seal") {
-        return sealing::seal(line);
+}
+
+// The bytes of a word. To test here that the words stand in order costs less than to prove that they do.
+fn word(bytes: &[u8], from: usize, to: usize) -> &[u8]
+    requires { ⌜ length (now bytes) ≡ 65536 ⌝ }
+    ensures { λ r. ⌜ length (now r) ≤ 49152 ⌝ }
+{
+    if from <= to {
+        if to <= 49152 {
+            return &bytes[from..to];
+        }
     }
-    if check::same(kind, b"open") {
-        return sealing::open(line);
+    &bytes[0..0]
+}
+
+// Prints the first n bytes of a run.
+fn print(run: &[u8], n: usize) {
+    let mut i = 0;
+    while i < n && i < run.len() {
+        io::print_hex(STDOUT_FILENO, run[i] as u64, 2);
+        i += 1;
     }
-    if check::same(kind, b"encode") {
-        return texts::encode(line);
-    }
-    if check::same(kind, b"decode") {
-        return texts::decode(line);
-    }
-    Ran::Malformed
 }

@@ -1,59 +1,27 @@
-// Base64: each function runs the line of its kind.
+// Base64. Above each function stand its kind and the word that it takes.
 ghost use Prim.Native.Nat.{_≤_};
 ghost use lib.ListN.{length};
+use crate::print;
 use base64::Decoded;
 use libc::STDOUT_FILENO;
-use words::Ran;
 
 // encode RUN: its text
-pub fn encode(line: &[u8]) -> Ran {
-    if words::words(line) != 2 {
-        return Ran::Malformed;
-    }
-    let mut bytes = [0u8; 48];
-    let run = words::unhex(words::word(line, 1), &mut bytes);
-    if !run.good {
-        return Ran::Malformed;
-    }
-    let n = run.size;
-    print_encoded(&bytes[..n]);
-    Ran::Case
-}
-
-fn print_encoded(bytes: &[u8])
-    requires { ⌜ length (now bytes) ≤ 48 ⌝ }
+pub fn encode(run: &[u8])
+    requires { ⌜ length (now run) ≤ 49152 ⌝ }
 {
-    let mut text = [0u8; 64];
-    let n = base64::encode(bytes, &mut text);
-    io::write_all(STDOUT_FILENO, &text[..n]);
-    io::write_all(STDOUT_FILENO, b"\n");
+    let mut text = io::large_buffer();
+    let n = base64::encode(run, &mut text);
+    print(&text, n);
 }
 
-// decode TEXT: its bytes, or that it encodes none
-pub fn decode(line: &[u8]) -> Ran {
-    if words::words(line) != 2 {
-        return Ran::Malformed;
-    }
-    let mut text = [0u8; 64];
-    let run = words::unhex(words::word(line, 1), &mut text);
-    if !run.good {
-        return Ran::Malformed;
-    }
-    let n = run.size;
-    print_decoded(&text[..n])
-}
-
-fn print_decoded(text: &[u8]) -> Ran {
-    let mut bytes = [0u8; 48];
-    match base64::decode(text, &mut bytes) {
-        Decoded::Bytes(n) => {
-            words::print_line(&bytes[..n]);
-            Ran::Case
-        }
+// decode TEXT: its bytes, or a single digit where it encodes none
+pub fn decode(text: &[u8]) {
+    let mut run = io::large_buffer();
+    match base64::decode(text, &mut run) {
+        Decoded::Bytes(n) => print(&run, n),
         Decoded::Bad => {
-            io::write_all(STDOUT_FILENO, b"bad\n");
-            Ran::Case
+            io::print_decimal(STDOUT_FILENO, 1);
         }
-        Decoded::TooLong => Ran::Malformed,
+        Decoded::TooLong => {}
     }
 }

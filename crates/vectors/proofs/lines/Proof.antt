@@ -1,4 +1,4 @@
--- `lines` meets its contract: each line takes at least one byte, and counts one vector at most.
+-- `lines` is safe and ends.
 -- Assumes nothing.
 use borrow.Author.Needs.{needs}
 use Prim.Native.Nat.{_-_, _≤_}
@@ -6,10 +6,10 @@ use Rattle.vectors.proofs.lines.Statement.{statement}
 use Rattle.vectors.proofs.lines.Tie as tie
 
 abbrev Inv-loop : tie.InvT-loop
-Inv-loop text end at₀ count₀ at count = (at ≤ end) × (count ≤ at)
+Inv-loop text n at₀ end₀ at end = (at ≤ end) × (end ≤ n)
 
 abbrev μ-loop : tie.MeasureT-loop
-μ-loop text end at₀ count₀ at count = end - at
+μ-loop text n at₀ end₀ at end = n - end
 
 pub lines-spec : {M : Type 1} → statement M
 lines-spec =
@@ -17,15 +17,11 @@ lines-spec =
     (tie.spec
     Inv-loop
     μ-loop
+    (λ c κs. search needs)
     (λ c. search needs)
     (λ c κs. search needs)
     (λ c. search needs)
-    (λ c. search needs)
-    (λ c. search needs)
     (λ c κs. search needs)
-    (λ c κs. search needs)
-    (λ c. search needs)
-    (λ c. search needs)
     (λ c. search needs)
     (λ c. search needs)
     (λ c. search needs))

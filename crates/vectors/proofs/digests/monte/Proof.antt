@@ -8,10 +8,10 @@ use Rattle.vectors.proofs.digests.monte.Statement.{statement}
 use Rattle.vectors.proofs.digests.monte.Tie as tie
 
 abbrev Inv-loop : tie.InvT-loop
-Inv-loop line rounds seed₀ n i₀ seed i = (i ≤ rounds) × (length seed ≡ 64)
+Inv-loop seeds chain₀ at₀ chain at = (192 ≤ at) × (at ≤ 64191) × (length chain ≡ 65536)
 
 abbrev μ-loop : tie.MeasureT-loop
-μ-loop line rounds seed₀ n i₀ seed i = rounds - i
+μ-loop seeds chain₀ at₀ chain at = 64128 - at
 
 pub monte-spec : {M : Type 1} → statement M
 monte-spec =
@@ -22,11 +22,7 @@ monte-spec =
     (λ c κs. search needs)
     (λ c. search needs)
     (λ c κs. search needs)
-    (λ c κs. search needs)
     (λ c. search needs)
-    (λ c. search needs)
-    (λ c. search needs)
-    (λ c κs. search needs)
     (λ c. search needs)
     (λ c κs. search needs)
     (λ c. search needs)
@@ -36,7 +32,4 @@ monte-spec =
     (λ c κs. search needs)
     (λ c. search needs)
     (λ c κs. search needs)
-    (λ c. search needs)
-    (λ c. search needs)
-    (λ c. search needs)
     (λ c. search needs))

@@ -1,31 +1,30 @@
--- `value` is safe and ends: the test before each digit keeps the number below 2 ^ 64.
+-- `decoded` is safe and ends.
 -- Assumes nothing.
 use borrow.Author.Needs.{needs}
-use Prim.Native.Nat.{_≤_, _-_}
+use mathlib.Core.Path.{_≡_}
+use Prim.Native.Nat.{_-_}
 use lib.ListN.{length}
-use Rattle.words.proofs.value.Statement.{statement}
-use Rattle.words.proofs.value.Tie as tie
+use Rattle.vectors.proofs.decoded.Statement.{statement}
+use Rattle.vectors.proofs.decoded.Tie as tie
 
 abbrev Inv-loop : tie.InvT-loop
-Inv-loop word so-far₀ i₀ so-far i = i ≤ length word
+Inv-loop text from stop out₀ words₀ out words = length out ≡ length out₀
 
 abbrev μ-loop : tie.MeasureT-loop
-μ-loop word so-far₀ i₀ so-far i = length word - i
+μ-loop text from stop out₀ words₀ out words = stop - words .at
 
-pub value-spec : {M : Type 1} → statement M
-value-spec =
+pub decoded-spec : {M : Type 1} → statement M
+decoded-spec =
     tie.close
     (tie.spec
     Inv-loop
     μ-loop
-    (λ c. search needs)
+    (λ c κs. search needs)
     (λ c. search needs)
     (λ c. search needs)
     (λ c. search needs)
     (λ c. search needs)
     (λ c κs. search needs)
-    (λ c. search needs)
-    (λ c. search needs)
     (λ c. search needs)
     (λ c. search needs)
     (λ c. search needs)
