@@ -1,7 +1,7 @@
 // The alphabet both ways. Each table's rule is proved once, over the whole table, where it is made. It is then lent: a constant that is indexed is
 // written anew on the stack each time.
 ghost use mathlib.Core.Path.{_≡_};
-ghost use Prim.Native.Nat.{_+_, _-_, _*_, _/_, _%_, _^_, _<_};
+ghost use Prim.Native.Nat.{_+_, _-_, _*_, _/_, _%_, _<_};
 ghost use lib.ListN.{length, getD};
 ghost use Rattle.base64.specs.Alphabet.{character, sixBits};
 ghost use Rattle.base64.specs.Steps.{Lists, sixOf, characterOf};

@@ -1,5 +1,4 @@
 // SHA-512 and HMAC-SHA-512. Above each function stand its kind and the words that it takes.
-ghost use mathlib.Core.Path.{_≡_};
 ghost use Prim.Native.Nat.{_+_, _≤_};
 ghost use lib.ListN.{length};
 use crate::print;

@@ -1,6 +1,6 @@
 // Published vectors: prints, for each line of the input, a line of what our code computes for it.
 // A line is a kind, which is told by its first letter, and words in hexadecimal, each after a comma. A line of no kind,
-// as one that names a source, gives an empty line. A line that is malformed gives another answer than the published one.
+// as one that names a source, gives an empty line. No line is tested for its form: a wrong one shows by a wrong answer.
 mod ciphers;
 mod digests;
 mod texts;

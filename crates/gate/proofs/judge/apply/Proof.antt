@@ -1,6 +1,6 @@
 -- `judge::apply` meets its contract.
 -- Assumes nothing.
-use mathlib.Core.Path.{sym, ap, _∙_}
+use mathlib.Core.Path.{sym, _∙_}
 use borrow.Author.Needs.{needs}
 use Rattle.gate.proofs.Stages.{table-stepped, table-freed, table-kept}
 use Rattle.gate.proofs.judge.apply.Statement.{statement}

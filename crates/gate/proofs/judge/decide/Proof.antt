@@ -7,7 +7,6 @@ use Prim.Native.Nat.{ℕ}
 use borrow.Author.Needs.{needs}
 use borrow.Author.Tests.{not-true, not-false}
 use lib.ListN.{length}
-use Rattle.orders.specs.declared.Limits.{Limits}
 use Rattle.orders.specs.Orders.{ordersGood, limitsOf}
 use Rattle.orders.proofs.Orders.{checked-good, checked-bad, good-extra, short-extra}
 use Rattle.table.specs.Table.{records}

@@ -1,6 +1,5 @@
 -- `judge::held_at` meets its contract.
 -- Assumes nothing.
-use mathlib.Core.Path.{_∙_}
 use borrow.Author.Needs.{needs}
 use Rattle.gate.proofs.judge.held_at.Statement.{statement}
 use Rattle.gate.proofs.judge.held_at.Tie as tie

@@ -7,13 +7,12 @@ use Prim.Native.Nat.{ℕ}
 use borrow.Author.Needs.{needs}
 use borrow.Author.Tests.{not-true, not-false}
 use lib.ListN.{length}
-use Rattle.orders.specs.declared.Limits.{Limits}
 use Rattle.orders.specs.Orders.{ordersGood, limitsOf}
 use Rattle.orders.proofs.Orders.{checked-good, checked-bad, good-extra, short-extra}
 use Rattle.table.specs.Record.{recordBytes, Fits}
 use Rattle.table.specs.Table.{records}
 use Rattle.table.specs.WellFormed.{wellFormed}
-use Rattle.table.proofs.Single.{one-place, single-rule}
+use Rattle.table.proofs.Single.{single-rule}
 use Rattle.gate.specs.Calls.{Request, ordersOf, requestOf}
 use Rattle.gate.specs.Sizes.{requestFits}
 use Rattle.gate.specs.Checks.{ordersBad}

@@ -1,8 +1,6 @@
 -- `one::place_of` meets its contract.
 -- Assumes nothing.
-use mathlib.Core.Path.{sym, _∙_}
 use borrow.Author.Needs.{needs}
-use borrow.Author.Tests.{not-true}
 use Rattle.table.specs.Record.{Fits}
 use Rattle.table.proofs.Single.{single-found}
 use Rattle.gate.proofs.one.place_of.Statement.{statement}
