@@ -1,4 +1,7 @@
 -- The laws that callers' proofs cite, and those of this crate's own functions.
 pub mod Runs
+pub mod Laid
+pub mod Spans
 pub mod Numbers
+pub mod Decimal
 pub mod Equality

@@ -1,6 +1,6 @@
 -- Byte runs: a part written over, and when two are the same.
 -- Assumes nothing.
-use Prim.Native.Nat.{ℕ, _<_}
+use Prim.Native.Nat.{ℕ, _-_, _<_}
 use mathlib.Core.Bool.{Bool, true, false, _&&_}
 use mathlib.Core.List.{List, [], _∷_, _++_}
 use lib.Dec.{eqb}
@@ -17,6 +17,10 @@ fronted ys xs = ys ++ drop (length ys) xs
 -- the n elements of xs from index at on
 abbrev pub part : List ℕ → ℕ → ℕ → List ℕ
 part xs at n = take n (drop at xs)
+
+-- those from index start up to index end
+abbrev pub cut : List ℕ → ℕ → ℕ → List ℕ
+cut xs start end = take (end - start) (drop start xs)
 
 -- each element is below 256
 abbrev pub Bytes : List ℕ → Type 0

@@ -5,7 +5,10 @@ ghost use Prim.Native.Nat.{_+_, _≤_};
 ghost use lib.ListN.{length, replicate};
 ghost use Rattle.cells.specs.Runs as R;
 ghost use Rattle.cells.specs.Runs.{spliced, fronted, part};
+ghost use Rattle.cells.specs.Laid.{Laid};
 ghost use Rattle.cells.specs.Numbers.{bytesOf, number};
+
+pub mod decimal;
 
 // The number of four bytes of s from byte at on.
 pub fn load32(s: &[u8], at: usize) -> u32
@@ -96,13 +99,14 @@ pub fn put_front(out: &mut [u8], src: &[u8])
     }
 }
 
-// src from byte at of out on; every other byte stays.
-pub fn put_at(out: &mut [u8], at: usize, src: &[u8])
+// src from byte at of out on, and the place after it; every other byte stays.
+pub fn put_at(out: &mut [u8], at: usize, src: &[u8]) -> usize
     requires { ⌜ at + length (now src) ≤ length (now out) ⌝ }
-    ensures { λ _. ⌜ now (out .exit) ≡ spliced (now (out .entry)) at (now (src .entry)) ⌝ }
+    ensures { λ r. ⌜ Laid (now (out .entry)) (now (out .exit)) at r (now (src .entry)) ⌝ }
 {
     let end = at + src.len();
     put_front(&mut out[at..end], src);
+    end
 }
 
 // Whether two runs are the same. Of runs of one length every byte is looked at, whatever the others are.

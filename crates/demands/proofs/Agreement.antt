@@ -11,7 +11,7 @@ use Rattle.cells.specs.Numbers.{number}
 use Rattle.armor.specs.Numerals.{numberBytes, maskBytes}
 use Rattle.armor.specs.Keys.{nameS, nameT, nameLt, nameN, nameH, nameAh, nameTag, nameEah}
 use Rattle.armor.proofs.Requests.{none-held}
-use Rattle.orders.specs.Orders.{coveredNames}
+use Rattle.names.specs.Covered.{coveredNames}
 use Rattle.lines.specs.Lines.{linesIn}
 use Rattle.lines.specs.Values.{coveredValue}
 use Rattle.signed.specs.SignedText.{signedText}

@@ -10,7 +10,7 @@ use Rattle.netstring.specs.Netstring.{netstring}
 use Rattle.netstring.proofs.Examples.{nothing}
 use Rattle.armor.specs.Numerals.{numberBytes, maskBytes, maskOf}
 use Rattle.armor.proofs.Cases.{case-2, case-3, case-4, case-5}
-use Rattle.orders.specs.Text.{codes}
+use Rattle.cells.specs.Text.{codes}
 use Rattle.window.specs.declared.Window.{Window}
 use Rattle.window.specs.Time.{exceeds}
 use Rattle.window.specs.Window.{fresh, bit, numberOf, stepOf}

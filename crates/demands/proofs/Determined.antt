@@ -7,9 +7,9 @@ use mathlib.Core.Path.{_≡_, refl, sym, ap, _∙_}
 use mathlib.Core.List.{List, []}
 use Prim.Native.Nat.{ℕ, _+_, _*_, _/_, _%_}
 use native.Mathlib.Omega.{arith}
-use Rattle.netstring.proofs.Numerals.{decimal-injective}
-use Rattle.orders.specs.Names.{headerNames}
-use Rattle.orders.specs.Extra.{pieces}
+use Rattle.cells.proofs.Decimal.{decimal-injective}
+use Rattle.names.specs.Names.{headerNames}
+use Rattle.names.specs.Extra.{namesIn}
 use Rattle.table.specs.declared.place.Place.the-variants as Place
 use Rattle.table.specs.declared.session.Record.{Record}
 use Rattle.table.specs.Record.{recordBytes, recordOf, Fits}
@@ -28,7 +28,7 @@ use Rattle.gate.specs.Starts.{StartIs}
 use Rattle.primitives.specs.Answer.{Answer, answer}
 use Rattle.primitives.specs.Digests.{sha512Call, hmacCall}
 use Rattle.primitives.specs.Sealing.{SealAnswer, sealAnswer, sealCall, openCall}
-use Rattle.demands.proofs.Pieces.{pieces-injective}
+use Rattle.demands.proofs.Pieces.{names-in-injective}
 
 -- what gate_setup and gate_judge leave: the answer, the reply buffer and the table
 pub record Result : Type 0 where
@@ -132,5 +132,5 @@ start-determined s before (S.Refused m) (S.At j n) p q = absurd (omega (arith, q
 start-determined s before (S.Refused m) (S.Refused n) p q = ap S.Refused (sym (p .is) ∙ q .is)
 
 -- and orders::names
-pub names-determined : (a b : List ℕ) → pieces a ≡ headerNames → pieces b ≡ headerNames → a ≡ b
-names-determined a b p q = pieces-injective a b (p ∙ sym q)
+pub names-determined : (a b : List ℕ) → namesIn a ≡ headerNames → namesIn b ≡ headerNames → a ≡ b
+names-determined a b p q = names-in-injective a b (p ∙ sym q)

@@ -15,18 +15,19 @@ use Rattle.gcm.specs.Gcm.{tagOf, crypted, given, opened}
 use Rattle.gcm.proofs.Opening.{length-crypted}
 use Rattle.base64.specs.Alphabet.{counted, alphabet, placeIn, sixBits}
 use Rattle.base64.specs.Decoding.{coded, full, two, one, ending, decoded}
-use Rattle.netstring.specs.Decimal.{decimal}
+use Rattle.cells.specs.Decimal.{decimal}
 use Rattle.netstring.specs.Netstring.{netstring, netstrings}
 use Rattle.armor.specs.Numerals.{shortest, plain, numberBytes, isNumeral, isNumber, maskBytes, isMask, maskOf}
 use Rattle.armor.specs.Keys.{obeys, keys, placeOf, keyNumber, ruleAt, ruleOf}
 use Rattle.armor.specs.Pieces
 use Rattle.armor.specs.Value
 use Rattle.armor.specs.Fields.{contents, times, the, once, only, required, nonceBit, requestFields, setupFields}
-use Rattle.orders.specs.Text.{codes}
-use Rattle.orders.specs.Spans.{all, leading}
-use Rattle.orders.specs.Names.{hasByte, tokenByte, isToken, lower, sameName, headerNames}
-use Rattle.orders.specs.Extra.{extraNames, goodNames, goodExtra}
-use Rattle.orders.specs.Orders.{chosen, coveredNames, ordersGood, limitsOf}
+use Rattle.cells.specs.Text.{codes}
+use Rattle.cells.specs.Spans.{all, leading}
+use Rattle.names.specs.Names.{hasByte, tokenByte, isToken, lower, sameName, headerNames}
+use Rattle.names.specs.Extra.{extraNames, goodNames, goodExtra}
+use Rattle.names.specs.Covered.{chosen, coveredNames}
+use Rattle.orders.specs.Orders.{ordersGood, limitsOf}
 use Rattle.lines.specs.Lines.{CR, LF, valueByte, goodLine, lineText, textOf, frontLine, startsLine, linesUpTo, linesIn, goodBlock}
 use Rattle.lines.specs.Values.{timesNamed, repeated}
 use Rattle.window.specs.Window.{bit}

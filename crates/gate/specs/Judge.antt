@@ -11,7 +11,8 @@ use Rattle.hmac.specs.Hmac.{hmacSha512}
 use Rattle.armor.specs.Keys.{nameS, nameC, nameT, nameLt, nameN, nameIv, nameTag}
 use Rattle.armor.specs.Value.{Field, grammar, carried}
 use Rattle.armor.specs.Fields.{the, requestFields}
-use Rattle.orders.specs.Orders.{coveredNames, limitsOf}
+use Rattle.names.specs.Covered.{coveredNames}
+use Rattle.orders.specs.Orders.{limitsOf}
 use Rattle.orders.specs.declared.Limits.{Limits}
 use Rattle.lines.specs.Lines.{linesIn, goodBlock}
 use Rattle.lines.specs.Values.{repeated}

@@ -3,7 +3,7 @@ ghost use mathlib.Core.Path.{_≡_};
 ghost use mathlib.Core.Bool.{true};
 ghost use Prim.Native.Nat.{_≤_, _<_};
 ghost use lib.ListN.{length};
-ghost use Rattle.orders.specs.Extra.{goodExtra};
+ghost use Rattle.names.specs.Extra.{goodExtra};
 ghost use Rattle.table.specs.declared.place.Place.the-variants.{Nowhere};
 ghost use Rattle.table.specs.Table.{places, Within};
 ghost use Rattle.gate.specs.Calls.{ordersOf, requestOf};

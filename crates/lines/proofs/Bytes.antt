@@ -4,7 +4,7 @@ use mathlib.Core.Path.{_≡_, refl}
 use mathlib.Core.Bool.{Bool, not, _&&_, _||_}
 use Prim.Native.Nat.{ℕ, _<_}
 use lib.Dec.{leb, eqb}
-use Rattle.orders.proofs.Tokens.{agree}
+use Rattle.names.proofs.Tokens.{agree}
 use Rattle.lines.specs.Lines.{valueByte}
 
 -- what the code computes

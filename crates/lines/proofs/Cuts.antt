@@ -7,7 +7,7 @@ use native.Mathlib.Numerals.{add-one}
 use native.Mathlib.Omega.{arith}
 use lib.ListN.{length, getD, take, drop, take-append-drop, length-drop}
 use lib.Seq.{drop-cons, drop-drop, take-suc, getD-drop, length-take-le}
-use Rattle.orders.specs.Spans.{cut}
+use Rattle.cells.specs.Runs.{cut}
 
 pub length-cut : (xs : List ℕ) (a e : ℕ) → e ≤ length xs → length (cut xs a e) ≡ e - a
 length-cut xs a e h = length-take-le (e - a) (drop a xs) (omega (arith, length-drop a xs))

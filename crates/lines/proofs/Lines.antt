@@ -10,12 +10,12 @@ use borrow.Author.Tests.{eq-eqb, ltb-true, lt-ltb}
 use lib.Dec.{ltb}
 use lib.ListN.{length, take, drop, length-append, length-drop, take-append-drop}
 use lib.Seq.{take-append-seam, drop-append-seam}
-use Rattle.orders.specs.Text.{codes}
-use Rattle.orders.specs.Spans.{all, leading}
+use Rattle.cells.specs.Text.{codes}
+use Rattle.cells.specs.Spans.{all, leading}
 use Rattle.cells.specs.Runs.{same}
 use Rattle.cells.proofs.Equality.{same-self, same-equal}
-use Rattle.orders.specs.Names.{hasByte, tokenByte, isToken}
-use Rattle.orders.proofs.Spans.{leading-append}
+use Rattle.names.specs.Names.{hasByte, tokenByte, isToken}
+use Rattle.cells.proofs.Spans.{leading-append}
 use Rattle.lines.specs.Lines.{Line, colon, CR, LF, valueByte, goodLine, allGood, lineText, textOf, Lines, frontLine, startsLine, linesUpTo, linesIn, goodBlock, linesOf}
 
 -- runs that begin alike

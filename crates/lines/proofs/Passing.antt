@@ -8,8 +8,9 @@ use native.Mathlib.Numerals.{add-one}
 use native.Mathlib.Omega.{arith}
 use lib.ListN.{length, getD, take, drop}
 use lib.Seq.{take-suc, take-add, drop-drop}
-use Rattle.orders.specs.Spans.{cut, all, leading}
-use Rattle.orders.proofs.Spans.{Passed}
+use Rattle.cells.specs.Runs.{cut}
+use Rattle.cells.specs.Spans.{all, leading}
+use Rattle.cells.proofs.Spans.{Passed}
 use Rattle.lines.proofs.Cuts.{length-cut, cut-split}
 
 module _ (p : ℕ → Bool) where

@@ -7,9 +7,10 @@ use Prim.Native.Nat.{ℕ, suc, _+_, _-_, _<_}
 use native.Mathlib.Omega.{arith}
 use lib.ListN.{length, getD, drop}
 use lib.Seq.{drop-drop, getD-drop, getD-append-seam, getD-append-add}
-use Rattle.orders.specs.Spans.{all, leading, Spans, cut}
-use Rattle.orders.specs.Names.{tokenByte}
-use Rattle.orders.proofs.Spans.{leading-append, leading-all}
+use Rattle.cells.specs.Spans.{all, leading, Spans}
+use Rattle.cells.specs.Runs.{cut}
+use Rattle.names.specs.Names.{tokenByte}
+use Rattle.cells.proofs.Spans.{leading-append, leading-all}
 use Rattle.lines.specs.Lines.{Line, colon, CR, LF, valueByte, goodLine, lineText}
 use Rattle.lines.specs.Places.{lineBetween, WholeLine}
 use Rattle.lines.proofs.Cuts.{length-cut, cut-split, inside, drop-at}

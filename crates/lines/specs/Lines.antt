@@ -8,8 +8,8 @@ use mathlib.Core.Option.{Option, none, some}
 use lib.ListN.{length, take, drop}
 use lib.Dec.{eqb}
 use Rattle.cells.specs.Runs.{same}
-use Rattle.orders.specs.Spans.{all, leading}
-use Rattle.orders.specs.Names.{between, tokenByte, isToken}
+use Rattle.cells.specs.Spans.{all, leading}
+use Rattle.names.specs.Names.{between, tokenByte, isToken}
 
 pub record Line : Type 0 where
   pub name : List ℕ

@@ -6,7 +6,7 @@ use mathlib.Core.List.{List, _++_}
 use mathlib.Core.Bool.{true}
 use mathlib.Core.Option.{none, some}
 use lib.ListN.{length, drop}
-use Rattle.orders.specs.Spans.{cut}
+use Rattle.cells.specs.Runs.{cut}
 use Rattle.lines.specs.Lines.{Line, goodLine, lineText, linesIn}
 use Rattle.lines.specs.Values.{trimFront, trimEnd, trimmed, timesNamed, valueIn}
 use Rattle.lines.specs.declared.Place.{Place}

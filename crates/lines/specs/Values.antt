@@ -7,7 +7,7 @@ use mathlib.Core.Bool.{Bool, false, cond, _||_}
 use mathlib.Core.Option.{Option, none, some}
 use lib.ListN.{length}
 use lib.Dec.{eqb, ltb}
-use Rattle.orders.specs.Names.{sameName}
+use Rattle.names.specs.Names.{sameName}
 use Rattle.lines.specs.Lines.{Line, linesIn}
 
 -- a space or a tab

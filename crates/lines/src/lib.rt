@@ -4,14 +4,17 @@ ghost use mathlib.Core.Bool.{true};
 ghost use Prim.Native.Nat.{_≤_};
 ghost use lib.ListN.{length, getD};
 ghost use lib.Dec.{ltb};
-ghost use Rattle.orders.specs.Spans.{cut, all, Spans};
-ghost use Rattle.orders.specs.Extra.{goodExtra};
-ghost use Rattle.orders.specs.Orders.{chosen, coveredNames};
-ghost use Rattle.orders.specs.Walk.{namesFrom};
+ghost use Rattle.cells.specs.Runs.{cut};
+ghost use Rattle.cells.specs.Spans.{all, Spans};
+ghost use Rattle.names.specs.Extra.{goodExtra};
+ghost use Rattle.names.specs.Covered.{chosen, coveredNames};
+ghost use Rattle.names.specs.Walk.{Known, namesFrom};
 ghost use Rattle.lines.specs.Lines.{valueByte, linesIn, goodBlock};
 ghost use Rattle.lines.specs.Values.{blank, timesNamed, repeated, CoveredIs};
 ghost use Rattle.lines.specs.Places.{PlaceIs, FrontAt, BackAt, TrimmedTo, FoundIs};
-use orders::Next;
+use names::Next;
+use names::extra;
+use names::token;
 
 // Whether the block is header lines.
 pub fn good(block: &[u8]) -> bool
@@ -28,12 +31,11 @@ pub fn good(block: &[u8]) -> bool
 }
 
 // Whether a name that the orders cover stands twice in the block.
-pub fn repeats(mask: u64, extra: &[u8], block: &[u8]) -> bool
-    requires { ⌜ goodExtra (now extra) ≡ true ⌝ }
+pub fn repeats(known: &[u8], mask: u64, extra: &[u8], block: &[u8]) -> bool
+    requires { ⌜ Known (now known) × (goodExtra (now extra) ≡ true) ⌝ }
     ensures { λ r. ⌜ r ≡ repeated (coveredNames mask (now (extra .entry))) (linesIn (now (block .entry))) ⌝ }
 {
-    let table = orders::names();
-    repeats_in(block, &table, mask / 2) | repeats_in(block, extra, orders::extra_bits(extra))
+    repeats_in(block, known, mask / 2) | repeats_in(block, extra, extra::extra_bits(extra))
 }
 
 fn repeats_in(block: &[u8], run: &[u8], wanted: u64) -> bool
@@ -42,7 +44,7 @@ fn repeats_in(block: &[u8], run: &[u8], wanted: u64) -> bool
     let mut left = wanted;
     let mut at: usize = 0;
     loop {
-        let Next::Name(start, end, rest) = orders::next_name(run, left, at) else {
+        let Next::Name(start, end, rest) = names::next_name(run, left, at) else {
             return false;
         };
         if twice(block, &run[start..end]) {
@@ -94,7 +96,7 @@ fn find(block: &[u8], at: usize, name: &[u8]) -> Found
         let Place::Whole { colon, end } = line_at(block, place) else {
             return Found::Missing;
         };
-        if orders::same_name(&block[place..colon], name) {
+        if names::same_name(&block[place..colon], name) {
             let value = trim(block, colon + 1, end);
             return Found::At(value.start, value.end, end + 2);
         }
@@ -114,7 +116,7 @@ fn line_at(block: &[u8], at: usize) -> Place
     requires { ⌜ at ≤ length (now block) ⌝ }
     ensures { λ r. ⌜ PlaceIs (now (block .entry)) at r ⌝ }
 {
-    let colon = orders::token_end(block, at);
+    let colon = token::token_end(block, at);
     if colon == at {
         return Place::Broken;
     }

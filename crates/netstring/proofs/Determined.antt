@@ -6,9 +6,9 @@ use Prim.Native.Nat.{ℕ}
 use native.Mathlib.Omega.{arith}
 use lib.ListN.{length, take, drop}
 use lib.Seq.{take-append-seam, drop-append-seam}
-use Rattle.netstring.specs.Decimal.{decimal}
+use Rattle.cells.specs.Decimal.{decimal}
 use Rattle.netstring.specs.Netstring.{colon, comma, netstring, netstrings}
-use Rattle.netstring.proofs.Numerals.{Digits, one, _then_, decimal-digits, decimal-injective}
+use Rattle.cells.proofs.Decimal.{Digits, one, _then_, decimal-digits, decimal-injective}
 
 heads : {x y : ℕ} {xs ys : List ℕ} → x ∷ xs ≡ y ∷ ys → x ≡ y
 heads e = cc

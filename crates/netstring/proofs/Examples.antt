@@ -2,7 +2,7 @@
 -- Assumes nothing.
 use mathlib.Core.List.{[], _∷_}
 use mathlib.Core.Path.{_≡_, refl}
-use Rattle.netstring.specs.Decimal.{decimalTo, decimal}
+use Rattle.cells.specs.Decimal.{decimalTo, decimal}
 use Rattle.netstring.specs.Netstring.{netstring}
 
 pub hello : netstring (104 ∷ 101 ∷ 108 ∷ 108 ∷ 111 ∷ 32 ∷ 119 ∷ 111 ∷ 114 ∷ 108 ∷ 100 ∷ 33 ∷ [])

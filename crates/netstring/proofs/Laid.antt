@@ -10,10 +10,9 @@ use Rattle.cells.specs.Runs.{spliced}
 use Rattle.cells.proofs.Runs.{joined}
 use Rattle.hmac.specs.declared.Hmac.{Hmac}
 use Rattle.hmac.specs.Keyed.{Keyed, TookIn}
-use Rattle.netstring.specs.declared.Decimal.{Decimal}
-use Rattle.netstring.specs.Decimal.{decimal}
+use Rattle.cells.specs.declared.decimal.Decimal.{Decimal}
+use Rattle.cells.specs.Decimal.{decimal, Shown}
 use Rattle.netstring.specs.Netstring.{colon, comma, netstring}
-use Rattle.netstring.specs.Written.{Shown}
 
 -- the pieces in a row
 pub netstring-pieces : (part : List ℕ) → ((decimal (length part) ++ (colon ∷ [])) ++ part) ++ (comma ∷ []) ≡ netstring part

@@ -1,5 +1,4 @@
 -- The laws that callers' proofs cite, and those of this crate's own functions.
-pub mod Numerals
 pub mod Determined
 pub mod Laid
 pub mod Scanned

@@ -9,10 +9,10 @@ use lib.ListN.{length, getD, drop, length-append, length-drop, take-append-drop}
 use lib.Seq.{getD-drop, getD-append-seam, drop-drop, drop-cons}
 use Rattle.cells.specs.Runs.{part}
 use Rattle.cells.proofs.Runs.{length-part}
-use Rattle.netstring.specs.Decimal.{decimal}
+use Rattle.cells.specs.Decimal.{decimal}
 use Rattle.netstring.specs.Netstring.{colon, comma, netstring}
 use Rattle.netstring.specs.Reading.{LengthAt, NoLength, PartAt, NoPart}
-use Rattle.netstring.proofs.Numerals.{decimal-digits, decimal-injective}
+use Rattle.cells.proofs.Decimal.{decimal-digits, decimal-injective}
 use Rattle.netstring.proofs.Determined.{at-colon, netstring-then}
 
 pub no-length : (run : List ℕ) (at : ℕ) → NoLength run at → NoPart run at

@@ -1,5 +1,4 @@
--- The netstring layout (D. J. Bernstein, "Netstrings", 1997), and decimal numbers.
-pub mod Decimal
+-- The netstring layout (D. J. Bernstein, "Netstrings", 1997).
 pub mod Netstring
-pub mod Written
+pub mod Opening
 pub mod Reading

@@ -5,7 +5,7 @@ use mathlib.Core.Path.{_≡_}
 use Prim.Native.Nat.{ℕ, _+_, _-_, _≤_, _<_}
 use lib.ListN.{length, drop}
 use Rattle.cells.specs.Runs.{part}
-use Rattle.netstring.specs.Decimal.{decimal}
+use Rattle.cells.specs.Decimal.{decimal}
 use Rattle.netstring.specs.Netstring.{colon, netstring}
 use Rattle.netstring.specs.declared.reading.Length.{Length}
 use Rattle.netstring.specs.declared.reading.Length.the-variants as L

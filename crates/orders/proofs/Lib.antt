@@ -1,6 +1,2 @@
--- The laws that callers' proofs cite, and those of this crate's own functions.
-pub mod Spans
-pub mod Same
-pub mod Walk
+-- The laws that callers' proofs cite.
 pub mod Orders
-pub mod Tokens

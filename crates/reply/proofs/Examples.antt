@@ -4,7 +4,7 @@ use mathlib.Core.Path.{_≡_, refl}
 use Rattle.cells.specs.Numbers.{bytesOf}
 use Rattle.base64.specs.Alphabet.{counted, alphabet, character}
 use Rattle.base64.specs.Encoding.{encoded}
-use Rattle.orders.specs.Text.{codes}
+use Rattle.cells.specs.Text.{codes}
 use Rattle.armor.specs.Numerals.{shortest, numberBytes, maskBytes, hashMask}
 use Rattle.armor.specs.Keys.{nameH}
 use Rattle.armor.specs.Value.{fieldText}

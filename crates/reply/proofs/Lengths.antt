@@ -9,7 +9,7 @@ use Rattle.cells.specs.Numbers.{bytesOf}
 use Rattle.base64.proofs.Encoded.{length-encoded}
 use Rattle.hmac.specs.Hmac.{hmacSha512}
 use Rattle.hmac.proofs.Streaming.{length-hmac}
-use Rattle.orders.specs.Text.{codes}
+use Rattle.cells.specs.Text.{codes}
 use Rattle.armor.specs.Numerals.{shortest, numberBytes, maskBytes, hashMask}
 use Rattle.armor.specs.Keys.{nameEah}
 use Rattle.armor.specs.Value.{Field, fieldText}

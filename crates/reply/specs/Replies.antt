@@ -3,7 +3,7 @@
 use mathlib.Core.List.{List, [], _∷_}
 use Prim.Native.Nat.{ℕ}
 use Rattle.hmac.specs.Hmac.{hmacSha512}
-use Rattle.orders.specs.Text.{codes}
+use Rattle.cells.specs.Text.{codes}
 use Rattle.armor.specs.Numerals.{maskBytes, hashMask}
 use Rattle.armor.specs.Keys.{nameS, nameIv, nameTag, nameH, nameAh, nameEah}
 use Rattle.armor.specs.Value.{Field, fieldText, joined, textsOf}

@@ -4,15 +4,15 @@ use mathlib.Core.Path.{_≡_, refl, ap, _∙_}
 use mathlib.Core.List.{List, [], _∷_, _++_, map}
 use Prim.Native.Nat.{ℕ}
 use Rattle.cells.specs.Numbers.{bytesOf}
-use Rattle.netstring.specs.Decimal.{decimalTo, decimal}
+use Rattle.cells.specs.Decimal.{decimalTo, decimal}
 use Rattle.netstring.specs.Netstring.{netstring, netstrings}
 use Rattle.armor.specs.Numerals.{shortest, numberBytes, maskBytes}
-use Rattle.orders.specs.Text.{codes}
-use Rattle.orders.specs.Spans.{all}
-use Rattle.orders.specs.Names.{hasByte, tokenByte, isToken, lower, sameName, headerNames}
-use Rattle.orders.specs.Extra.{extraNames}
-use Rattle.orders.specs.Orders.{coveredNames}
-use Rattle.orders.proofs.Walk.{chosen-set, chosen-none}
+use Rattle.cells.specs.Text.{codes}
+use Rattle.cells.specs.Spans.{all}
+use Rattle.names.specs.Names.{hasByte, tokenByte, isToken, lower, sameName, headerNames}
+use Rattle.names.specs.Extra.{extraNames}
+use Rattle.names.specs.Covered.{coveredNames}
+use Rattle.names.proofs.Walk.{chosen-set, chosen-none}
 use Rattle.lines.specs.Lines.{Line, valueByte, goodLine, lineText, linesIn}
 use Rattle.lines.specs.Values.{blank, trimFront, trimEnd, trimmed, valueIn, coveredValue}
 use Rattle.lines.proofs.Lines.{lines-more, lines-none}

@@ -11,7 +11,7 @@ use Rattle.netstring.specs.Netstring.{netstrings}
 use Rattle.netstring.proofs.Determined.{netstring-determined, netstrings-determined}
 use Rattle.armor.specs.Numerals.{numberBytes, maskBytes}
 use Rattle.armor.proofs.Numerals.{numberBytes-injective, maskBytes-injective}
-use Rattle.orders.specs.Orders.{coveredNames}
+use Rattle.names.specs.Covered.{coveredNames}
 use Rattle.lines.specs.Lines.{linesIn}
 use Rattle.lines.specs.Values.{coveredValue}
 use Rattle.signed.specs.SignedText.{Signed, carried, signedParts, signedText, ordersNonce, nonceOf, coveredValues, signedOf, requestText}

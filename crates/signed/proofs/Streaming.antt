@@ -11,14 +11,14 @@ use lib.ListN.{length}
 use Rattle.hmac.specs.declared.Hmac.{Hmac}
 use Rattle.hmac.specs.Keyed.{Keyed, TookIn}
 use Rattle.netstring.specs.Netstring.{netstring, netstrings}
-use Rattle.netstring.proofs.Numerals.{decimal-length}
+use Rattle.cells.proofs.Decimal.{decimal-length}
 use Rattle.netstring.proofs.Laid.{length-netstring, took-both}
 use Rattle.armor.specs.Numerals.{numberBytes, maskBytes, hashMask}
-use Rattle.orders.specs.Names.{headerNames}
-use Rattle.orders.specs.Extra.{pieces, extraNames, goodNames, goodExtra}
-use Rattle.orders.specs.Orders.{chosen}
-use Rattle.orders.specs.Walk.{namesFrom}
-use Rattle.orders.proofs.Walk.{covered-names}
+use Rattle.names.specs.Names.{headerNames}
+use Rattle.names.specs.Extra.{namesIn, extraNames, goodNames, goodExtra}
+use Rattle.names.specs.Covered.{chosen}
+use Rattle.names.specs.Walk.{namesFrom}
+use Rattle.names.proofs.Walk.{covered-names}
 use Rattle.lines.specs.Lines.{linesIn}
 use Rattle.lines.specs.Values.{coveredValue}
 use Rattle.signed.specs.SignedText.{carried, signedParts, signedText, nonceOf, coveredValues, signedOf, requestText}
@@ -89,7 +89,7 @@ map-append f [] ys = refl
 map-append f (x ∷ xs) ys = ap (λ (l : List (List ℕ)). f x ∷ l) (map-append f xs ys)
 
 -- the values of the table's names and those of the extra names are the covered values
-pub values-joined : (mask bits : ℕ) (extra table aside head : List ℕ) → pieces table ≡ headerNames → chosen bits (namesFrom extra 0) ≡ extraNames extra
+pub values-joined : (mask bits : ℕ) (extra table aside head : List ℕ) → namesIn table ≡ headerNames → chosen bits (namesFrom extra 0) ≡ extraNames extra
     → valuesFrom head aside table (mask / 2) 0 ++ valuesFrom head aside extra bits 0 ≡ coveredValues mask extra aside head
 unfolding coveredValues
 values-joined mask bits extra table aside head h k =

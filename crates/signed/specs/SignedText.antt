@@ -7,7 +7,7 @@ use mathlib.Core.Option.{Option, none, some}
 use lib.Dec.{eqb}
 use Rattle.netstring.specs.Netstring.{netstrings}
 use Rattle.armor.specs.Numerals.{numberBytes, maskBytes, hashMask}
-use Rattle.orders.specs.Orders.{coveredNames}
+use Rattle.names.specs.Covered.{coveredNames}
 use Rattle.lines.specs.Lines.{linesIn}
 use Rattle.lines.specs.Values.{coveredValue}
 

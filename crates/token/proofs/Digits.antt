@@ -8,8 +8,8 @@ use native.Mathlib.Numerals.{add-one}
 use native.Mathlib.Omega.{arith}
 use lib.ListN.{length, getD, take}
 use lib.Seq.{take-suc}
-use Rattle.netstring.specs.Decimal.{decimal, valueAfter}
-use Rattle.netstring.proofs.Numerals.{value-append, value-decimal}
+use Rattle.cells.specs.Decimal.{decimal, valueAfter}
+use Rattle.cells.proofs.Decimal.{value-append, value-decimal}
 
 pub one-more : (digits : List ℕ) (i v : ℕ) → i < length digits → v ≡ valueAfter 0 (take i digits)
     → v * 10 + (getD digits i 0 - 48) ≡ valueAfter 0 (take (i + 1) digits)

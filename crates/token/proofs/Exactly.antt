@@ -9,9 +9,9 @@ use borrow.Author.Tests.{eqb-true, leb-true, ltb-true, eq-eqb, le-leb, lt-ltb}
 use Rattle.cells.specs.Runs.{same}
 use Rattle.cells.proofs.Equality.{same-equal, same-self}
 use Rattle.gcm.proofs.Opening.{opened-sealed}
-use Rattle.netstring.specs.Decimal.{decimal, valueAfter}
+use Rattle.cells.specs.Decimal.{decimal, valueAfter}
 use Rattle.netstring.specs.Netstring.{netstrings}
-use Rattle.netstring.proofs.Numerals.{value-decimal}
+use Rattle.cells.proofs.Decimal.{value-decimal}
 use Rattle.token.specs.Token.{Token, fits, tokenText, sealedToken, frontPart, afterPart, candidate, tokenIn, tokenFrom, openedToken}
 use Rattle.token.proofs.Fronts.{front-part, after-part}
 use Rattle.token.proofs.Text.{Sized}

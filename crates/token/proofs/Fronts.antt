@@ -8,9 +8,9 @@ use native.Mathlib.Omega.{arith}
 use borrow.Author.Tests.{ne-eqb}
 use lib.ListN.{length, take, drop}
 use lib.Seq.{take-append-seam, drop-append-seam, drop-append-add}
-use Rattle.netstring.specs.Decimal.{decimal, valueAfter}
+use Rattle.cells.specs.Decimal.{decimal, valueAfter}
 use Rattle.netstring.specs.Netstring.{colon, comma, netstring}
-use Rattle.netstring.proofs.Numerals.{Digits, one, _then_, decimal-digits, value-decimal}
+use Rattle.cells.proofs.Decimal.{Digits, one, _then_, decimal-digits, value-decimal}
 use Rattle.netstring.proofs.Determined.{netstring-then}
 use Rattle.token.specs.Token.{beforeColon, frontPart, afterPart}
 

@@ -11,7 +11,7 @@ use lib.Seq.{length-take-le, drop-cons}
 use Rattle.cells.specs.Runs.{part}
 use Rattle.gcm.specs.declared.Opened.the-variants as O
 use Rattle.gcm.specs.Code.{answer, left}
-use Rattle.netstring.specs.Decimal.{decimal}
+use Rattle.cells.specs.Decimal.{decimal}
 use Rattle.netstring.specs.Netstring.{netstring, netstrings}
 use Rattle.netstring.specs.Reading.{PartAt, NoPart}
 use Rattle.netstring.proofs.Determined.{netstrings-determined}

@@ -8,9 +8,9 @@ use lib.ListN.{length, take, drop, length-append}
 use lib.Seq.{take-at}
 use Rattle.cells.specs.Runs.{spliced}
 use Rattle.cells.proofs.Runs.{joined}
-use Rattle.netstring.specs.Decimal.{decimal}
+use Rattle.cells.specs.Decimal.{decimal}
 use Rattle.netstring.specs.Netstring.{netstring, netstrings}
-use Rattle.netstring.proofs.Numerals.{decimal-length}
+use Rattle.cells.proofs.Decimal.{decimal-length}
 use Rattle.netstring.proofs.Laid.{length-netstring}
 use Rattle.token.specs.Token.{Token, tokenText}
 

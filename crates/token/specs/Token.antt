@@ -9,7 +9,7 @@ use lib.Dec.{eqb, leb, ltb}
 use lib.ListN.{length, take, drop}
 use Rattle.cells.specs.Runs.{same}
 use Rattle.gcm.specs.Gcm.{Sealed, sealed, opened}
-use Rattle.netstring.specs.Decimal.{decimal, valueAfter}
+use Rattle.cells.specs.Decimal.{decimal, valueAfter}
 use Rattle.netstring.specs.Netstring.{colon, netstring, netstrings}
 
 -- session key, session id, expiry

@@ -2,7 +2,7 @@
 ghost use mathlib.Core.Path.{_≡_};
 ghost use Prim.Native.Nat.{_-_, _≤_};
 ghost use lib.ListN.{length};
-ghost use Rattle.netstring.specs.Decimal.{valueAfter};
+ghost use Rattle.cells.specs.Decimal.{valueAfter};
 ghost use Rattle.token.specs.Expiry.{ExpiryIs};
 
 pub enum Expiry {

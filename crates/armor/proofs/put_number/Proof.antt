@@ -18,7 +18,7 @@ returns c =
     let size = c .before .before .before .before .before .before .before .before .before .size in
     let put64 = c .before .before .before .before .before .before .before .put64 in (
       size .ensures,
-      c .before .before .put-at .ensures ∙ ap (spliced (start .args .out .now) (start .args .at)) (cut-bytes (start .args .n) (size .result) (put64 .ensures) (size .ensures)),
+      c .before .before .put-at .ensures .is ∙ ap (spliced (start .args .out .now) (start .args .at)) (cut-bytes (start .args .n) (size .result) (put64 .ensures) (size .ensures)),
     )
 
 pub put-number-spec : {M : Type 1} → statement M

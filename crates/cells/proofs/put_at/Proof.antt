@@ -1,7 +1,7 @@
 -- `put_at` meets its contract: the part that it lends is filled whole.
 -- Assumes nothing.
 use borrow.Author.Needs.{needs}
-use mathlib.Core.Path.{_∙_}
+use mathlib.Core.Path.{refl, _∙_}
 use Prim.Native.Nat.{_+_, _-_}
 use native.Mathlib.Omega.{arith}
 use lib.ListN.{length}
@@ -17,9 +17,13 @@ returns c =
     let src = start .args .src .now in
     let at = start .args .at in
     let size = at + length src - at in
-    lent out src at (at + length src)
-    (c .before .before .put-front .ensures ∙ fronted-whole src (part out at size) (omega (arith, length-part out at size (omega (arith, start .pre)))))
-    (omega arith)
+    record {
+      is =
+          lent out src at (at + length src)
+          (c .before .before .put-front .ensures ∙ fronted-whole src (part out at size) (omega (arith, length-part out at size (omega (arith, start .pre)))))
+          (omega arith);
+      ends = refl;
+    }
 
 pub put-at-spec : {M : Type 1} → statement M
 put-at-spec =

@@ -7,7 +7,7 @@ use native.Mathlib.Omega.{arith}
 use borrow.Author.Needs.{needs}
 use lib.ListN.{length, take}
 use lib.Seq.{take-all}
-use Rattle.orders.specs.Spans.{all}
+use Rattle.cells.specs.Spans.{all}
 use Rattle.lines.specs.Lines.{valueByte}
 use Rattle.lines.proofs.Passing.{all-more}
 use Rattle.lines.proofs.all_of_value.Statement.{statement}

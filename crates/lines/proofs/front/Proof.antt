@@ -5,7 +5,7 @@ use borrow.Author.Tests.{not-true, not-false}
 use mathlib.Core.Path.{_≡_, refl, sym, ap, _∙_}
 use Prim.Native.Nat.{_≤_, _-_}
 use native.Mathlib.Omega.{arith}
-use Rattle.orders.specs.Spans.{cut}
+use Rattle.cells.specs.Runs.{cut}
 use Rattle.lines.specs.Values.{trimFront}
 use Rattle.lines.proofs.Cuts.{cut-none, cut-first}
 use Rattle.lines.proofs.Trims.{front-none, front-blank, front-kept}

@@ -7,7 +7,8 @@ use native.Mathlib.Omega.{arith}
 use borrow.Author.Needs.{needs}
 use borrow.Author.Tests.{not-false}
 use lib.ListN.{length}
-use Rattle.orders.specs.Spans.{cut, all}
+use Rattle.cells.specs.Runs.{cut}
+use Rattle.cells.specs.Spans.{all}
 use Rattle.lines.specs.Lines.{valueByte}
 use Rattle.lines.proofs.Cuts.{cut-none}
 use Rattle.lines.proofs.Passing.{all-joined}

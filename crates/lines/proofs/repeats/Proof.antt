@@ -5,8 +5,8 @@ use mathlib.Core.Path.{sym, ap, ap₂, _∙_}
 use mathlib.Core.List.{List}
 use mathlib.Core.Bool.{_||_}
 use Prim.Native.Nat.{ℕ}
-use Rattle.orders.specs.Extra.{extraNames}
-use Rattle.orders.proofs.Walk.{covered-names}
+use Rattle.names.specs.Extra.{extraNames}
+use Rattle.names.proofs.Walk.{covered-names}
 use Rattle.lines.specs.Lines.{linesIn}
 use Rattle.lines.specs.Values.{repeated}
 use Rattle.lines.proofs.Named.{repeated-append}

@@ -6,8 +6,8 @@ use mathlib.Core.List.{List}
 use Prim.Native.Nat.{ℕ, _+_, _-_}
 use native.Mathlib.Omega.{arith}
 use lib.ListN.{length}
-use Rattle.orders.specs.Orders.{chosen}
-use Rattle.orders.specs.Walk.{namesFrom, FirstName}
+use Rattle.names.specs.Covered.{chosen}
+use Rattle.names.specs.Walk.{namesFrom, FirstName}
 use Rattle.lines.specs.Lines.{linesIn}
 use Rattle.lines.specs.Values.{repeated}
 use Rattle.lines.proofs.repeats_in.Statement.{statement}

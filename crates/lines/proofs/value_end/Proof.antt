@@ -6,7 +6,7 @@ use mathlib.Core.Path.{sym, _∙_}
 use Prim.Native.Nat.{_-_}
 use lib.ListN.{length}
 use Rattle.lines.specs.Lines.{valueByte}
-use Rattle.orders.proofs.Spans.{Passed, passed-more, passed-stop, passed-end}
+use Rattle.cells.proofs.Spans.{Passed, passed-more, passed-stop, passed-end}
 use Rattle.lines.proofs.Passing.{passed-part}
 use Rattle.lines.proofs.value_end.Statement.{statement}
 use Rattle.lines.proofs.value_end.Tie as tie

@@ -7,7 +7,7 @@ use Prim.Native.Nat.{ℕ}
 use Rattle.cells.specs.Runs.{spliced}
 use Rattle.cells.proofs.Runs.{spliced-front}
 use Rattle.hmac.specs.Hmac.{hmacSha512}
-use Rattle.orders.specs.Text.{codes}
+use Rattle.cells.specs.Text.{codes}
 use Rattle.armor.specs.Value.{fieldText}
 use Rattle.reply.specs.Replies.{field, nameI, invalidation}
 use Rattle.reply.proofs.invalidate.Statement.{statement}

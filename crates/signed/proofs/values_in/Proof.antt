@@ -9,7 +9,7 @@ use lib.ListN.{length}
 use Rattle.hmac.specs.declared.Hmac.{Hmac}
 use Rattle.hmac.specs.Keyed.{TookIn}
 use Rattle.netstring.specs.Netstring.{netstrings}
-use Rattle.orders.specs.Walk.{FirstName}
+use Rattle.names.specs.Walk.{FirstName}
 use Rattle.lines.specs.Lines.{linesIn}
 use Rattle.lines.specs.Values.{coveredValue}
 use Rattle.signed.proofs.Streaming.{valuesFrom, netstring-short, took-none, took-value}

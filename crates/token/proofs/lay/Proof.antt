@@ -7,7 +7,7 @@ use native.Mathlib.Omega.{arith}
 use borrow.Author.Needs.{needs}
 use lib.ListN.{length, take, drop}
 use Rattle.cells.specs.Runs.{spliced}
-use Rattle.netstring.specs.Decimal.{decimal}
+use Rattle.cells.specs.Decimal.{decimal}
 use Rattle.netstring.specs.Netstring.{netstring}
 use Rattle.netstring.proofs.Laid.{shown-piece}
 use Rattle.token.specs.Token.{tokenText}

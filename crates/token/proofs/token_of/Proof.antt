@@ -7,7 +7,7 @@ use borrow.Author.Needs.{needs}
 use lib.Seq.{take-append-seam}
 use Rattle.cells.specs.Runs.{fronted}
 use Rattle.cells.proofs.Runs.{fronted-whole}
-use Rattle.netstring.specs.Decimal.{decimal}
+use Rattle.cells.specs.Decimal.{decimal}
 use Rattle.token.proofs.Text.{Sized}
 use Rattle.token.proofs.Reading.{unseals-some, token-of, no-token-of}
 use Rattle.token.proofs.token_of.Statement.{statement}

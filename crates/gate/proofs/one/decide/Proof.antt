@@ -8,7 +8,8 @@ use borrow.Author.Needs.{needs}
 use borrow.Author.Tests.{not-true, not-false}
 use lib.ListN.{length}
 use Rattle.orders.specs.Orders.{ordersGood, limitsOf}
-use Rattle.orders.proofs.Orders.{checked-good, checked-bad, good-extra, short-extra}
+use Rattle.orders.proofs.Orders.{checked-good, checked-bad, good-extra}
+use Rattle.names.proofs.Extra.{short-extra}
 use Rattle.table.specs.Record.{recordBytes, Fits}
 use Rattle.table.specs.Table.{records}
 use Rattle.table.specs.WellFormed.{wellFormed}

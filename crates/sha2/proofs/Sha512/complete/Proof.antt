@@ -16,7 +16,7 @@ returns : tie.Need-returns
 returns c =
     let start = c .before .before .before .before .before .before .before .before in
     let full : length (start .args .self .tail) ≡ 128 = search needs in
-    took-complete (start .args .self) _ (start .args .part .now) full refl (start .pre .0) (c .before .before .before .put-at .ensures)
+    took-complete (start .args .self) _ (start .args .part .now) full refl (start .pre .0) (c .before .before .before .put-at .ensures .is)
     (c .after-blocks .ensures)
 
 pub complete-spec : {M : Type 1} → statement M

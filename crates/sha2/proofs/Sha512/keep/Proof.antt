@@ -16,7 +16,7 @@ returns : tie.Need-returns
 returns c =
     let start = c .before .before .before .before .before .before in
     let full : length (start .args .self .tail) ≡ 128 = search needs in
-    took-kept (start .args .self) _ (start .args .part .now) full refl (start .pre .0) refl (c .before .put-at .ensures)
+    took-kept (start .args .self) _ (start .args .part .now) full refl (start .pre .0) refl (c .before .put-at .ensures .is)
 
 pub keep-spec : {M : Type 1} → statement M
 keep-spec = tie.close (tie.spec (λ c. search needs) put-at-requires (λ c. search needs) returns)

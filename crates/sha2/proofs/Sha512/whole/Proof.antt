@@ -25,7 +25,7 @@ returns c =
     let part : List ℕ = start .args .part .now in
     let full : length (start .args .self .tail) ≡ 128 = search needs in
     took-whole (start .args .self) _ part full refl (start .pre .0) (c .before .before .before .before .after-blocks .ensures)
-    (c .before .put-at .ensures ∙ ap (spliced (start .args .self .tail) 0) (rest-of part (128 * (length part / 128))))
+    (c .before .put-at .ensures .is ∙ ap (spliced (start .args .self .tail) 0) (rest-of part (128 * (length part / 128))))
 
 pub whole-spec : {M : Type 1} → statement M
 whole-spec =

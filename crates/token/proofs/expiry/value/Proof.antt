@@ -6,7 +6,7 @@ use native.Mathlib.Omega.{arith}
 use borrow.Author.Needs.{needs}
 use lib.ListN.{length, take}
 use lib.Seq.{take-all}
-use Rattle.netstring.specs.Decimal.{valueAfter}
+use Rattle.cells.specs.Decimal.{valueAfter}
 use Rattle.token.proofs.Digits.{one-more, bounded, bounded-more}
 use Rattle.token.proofs.expiry.value.Statement.{statement}
 use Rattle.token.proofs.expiry.value.Tie as tie

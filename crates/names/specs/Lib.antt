@@ -1,0 +1,5 @@
+-- What the contracts of this crate, and of those above it, say of names.
+pub mod Names
+pub mod Extra
+pub mod Covered
+pub mod Walk
