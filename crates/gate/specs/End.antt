@@ -4,17 +4,18 @@ use mathlib.Core.Bool.{cond, not}
 use mathlib.Core.List.{List, [], _∷_, _++_}
 use Prim.Native.Nat.{ℕ}
 use lib.Dec.{eqb}
-use Rattle.gate.specs.Outcome.{Outcome, untouched}
+use Rattle.stages.specs.Checks.{Check, check, first, nowhere}
+use Rattle.stages.specs.Session.{placeOf, without}
+use Rattle.gate.specs.State.{State, holding, Outcome, untouched}
 use Rattle.gate.specs.Sizes.{endFits}
-use Rattle.gate.specs.Checks.{Check, check, first, nowhere, tableChecks}
-use Rattle.gate.specs.Session.{placeOf, without}
+use Rattle.gate.specs.Entry.{stateChecks}
 
 -- 1, 3, 12
-unfoldable pub endChecks : List ℕ → List ℕ → List Check
-endChecks iv table = check 1 (not (endFits iv table)) ∷ (tableChecks table ++ (check 12 (nowhere (placeOf table iv)) ∷ []))
+unfoldable pub endChecks : List ℕ → State → List Check
+endChecks iv s = check 1 (not (endFits iv s)) ∷ (stateChecks s ++ (check 12 (nowhere (placeOf (s .table) iv)) ∷ []))
 
-abbrev pub endOutcome : ℕ → List ℕ → List ℕ → Outcome
-endOutcome number iv table = cond (eqb number 0) (untouched 0 [] (without table iv)) (untouched number [] table)
+abbrev pub endOutcome : ℕ → List ℕ → State → Outcome
+endOutcome number iv s = cond (eqb number 0) (untouched 0 [] (holding (without (s .table) iv))) (untouched number [] s)
 
-unfoldable pub ended : List ℕ → List ℕ → Outcome
-ended iv table = endOutcome (first (endChecks iv table)) iv table
+unfoldable pub ended : List ℕ → State → Outcome
+ended iv s = endOutcome (first (endChecks iv s)) iv s

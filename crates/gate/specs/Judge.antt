@@ -1,151 +1,28 @@
--- Judging a request: document 01, 'The numbers a call returns', 'Header lines and the signed text' and 'Age, idleness and the window'.
+-- Judging a request: document 01, 'The numbers a call returns'.
 -- Assumes nothing.
-use mathlib.Core.Bool.{Bool, cond, not, _&&_, _||_}
-use mathlib.Core.List.{List, [], _∷_, _++_}
-use mathlib.Core.Option.{Option}
+use mathlib.Core.Bool.{Bool, cond}
+use mathlib.Core.List.{List, _++_}
 use Prim.Native.Nat.{ℕ}
-use lib.Dec.{eqb, leb}
-use Rattle.cells.specs.Runs.{same}
-use Rattle.cells.specs.Numbers.{number}
-use Rattle.hmac.specs.Hmac.{hmacSha512}
-use Rattle.armor.specs.Keys.{nameS, nameC, nameT, nameLt, nameN, nameIv, nameTag}
-use Rattle.armor.specs.Value.{Field, grammar, carried}
-use Rattle.armor.specs.Fields.{the, requestFields}
-use Rattle.names.specs.Covered.{coveredNames}
-use Rattle.orders.specs.Orders.{limitsOf}
-use Rattle.orders.specs.declared.Limits.{Limits}
-use Rattle.lines.specs.Lines.{linesIn, goodBlock}
-use Rattle.lines.specs.Values.{repeated}
-use Rattle.coverage.specs.Coverage.{asOrdered}
-use Rattle.token.specs.Token.{Token, openedToken, given, theToken}
-use Rattle.signed.specs.SignedText.{ordersNonce, requestText}
+use lib.Dec.{eqb}
 use Rattle.reply.specs.Replies.{invalidation}
 use Rattle.table.specs.declared.session.Record.{Record}
 use Rattle.table.specs.declared.place.Place.{Place}
-use Rattle.table.specs.Record.{freed, windowOf, withWindow}
-use Rattle.window.specs.declared.Stepped.{Stepped}
-use Rattle.window.specs.Time.{exceeds}
-use Rattle.window.specs.Window.{numberOf, stepOf}
-use Rattle.gate.specs.Calls.{Request}
-use Rattle.gate.specs.Outcome.{Outcome, untouched, replied}
+use Rattle.table.specs.Record.{freed}
+use Rattle.stages.specs.Request.{Request}
+use Rattle.stages.specs.Checks.{Check, first}
+use Rattle.stages.specs.Session.{placeOf, with-record}
+use Rattle.stages.specs.Parts.{ivOf, tokenOf, ordered, readingPart, vouchingPart, admittingPart, nextOf, invalidates}
+use Rattle.gate.specs.State.{State, Outcome, untouched, replied, holding}
 use Rattle.gate.specs.Sizes.{requestFits}
-use Rattle.gate.specs.Checks.{Check, check, first, missing, nowhere, entryChecks}
-use Rattle.gate.specs.Session.{placeOf, heldAt, with-record}
-
--- what the value carries
-unfoldable pub fieldsOf : Request → List Field
-fieldsOf q = carried (q .value)
-
-unfoldable pub ivOf : Request → List ℕ
-ivOf q = the nameIv (fieldsOf q)
-
-unfoldable pub nonceOf : Request → ℕ
-nonceOf q = number (the nameN (fieldsOf q))
-
-unfoldable pub timeOf : Request → ℕ
-timeOf q = number (the nameT (fieldsOf q))
-
-unfoldable pub lastTimeOf : Request → ℕ
-lastTimeOf q = number (the nameLt (fieldsOf q))
-
-unfoldable pub signatureOf : Request → List ℕ
-signatureOf q = the nameC (fieldsOf q)
-
--- the token that it carries
-unfoldable pub openedOf : Request → Option Token
-openedOf q = openedToken (q .server-key) (ivOf q) (the nameS (fieldsOf q)) (the nameTag (fieldsOf q))
-
-unfoldable pub tokenOf : Request → Token
-tokenOf q = theToken (openedOf q)
-
-unfoldable pub limits : Request → Limits
-limits q = limitsOf (q .orders .request-life) (q .orders .idle) (q .orders .session-life)
-
-unfoldable pub textOf : Request → List ℕ
-textOf q =
-    requestText (q .orders .mask) (q .orders .extra) (nonceOf q) (timeOf q) (lastTimeOf q) (q .aside) (q .head) (q .path) (q .body)
-
--- what its signature must be
-unfoldable pub codeOf : Request → List ℕ
-codeOf q = hmacSha512 (tokenOf q .key) (textOf q)
-
--- the names that the orders cover, and whether one stands twice in a block
-unfoldable pub twice : Request → List ℕ → Bool
-twice q block = repeated (coveredNames (q .orders .mask) (q .orders .extra)) (linesIn block)
-
--- whether the orders ask for a nonce
-abbrev pub ordered : Request → Bool
-ordered q = ordersNonce (q .orders .mask)
-
--- the session's window after the nonce
-unfoldable pub stepped : Request → List ℕ → Stepped
-stepped q table = stepOf (windowOf (heldAt table (placeOf table (ivOf q)))) (nonceOf q)
-
--- whether the window is asked, and answers by this number
-abbrev pub windowSays : ℕ → Request → List ℕ → Bool
-windowSays n q table = ordered q && eqb (numberOf (stepped q table .verdict)) n
+use Rattle.gate.specs.Entry.{entryChecks}
 
 -- 1 to 3: what is lent
-unfoldable pub entryPart : Request → List ℕ → List Check
-entryPart q table = entryChecks (requestFits q table) (q .orders) table
-
--- 6 to 8: what the orders cover
-unfoldable pub coveringPart : Request → List Check
-coveringPart q =
-    check 6 (not (goodBlock (q .head) && goodBlock (q .aside)))
-    ∷ check 7 (twice q (q .head) || twice q (q .aside))
-    ∷ check 8 (not (asOrdered (q .orders .mask) (q .orders .extra) (fieldsOf q)))
-    ∷ []
-
--- 4 to 8: what the request says
-unfoldable pub readingPart : Request → List Check
-readingPart q =
-    check 4 (missing (grammar (q .value)))
-    ∷ check 5 (not (requestFields (fieldsOf q)))
-    ∷ coveringPart q
-
--- 9 and 10: the token
-unfoldable pub tokenPart : Request → List Check
-tokenPart q =
-    check 9 (not (given (openedOf q)))
-    ∷ check 10 (leb (tokenOf q .expiry) (q .clock))
-    ∷ []
-
--- 11: the signature
-unfoldable pub signaturePart : Request → List Check
-signaturePart q = check 11 (not (same (signatureOf q) (codeOf q))) ∷ []
-
--- 9 to 11: whether token and signature vouch for the request
-abbrev pub vouchingPart : Request → List Check
-vouchingPart q = tokenPart q ++ signaturePart q
-
--- 12 to 14: the session
-unfoldable pub sessionPart : Request → List ℕ → List Check
-sessionPart q table =
-    check 12 (nowhere (placeOf table (ivOf q)))
-    ∷ check 13 (exceeds (timeOf q) (lastTimeOf q) (limits q .idle))
-    ∷ check 14 (exceeds (q .clock) (timeOf q) (limits q .«request_life»))
-    ∷ []
-
--- 15 and 16: the nonce
-unfoldable pub noncePart : Request → List ℕ → List Check
-noncePart q table = check 15 (windowSays 15 q table) ∷ check 16 (windowSays 16 q table) ∷ []
-
--- 12 to 16: whether the session admits the request
-abbrev pub admittingPart : Request → List ℕ → List Check
-admittingPart q table = sessionPart q table ++ noncePart q table
+unfoldable pub entryPart : Request → State → List Check
+entryPart q s = entryChecks (requestFits q s) (q .orders) s
 
 -- 1 to 16
-unfoldable pub requestChecks : Request → List ℕ → List Check
-requestChecks q table = entryPart q table ++ (readingPart q ++ (vouchingPart q ++ admittingPart q table))
-
--- the session's record with its window after the nonce
-unfoldable pub nextOf : Request → List ℕ → Record
-nextOf q table = withWindow (heldAt table (placeOf table (ivOf q))) (stepped q table .window)
-
--- 10 and 13
-abbrev pub invalidates : ℕ → Bool
-invalidates n = eqb n 10 || eqb n 13
+unfoldable pub requestChecks : Request → State → List Check
+requestChecks q s = entryPart q s ++ (readingPart q ++ (vouchingPart q ++ admittingPart q (s .table)))
 
 -- the table after a number: at 0 the session's record takes the nonce where nonces are ordered, at 10 and 13 it is freed if there is one
 unfoldable pub tableAfter : ℕ → Bool → Place → Record → List ℕ → List ℕ
@@ -154,17 +31,17 @@ tableAfter n nonces place next table =
     (cond (invalidates n) (with-record table place freed) table)
 
 -- the reply: at 0 the session id, at 10 and 13 the invalidation under the session key
-unfoldable pub answered : ℕ → List ℕ → List ℕ → List ℕ → List ℕ → Outcome
-answered n id key reply table =
-    cond (eqb n 0) (replied 0 id reply table)
-    (cond (invalidates n) (replied n (invalidation key) reply table)
-    (untouched n reply table))
+unfoldable pub answered : ℕ → List ℕ → List ℕ → List ℕ → State → Outcome
+answered n id key reply s =
+    cond (eqb n 0) (replied 0 id reply s)
+    (cond (invalidates n) (replied n (invalidation key) reply s)
+    (untouched n reply s))
 
 -- what a number does
-abbrev pub outcomeAt : ℕ → Request → List ℕ → Outcome
-outcomeAt n q table =
+abbrev pub outcomeAt : ℕ → Request → State → Outcome
+outcomeAt n q s =
     answered n (tokenOf q .id) (tokenOf q .key) (q .reply)
-    (tableAfter n (ordered q) (placeOf table (ivOf q)) (nextOf q table) table)
+    (holding (tableAfter n (ordered q) (placeOf (s .table) (ivOf q)) (nextOf q (s .table)) (s .table)))
 
-unfoldable pub judged : Request → List ℕ → Outcome
-judged q table = outcomeAt (first (requestChecks q table)) q table
+unfoldable pub judged : Request → State → Outcome
+judged q s = outcomeAt (first (requestChecks q s)) q s

@@ -15,11 +15,12 @@ use Rattle.table.specs.Record.{begun}
 use Rattle.table.specs.Table.{records, taken}
 use Rattle.token.specs.Token.{Token, sealedToken}
 use Rattle.window.specs.Window.{bit}
+use Rattle.stages.specs.Checks.{Check, check, first, missing, nowhere}
+use Rattle.stages.specs.Session.{placeOf, with-record}
 use Rattle.gate.specs.Calls.{Setup}
-use Rattle.gate.specs.Outcome.{Outcome, untouched, replied}
+use Rattle.gate.specs.State.{State, holding, Outcome, untouched, replied}
 use Rattle.gate.specs.Sizes.{setupFits}
-use Rattle.gate.specs.Checks.{Check, check, first, missing, nowhere, entryChecks}
-use Rattle.gate.specs.Session.{placeOf, with-record}
+use Rattle.gate.specs.Entry.{entryChecks}
 
 -- the mask that the client offers; SHA-512 is bit 2
 unfoldable pub offered : Setup → ℕ
@@ -27,11 +28,11 @@ offered s = maskOf (the nameR (carried (s .value)))
 
 -- now plus session life
 unfoldable pub expiryOf : Setup → ℕ
-expiryOf s = s .clock + limitsOf (s .orders .request-life) (s .orders .idle) (s .orders .session-life) .«session_life»
+expiryOf s = s .clock + limitsOf (s .orders) .«session_life»
 
 -- 1 to 3: what is lent
-unfoldable pub entryPart : Setup → List ℕ → List Check
-entryPart s table = entryChecks (setupFits s table) (s .orders) table
+unfoldable pub entryPart : Setup → State → List Check
+entryPart s state = entryChecks (setupFits s state) (s .orders) state
 
 -- 19 and 20: a hash in common, and the session's end
 unfoldable pub lastingPart : Setup → List Check
@@ -52,24 +53,25 @@ roomPart s table =
     ∷ []
 
 -- 1, 2, 3, 4, 5, 19, 20, 17, 18
-unfoldable pub setupChecks : Setup → List ℕ → List Check
-setupChecks s table = entryPart s table ++ (offerPart s ++ roomPart s table)
+unfoldable pub setupChecks : Setup → State → List Check
+setupChecks s state = entryPart s state ++ (offerPart s ++ roomPart s (state .table))
 
-unfoldable pub tokenOf : Setup → Token
-tokenOf s = record { key = s .session-key; id = s .session-id; expiry = expiryOf s }
+unfoldable pub newToken : Setup → Token
+newToken s = record { key = s .session-key; id = s .session-id; expiry = expiryOf s }
 
 unfoldable pub sealedOf : Setup → Sealed
-sealedOf s = sealedToken (s .server-key) (s .iv) (tokenOf s)
+sealedOf s = sealedToken (s .server-key) (s .iv) (newToken s)
 
 unfoldable pub replyOf : Setup → List ℕ
-replyOf s = setupReply (sealedOf s .cipher) (s .iv) (sealedOf s .tag) (s .session-key) (s .orders .mask) (s .orders .extra)
+replyOf s = setupReply (sealedOf s .cipher) (s .iv) (sealedOf s .tag) (s .session-key) (s .orders .numbers .mask) (s .orders .extra)
 
 -- the record that is taken holds the IV, the new expiry and no nonce
-unfoldable pub tableOf : Setup → List ℕ → List ℕ
-tableOf s table = with-record table (taken (records table) (s .clock)) (begun (s .iv) (expiryOf s))
+unfoldable pub withSession : Setup → List ℕ → List ℕ
+withSession s table = with-record table (taken (records table) (s .clock)) (begun (s .iv) (expiryOf s))
 
-abbrev pub setupOutcome : ℕ → Setup → List ℕ → Outcome
-setupOutcome number s table = cond (eqb number 0) (replied 0 (replyOf s) (s .reply) (tableOf s table)) (untouched number (s .reply) table)
+abbrev pub setupOutcome : ℕ → Setup → State → Outcome
+setupOutcome number s state =
+    cond (eqb number 0) (replied 0 (replyOf s) (s .reply) (holding (withSession s (state .table)))) (untouched number (s .reply) state)
 
-unfoldable pub setUp : Setup → List ℕ → Outcome
-setUp s table = setupOutcome (first (setupChecks s table)) s table
+unfoldable pub setUp : Setup → State → Outcome
+setUp s state = setupOutcome (first (setupChecks s state)) s state

@@ -6,26 +6,28 @@ use Prim.Native.Nat.{ℕ, _*_, _%_}
 use lib.Dec.{eqb, leb}
 use lib.ListN.{length}
 use Rattle.table.specs.Record.{size}
-use Rattle.gate.specs.Calls.{Setup, Request}
+use Rattle.stages.specs.Request.{Request}
+use Rattle.gate.specs.Calls.{Setup}
+use Rattle.gate.specs.State.{State}
 
-abbrev pub between : ℕ → ℕ → List ℕ → Bool
-between low high run = leb low (length run) && leb (length run) high
+abbrev pub longFrom : ℕ → ℕ → List ℕ → Bool
+longFrom low high run = leb low (length run) && leb (length run) high
 
 abbrev pub exactly : ℕ → List ℕ → Bool
 exactly n run = eqb (length run) n
 
 -- 1 to 64 whole records
 unfoldable pub tableFits : List ℕ → Bool
-tableFits table = eqb (length table % size) 0 && between size (64 * size) table
+tableFits table = eqb (length table % size) 0 && longFrom size (64 * size) table
 
-unfoldable pub setupFits : Setup → List ℕ → Bool
-setupFits s table =
+unfoldable pub setupFits : Setup → State → Bool
+setupFits s state =
     exactly 32 (s .server-key)
     && (exactly 32 (s .session-key)
     && (exactly 12 (s .iv)
-    && (between 1 64 (s .session-id)
+    && (longFrom 1 64 (s .session-id)
     && (leb (length (s .value)) 4096
-    && (tableFits table
+    && (tableFits (state .table)
     && leb 1024 (length (s .reply)))))))
 
 -- of a request, the table apart
@@ -35,12 +37,12 @@ lentFits q =
     && (leb (length (q .value)) 4096
     && (leb (length (q .head)) 16384
     && (leb (length (q .aside)) 16384
-    && (between 1 2048 (q .path)
+    && (longFrom 1 2048 (q .path)
     && (leb (length (q .body)) 65536
     && leb 1024 (length (q .reply)))))))
 
-unfoldable pub requestFits : Request → List ℕ → Bool
-requestFits q table = lentFits q && tableFits table
+unfoldable pub requestFits : Request → State → Bool
+requestFits q state = lentFits q && tableFits (state .table)
 
-unfoldable pub endFits : List ℕ → List ℕ → Bool
-endFits iv table = exactly 12 iv && tableFits table
+unfoldable pub endFits : List ℕ → State → Bool
+endFits iv state = exactly 12 iv && tableFits (state .table)

@@ -14,8 +14,8 @@ use Rattle.gate.specs.declared.setup.Start.the-variants as S
 use Rattle.gate.specs.declared.setup.Offer.{Offer}
 use Rattle.gate.specs.declared.setup.Offer.the-variants as O
 use Rattle.gate.specs.Calls.{Setup}
-use Rattle.gate.specs.Outcome.{Outcome, replied}
-use Rattle.gate.specs.Checks.{Check, first}
+use Rattle.stages.specs.Checks.{Check, first}
+use Rattle.gate.specs.State.{State, holding, Outcome, replied}
 use Rattle.gate.specs.Setup.{offered, expiryOf, lastingPart, offerPart, roomPart, setupChecks}
 
 -- a refusal by one of some checks
@@ -29,7 +29,7 @@ pub record LastsUntil (checks : List Check) (end expiry : ℕ) : Type 0 where
   pub is : expiry ≡ end
 
 abbrev pub Lasts : List Check → ℕ → Offer → Type 0
-Lasts checks end (O.Until expiry) = LastsUntil checks end expiry
+Lasts checks end (O.Until expiry) = LastsUntil checks end (expiry .0)
 Lasts checks end (O.Refused number) = RefusedBy checks number
 
 -- 19 and 20, of any setup with this mask and this end
@@ -47,26 +47,26 @@ pub record HasRoom (checks : List Check) (table : List ℕ) (clock expiry place 
   pub until : end ≡ expiry
 
 abbrev pub Room : List Check → List ℕ → ℕ → ℕ → Start → Type 0
-Room checks table clock expiry (S.At place until) = HasRoom checks table clock expiry place until
+Room checks table clock expiry (S.At place until) = HasRoom checks table clock expiry place (until .0)
 Room checks table clock expiry (S.Refused number) = RefusedBy checks number
 
 -- 17 and 18, of any with this IV at this time
 abbrev pub RoomIs : List ℕ → List ℕ → ℕ → ℕ → Start → Type 0
 RoomIs table iv clock expiry r = (s : Setup) → s .iv ≡ iv → s .clock ≡ clock → Room (roomPart s table) table clock expiry r
 
-pub record Starts (s : Setup) (table : List ℕ) (place expiry : ℕ) : Type 0 where
-  pub none : first (setupChecks s table) ≡ 0
-  pub is : taken (records table) (s .clock) ≡ Place-At place
-  pub within : place < places table
+pub record Starts (s : Setup) (state : State) (place expiry : ℕ) : Type 0 where
+  pub none : first (setupChecks s state) ≡ 0
+  pub is : taken (records (state .table)) (s .clock) ≡ Place-At place
+  pub within : place < places (state .table)
   pub until : expiry ≡ expiryOf s
 
-abbrev pub StartIs : Setup → List ℕ → Start → Type 0
-StartIs s table (S.At place expiry) = Starts s table place expiry
-StartIs s table (S.Refused number) = RefusedBy (setupChecks s table) number
+abbrev pub StartIs : Setup → State → Start → Type 0
+StartIs s state (S.At place expiry) = Starts s state place (expiry .0)
+StartIs s state (S.Refused number) = RefusedBy (setupChecks s state) number
 
 -- the effect of a setup that takes a place
 unfoldable pub startAt : ℕ → List ℕ → List ℕ → List ℕ → List ℕ → List ℕ → ℕ → ℕ → List ℕ → List ℕ → Outcome
 startAt mask extra server-key session-key iv session-id place expiry table reply =
     let token = sealedToken server-key iv (record { key = session-key; id = session-id; expiry = expiry }) in
     replied 0 (setupReply (token .cipher) iv (token .tag) session-key mask extra) reply
-    (spliced table (size * place) (recordBytes (begun iv expiry)))
+    (holding (spliced table (size * place) (recordBytes (begun iv expiry))))

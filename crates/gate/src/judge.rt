@@ -3,47 +3,32 @@ ghost use mathlib.Core.Path.{_≡_};
 ghost use mathlib.Core.Bool.{true};
 ghost use Prim.Native.Nat.{_≤_, _<_};
 ghost use lib.ListN.{length};
-ghost use Rattle.names.specs.Extra.{goodExtra};
-ghost use Rattle.table.specs.declared.place.Place.the-variants.{Nowhere};
+ghost use Rattle.names.specs.Walk.{Known};
+ghost use Rattle.orders.specs.Orders.{orders};
 ghost use Rattle.table.specs.Table.{places, Within};
-ghost use Rattle.gate.specs.Calls.{ordersOf, requestOf};
-ghost use Rattle.gate.specs.Session.{heldAt, with-record};
-ghost use Rattle.gate.specs.Judge.{invalidates};
-ghost use Rattle.gate.specs.Stages.{tells, Decides, SettleIs, decisionOf, leftBy, AnswerIs};
-use super::admitting;
-use super::reading;
+ghost use Rattle.stages.specs.Request.{requestOf};
+ghost use Rattle.stages.specs.Session.{heldAt, with-record};
+ghost use Rattle.stages.specs.Parts.{invalidates};
+ghost use Rattle.stages.specs.Stages.{tells};
+ghost use Rattle.gate.specs.State.{holding};
+ghost use Rattle.gate.specs.Decisions.{Decides, leftBy, AnswerIs};
+use super::entry;
 use super::sizes;
-use super::vouching;
-use armor::Request;
-use orders::Checked;
-use orders::Limits;
+use orders::Numbers;
+use stages::reading;
+use stages::settling;
+use stages::settling::Decision;
 use table::place;
 use table::place::Place;
-use table::rule;
 use table::session;
 use table::session::Record;
-use token::Unsealed;
-use window::Nonce;
 use window::time::Time;
 
-// The number, and what its effect needs: the session's place, key and id, and where nonces are ordered its next record.
-pub struct Decision {
-    pub number: u32,
-    pub place: Place,
-    pub key: [u8; 32],
-    pub id: [u8; 64],
-    pub id_len: usize,
-    pub nonces: bool,
-    pub next: Record,
-}
-
 pub fn decide<'a>(
-    mask: u64,
+    known: &[u8],
+    numbers: Numbers,
     extra: &[u8],
-    request_life: u32,
-    idle: u32,
-    session_life: u32,
-    clock: u32,
+    clock: Time,
     server_key: &[u8],
     value: &[u8],
     head: &'a [u8],
@@ -53,32 +38,31 @@ pub fn decide<'a>(
     table: &[u8],
     reply: &[u8],
 ) -> Decision
-    ensures { λ r. ⌜ Decides (requestOf (ordersOf mask (now (extra .entry)) «request_life» idle «session_life») clock (now («server_key» .entry)) (now (value .entry)) (now (head .entry)) (now (aside .entry)) (now (path .entry)) (now (body .entry)) (now (reply .entry))) (now (table .entry)) r ⌝ }
+    requires { ⌜ Known (now known) ⌝ }
+    ensures { λ r. ⌜ Decides (requestOf (orders numbers (now (extra .entry))) (clock .0) (now («server_key» .entry)) (now (value .entry)) (now (head .entry)) (now (aside .entry)) (now (path .entry)) (now (body .entry)) (now (reply .entry))) (holding (now (table .entry))) r ⌝ }
 {
-    if !sizes::request_fits(server_key, value, head, aside, path, body, table, reply) {
-        return refused(1);
+    let fits = sizes::request_fits(server_key, value, head, aside, path, body, table, reply);
+    let number = entry::table_number(fits, table);
+    let entry = entry::enter(known, fits, number, numbers, extra);
+    if entry.number != 0 {
+        return settling::refused(entry.number);
     }
-    let Checked::Good(limits) = orders::check(mask, extra, request_life, idle, session_life) else {
-        return refused(2);
-    };
-    if !rule::well_formed(table) {
-        return refused(3);
-    }
-    let read = reading::read(mask, extra, value, head, aside);
+    let read = reading::read(known, numbers, extra, value, head, aside);
     if read.number != 0 {
-        return refused(read.number);
+        return settling::refused(read.number);
     }
     let request = read.request;
     let iv = request.iv;
     let place = place::find(table, &iv);
     let held = held_at(table, place);
-    settle(
-        mask,
+    settling::settle(
+        known,
+        numbers,
         extra,
         clock,
         server_key,
         request,
-        limits,
+        entry.limits,
         head,
         aside,
         path,
@@ -96,85 +80,6 @@ fn held_at(table: &[u8], place: Place) -> Record
     match place {
         Place::At(at) => session::read(table, at),
         Place::Nowhere => session::freed(),
-    }
-}
-
-// A refusal that touches nothing.
-pub fn refused(number: u32) -> Decision
-    ensures { λ r. ⌜ (r .number ≡ number) × (r .place ≡ Nowhere) ⌝ }
-{
-    Decision {
-        number,
-        place: Place::Nowhere,
-        key: [0u8; 32],
-        id: [0u8; 64],
-        id_len: 0,
-        nonces: false,
-        next: session::freed(),
-    }
-}
-
-// Checks 9 to 16, over the record of the request's session.
-pub fn settle<'a>(
-    mask: u64,
-    extra: &[u8],
-    clock: u32,
-    server_key: &[u8],
-    request: Request,
-    limits: Limits,
-    head: &'a [u8],
-    aside: &'a [u8],
-    path: &[u8],
-    body: &[u8],
-    place: Place,
-    held: Record,
-) -> Decision
-    requires { ⌜ (goodExtra (now extra) ≡ true) × (length (now «server_key») ≡ 32) × (request .«s_len» ≤ 118) × (length (now head) ≤ 16384) × (length (now aside) ≤ 16384) × (length (now path) ≤ 2048) × (length (now body) ≤ 65536) ⌝ }
-    ensures { λ r. ⌜ SettleIs mask (now (extra .entry)) clock (now («server_key» .entry)) request limits (now (head .entry)) (now (aside .entry)) (now (path .entry)) (now (body .entry)) place held r ⌝ }
-{
-    let vouched = vouching::vouch(
-        mask,
-        extra,
-        clock,
-        server_key,
-        request,
-        head,
-        aside,
-        path,
-        body,
-    );
-    let token = vouched.token;
-    if vouched.number != 0 {
-        return decided(vouched.number, place, token, false, held);
-    }
-    let ordered = mask % 2 == 1;
-    let admitted = admitting::admit(
-        place,
-        held,
-        Time(clock),
-        Time(request.t),
-        Time(request.lt),
-        limits.request_life,
-        limits.idle,
-        ordered,
-        Nonce(request.n),
-    );
-    decided(admitted.number, place, token, ordered, admitted.next)
-}
-
-fn decided(number: u32, place: Place, token: Unsealed, nonces: bool, next: Record) -> Decision
-    ensures { λ r. ⌜ r ≡ decisionOf number place token nonces next ⌝ }
-{
-    let key = token.key;
-    let id = token.id;
-    Decision {
-        number,
-        place,
-        key,
-        id,
-        id_len: token.id_len,
-        nonces,
-        next,
     }
 }
 

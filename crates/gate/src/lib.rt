@@ -3,25 +3,27 @@
 ghost use mathlib.Core.Path.{_≡_};
 ghost use mathlib.Core.List.{[]};
 ghost use Rattle.table.specs.Record.{recordBytes};
-ghost use Rattle.gate.specs.Calls.{ordersOf, setupOf, requestOf};
-ghost use Rattle.gate.specs.Outcome.{outcome};
+ghost use Rattle.orders.specs.Orders.{ordersOf};
+ghost use Rattle.stages.specs.Request.{requestOf};
+ghost use Rattle.gate.specs.State.{holding, outcome};
+ghost use Rattle.gate.specs.Calls.{setupOf};
 ghost use Rattle.gate.specs.Setup.{setUp};
 ghost use Rattle.gate.specs.Judge.{judged};
 ghost use Rattle.gate.specs.End.{ended};
+use orders::Numbers;
 use setup::Start;
 use table::place;
 use table::place::Place;
 use table::rule;
 use table::session;
 use table::session::Record;
+use window::time::Time;
 
-mod admitting;
+mod entry;
 mod judge;
 pub mod one;
-mod reading;
 mod setup;
 mod sizes;
-mod vouching;
 
 // Sets up a session.
 #[no_mangle]
@@ -40,15 +42,20 @@ pub extern "C" fn gate_setup(
     table: &mut [u8],
     reply: &mut [u8],
 ) -> u32
-    ensures { λ r. ⌜ outcome r (now (reply .exit)) (now (table .exit)) ≡ setUp (setupOf (ordersOf mask (now (extra .entry)) «request_life» idle «session_life») clock (now («server_key» .entry)) (now («session_key» .entry)) (now (iv .entry)) (now («session_id» .entry)) (now (value .entry)) (now (reply .entry))) (now (table .entry)) ⌝ }
+    ensures { λ r. ⌜ outcome r (now (reply .exit)) (holding (now (table .exit))) ≡ setUp (setupOf (ordersOf mask (now (extra .entry)) «request_life» idle «session_life») clock (now («server_key» .entry)) (now («session_key» .entry)) (now (iv .entry)) (now («session_id» .entry)) (now (value .entry)) (now (reply .entry))) (holding (now (table .entry))) ⌝ }
 {
-    let start = setup::decide(
+    let known = names::known();
+    let numbers = Numbers {
         mask,
-        extra,
         request_life,
         idle,
         session_life,
-        clock,
+    };
+    let start = setup::decide(
+        &known,
+        numbers,
+        extra,
+        Time(clock),
         server_key,
         session_key,
         iv,
@@ -92,15 +99,20 @@ pub extern "C" fn gate_judge<'a>(
     table: &mut [u8],
     reply: &mut [u8],
 ) -> u32
-    ensures { λ r. ⌜ outcome r (now (reply .exit)) (now (table .exit)) ≡ judged (requestOf (ordersOf mask (now (extra .entry)) «request_life» idle «session_life») clock (now («server_key» .entry)) (now (value .entry)) (now (head .entry)) (now (aside .entry)) (now (path .entry)) (now (body .entry)) (now (reply .entry))) (now (table .entry)) ⌝ }
+    ensures { λ r. ⌜ outcome r (now (reply .exit)) (holding (now (table .exit))) ≡ judged (requestOf (ordersOf mask (now (extra .entry)) «request_life» idle «session_life») clock (now («server_key» .entry)) (now (value .entry)) (now (head .entry)) (now (aside .entry)) (now (path .entry)) (now (body .entry)) (now (reply .entry))) (holding (now (table .entry))) ⌝ }
 {
-    let decision = judge::decide(
+    let known = names::known();
+    let numbers = Numbers {
         mask,
-        extra,
         request_life,
         idle,
         session_life,
-        clock,
+    };
+    let decision = judge::decide(
+        &known,
+        numbers,
+        extra,
+        Time(clock),
         server_key,
         value,
         head,
@@ -132,7 +144,7 @@ pub extern "C" fn gate_judge_one<'a>(
     record: &mut Record,
     reply: &mut [u8],
 ) -> u32
-    ensures { λ r. ⌜ outcome r (now (reply .exit)) (recordBytes (now («record» .exit))) ≡ judged (requestOf (ordersOf mask (now (extra .entry)) «request_life» idle «session_life») clock (now («server_key» .entry)) (now (value .entry)) (now (head .entry)) (now (aside .entry)) (now (path .entry)) (now (body .entry)) (now (reply .entry))) (recordBytes (now («record» .entry))) ⌝ }
+    ensures { λ r. ⌜ outcome r (now (reply .exit)) (holding (recordBytes (now («record» .exit)))) ≡ judged (requestOf (ordersOf mask (now (extra .entry)) «request_life» idle «session_life») clock (now («server_key» .entry)) (now (value .entry)) (now (head .entry)) (now (aside .entry)) (now (path .entry)) (now (body .entry)) (now (reply .entry))) (holding (recordBytes (now («record» .entry)))) ⌝ }
 {
     let held = *record;
     let judged = one::judge(
@@ -158,7 +170,7 @@ pub extern "C" fn gate_judge_one<'a>(
 // Ends the session that has this IV.
 #[no_mangle]
 pub extern "C" fn gate_end(iv: &[u8], table: &mut [u8]) -> u32
-    ensures { λ r. ⌜ outcome r [] (now (table .exit)) ≡ ended (now (iv .entry)) (now (table .entry)) ⌝ }
+    ensures { λ r. ⌜ outcome r [] (holding (now (table .exit))) ≡ ended (now (iv .entry)) (holding (now (table .entry))) ⌝ }
 {
     if !sizes::end_fits(iv, table) {
         return 1;

@@ -1,22 +1,28 @@
 // Judging a request over one session's record, as a table of that one record would.
 ghost use mathlib.Core.Path.{_≡_};
+ghost use Rattle.names.specs.Walk.{Known};
+ghost use Rattle.orders.specs.Orders.{orders, ordersOf};
 ghost use Rattle.table.specs.Record.{recordBytes};
 ghost use Rattle.table.specs.Table.{Within};
-ghost use Rattle.gate.specs.Calls.{ordersOf, requestOf};
-ghost use Rattle.gate.specs.Outcome.{outcome};
-ghost use Rattle.gate.specs.Session.{placeOf};
+ghost use Rattle.stages.specs.Request.{requestOf};
+ghost use Rattle.stages.specs.Checks.{first};
+ghost use Rattle.stages.specs.Session.{placeOf};
+ghost use Rattle.gate.specs.State.{holding, outcome};
+ghost use Rattle.gate.specs.Entry.{stateChecks};
 ghost use Rattle.gate.specs.Judge.{tableAfter, judged};
-ghost use Rattle.gate.specs.Stages.{Decides};
+ghost use Rattle.gate.specs.Decisions.{Decides};
+use super::entry;
 use super::judge;
-use super::judge::Decision;
-use super::judge::refused;
-use super::reading;
 use super::sizes;
-use orders::Checked;
+use orders::Numbers;
+use stages::reading;
+use stages::settling;
+use stages::settling::Decision;
 use table::place::Place;
 use table::rule;
 use table::session;
 use table::session::Record;
+use window::time::Time;
 
 // What the call answers, and the session's record after it.
 pub struct Judged {
@@ -40,15 +46,20 @@ pub fn judge<'a>(
     record: Record,
     reply: &mut [u8],
 ) -> Judged
-    ensures { λ r. ⌜ outcome (r .answer) (now (reply .exit)) (recordBytes (r .next)) ≡ judged (requestOf (ordersOf mask (now (extra .entry)) «request_life» idle «session_life») clock (now («server_key» .entry)) (now (value .entry)) (now (head .entry)) (now (aside .entry)) (now (path .entry)) (now (body .entry)) (now (reply .entry))) (recordBytes «record») ⌝ }
+    ensures { λ r. ⌜ outcome (r .answer) (now (reply .exit)) (holding (recordBytes (r .next))) ≡ judged (requestOf (ordersOf mask (now (extra .entry)) «request_life» idle «session_life») clock (now («server_key» .entry)) (now (value .entry)) (now (head .entry)) (now (aside .entry)) (now (path .entry)) (now (body .entry)) (now (reply .entry))) (holding (recordBytes «record»)) ⌝ }
 {
-    let decision = decide(
+    let known = names::known();
+    let numbers = Numbers {
         mask,
-        extra,
         request_life,
         idle,
         session_life,
-        clock,
+    };
+    let decision = decide(
+        &known,
+        numbers,
+        extra,
+        Time(clock),
         server_key,
         value,
         head,
@@ -66,12 +77,10 @@ pub fn judge<'a>(
 }
 
 fn decide<'a>(
-    mask: u64,
+    known: &[u8],
+    numbers: Numbers,
     extra: &[u8],
-    request_life: u32,
-    idle: u32,
-    session_life: u32,
-    clock: u32,
+    clock: Time,
     server_key: &[u8],
     value: &[u8],
     head: &'a [u8],
@@ -81,31 +90,30 @@ fn decide<'a>(
     record: Record,
     reply: &[u8],
 ) -> Decision
-    ensures { λ r. ⌜ Decides (requestOf (ordersOf mask (now (extra .entry)) «request_life» idle «session_life») clock (now («server_key» .entry)) (now (value .entry)) (now (head .entry)) (now (aside .entry)) (now (path .entry)) (now (body .entry)) (now (reply .entry))) (recordBytes «record») r ⌝ }
+    requires { ⌜ Known (now known) ⌝ }
+    ensures { λ r. ⌜ Decides (requestOf (orders numbers (now (extra .entry))) (clock .0) (now («server_key» .entry)) (now (value .entry)) (now (head .entry)) (now (aside .entry)) (now (path .entry)) (now (body .entry)) (now (reply .entry))) (holding (recordBytes «record»)) r ⌝ }
 {
-    if !sizes::lent_fits(server_key, value, head, aside, path, body, reply) {
-        return refused(1);
+    let fits = sizes::lent_fits(server_key, value, head, aside, path, body, reply);
+    let number = record_number(record);
+    let entry = entry::enter(known, fits, number, numbers, extra);
+    if entry.number != 0 {
+        return settling::refused(entry.number);
     }
-    let Checked::Good(limits) = orders::check(mask, extra, request_life, idle, session_life) else {
-        return refused(2);
-    };
-    if !rule::record_sound(record) {
-        return refused(3);
-    }
-    let read = reading::read(mask, extra, value, head, aside);
+    let read = reading::read(known, numbers, extra, value, head, aside);
     if read.number != 0 {
-        return refused(read.number);
+        return settling::refused(read.number);
     }
     let request = read.request;
     let iv = request.iv;
     let place = place_of(record, &iv);
-    judge::settle(
-        mask,
+    settling::settle(
+        known,
+        numbers,
         extra,
         clock,
         server_key,
         request,
-        limits,
+        entry.limits,
         head,
         aside,
         path,
@@ -113,6 +121,16 @@ fn decide<'a>(
         place,
         record,
     )
+}
+
+// The number of a table of this record.
+fn record_number(record: Record) -> u32
+    ensures { λ r. ⌜ r ≡ first (stateChecks (holding (recordBytes «record»))) ⌝ }
+{
+    if rule::record_sound(record) {
+        return 0;
+    }
+    3
 }
 
 // The record's place in a table of its own, if it is the session's.

@@ -3,31 +3,31 @@ ghost use mathlib.Core.Path.{_≡_};
 ghost use Prim.Native.Nat.{_+_, _<_, _≤_, _^_};
 ghost use lib.ListN.{length};
 ghost use Rattle.table.specs.Table.{places};
-ghost use Rattle.gate.specs.Calls.{ordersOf, setupOf};
-ghost use Rattle.gate.specs.Outcome.{outcome};
+ghost use Rattle.names.specs.Walk.{Known};
+ghost use Rattle.orders.specs.Orders.{orders};
+ghost use Rattle.gate.specs.State.{holding, outcome};
+ghost use Rattle.gate.specs.Calls.{setupOf};
 ghost use Rattle.gate.specs.Starts.{StartIs, UntilIs, OfferIs, RoomIs, startAt};
+use super::entry;
 use super::sizes;
 use armor::SetupRead;
-use orders::Checked;
+use orders::Numbers;
 use table::place;
 use table::place::Place;
-use table::rule;
 use table::session;
 use window::time::Time;
 
 // The place that the new session takes, and its expiry; or the number of the refusal.
 pub enum Start {
-    At(usize, u32),
+    At(usize, Time),
     Refused(u32),
 }
 
 pub fn decide(
-    mask: u64,
+    known: &[u8],
+    numbers: Numbers,
     extra: &[u8],
-    request_life: u32,
-    idle: u32,
-    session_life: u32,
-    clock: u32,
+    clock: Time,
     server_key: &[u8],
     session_key: &[u8],
     iv: &[u8],
@@ -36,17 +36,16 @@ pub fn decide(
     table: &[u8],
     reply: &[u8],
 ) -> Start
-    ensures { λ r. ⌜ StartIs (setupOf (ordersOf mask (now (extra .entry)) «request_life» idle «session_life») clock (now («server_key» .entry)) (now («session_key» .entry)) (now (iv .entry)) (now («session_id» .entry)) (now (value .entry)) (now (reply .entry))) (now (table .entry)) r ⌝ }
+    requires { ⌜ Known (now known) ⌝ }
+    ensures { λ r. ⌜ StartIs (setupOf (orders numbers (now (extra .entry))) (clock .0) (now («server_key» .entry)) (now («session_key» .entry)) (now (iv .entry)) (now («session_id» .entry)) (now (value .entry)) (now (reply .entry))) (holding (now (table .entry))) r ⌝ }
 {
-    if !sizes::setup_fits(server_key, session_key, iv, session_id, value, table, reply) {
-        return Start::Refused(1);
+    let fits = sizes::setup_fits(server_key, session_key, iv, session_id, value, table, reply);
+    let number = entry::table_number(fits, table);
+    let entry = entry::enter(known, fits, number, numbers, extra);
+    if entry.number != 0 {
+        return Start::Refused(entry.number);
     }
-    let Checked::Good(limits) = orders::check(mask, extra, request_life, idle, session_life) else {
-        return Start::Refused(2);
-    };
-    if !rule::well_formed(table) {
-        return Start::Refused(3);
-    }
+    let limits = entry.limits;
     match offered(value, clock, limits.session_life) {
         Offer::Refused(number) => Start::Refused(number),
         Offer::Until(expiry) => room(table, iv, clock, expiry),
@@ -54,14 +53,14 @@ pub fn decide(
 }
 
 enum Offer {
-    Until(u32),
+    Until(Time),
     Refused(u32),
 }
 
 // What the client offers, and until when the session would last: checks 4, 5, 19 and 20.
-fn offered(value: &[u8], clock: u32, life: u32) -> Offer
+fn offered(value: &[u8], clock: Time, life: u32) -> Offer
     requires { ⌜ length (now value) ≤ 4096 ⌝ }
-    ensures { λ r. ⌜ OfferIs (now (value .entry)) (clock + life) r ⌝ }
+    ensures { λ r. ⌜ OfferIs (now (value .entry)) (clock .0 + life) r ⌝ }
 {
     let read = armor::read_setup(value);
     match read {
@@ -72,26 +71,26 @@ fn offered(value: &[u8], clock: u32, life: u32) -> Offer
 }
 
 // Bit 2 of a client's mask is SHA-512.
-fn until(mask: u64, clock: u32, life: u32) -> Offer
-    ensures { λ r. ⌜ UntilIs mask (clock + life) r ⌝ }
+fn until(mask: u64, clock: Time, life: u32) -> Offer
+    ensures { λ r. ⌜ UntilIs mask (clock .0 + life) r ⌝ }
 {
     if (mask >> 2) % 2 != 1 {
         return Offer::Refused(19);
     }
-    if 4294967295 - clock < life {
+    if 4294967295 - clock.0 < life {
         return Offer::Refused(20);
     }
-    Offer::Until(clock + life)
+    Offer::Until(Time(clock.0 + life))
 }
 
 // The place for the new session: checks 17 and 18.
-fn room(table: &[u8], iv: &[u8], clock: u32, expiry: u32) -> Start
-    ensures { λ r. ⌜ RoomIs (now (table .entry)) (now (iv .entry)) clock expiry r ⌝ }
+fn room(table: &[u8], iv: &[u8], clock: Time, expiry: Time) -> Start
+    ensures { λ r. ⌜ RoomIs (now (table .entry)) (now (iv .entry)) (clock .0) (expiry .0) r ⌝ }
 {
     if let Place::At(_) = place::find(table, iv) {
         return Start::Refused(17);
     }
-    match place::to_take(table, Time(clock)) {
+    match place::to_take(table, clock) {
         Place::At(place) => Start::At(place, expiry),
         Place::Nowhere => Start::Refused(18),
     }
@@ -106,18 +105,18 @@ pub fn apply(
     iv: &[u8],
     session_id: &[u8],
     place: usize,
-    expiry: u32,
+    expiry: Time,
     table: &mut [u8],
     reply: &mut [u8],
 ) -> u32
     requires { ⌜ (mask < 2 ^ 56) × (length (now extra) ≤ 128) × (length (now «server_key») ≡ 32) × (length (now «session_key») ≡ 32) × (length (now iv) ≡ 12) × (1 ≤ length (now «session_id»)) × (length (now «session_id») ≤ 64) × (place < places (now table)) × (1024 ≤ length (now reply)) ⌝ }
-    ensures { λ r. ⌜ outcome r (now (reply .exit)) (now (table .exit)) ≡ startAt mask (now (extra .entry)) (now («server_key» .entry)) (now («session_key» .entry)) (now (iv .entry)) (now («session_id» .entry)) place expiry (now (table .entry)) (now (reply .entry)) ⌝ }
+    ensures { λ r. ⌜ outcome r (now (reply .exit)) (holding (now (table .exit))) ≡ startAt mask (now (extra .entry)) (now («server_key» .entry)) (now («session_key» .entry)) (now (iv .entry)) (now («session_id» .entry)) place (expiry .0) (now (table .entry)) (now (reply .entry)) ⌝ }
 {
-    let sealed = token::seal(server_key, iv, session_key, session_id, Time(expiry));
+    let sealed = token::seal(server_key, iv, session_key, session_id, expiry);
     let s = sealed.s;
     let s_len = sealed.s_len;
     let tag = sealed.tag;
     let len = reply::setup(reply, &s[..s_len], iv, &tag, session_key, mask, extra);
-    session::store(table, place, session::begin(iv, Time(expiry)));
+    session::store(table, place, session::begin(iv, expiry));
     256 * (len as u32)
 }

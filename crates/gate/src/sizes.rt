@@ -1,7 +1,8 @@
 // Whether what is lent has the sizes that document 01 names: check 1.
 ghost use mathlib.Core.Path.{_≡_};
-ghost use Rattle.gate.specs.Sizes.{between, tableFits, endFits};
-ghost use Rattle.gate.specs.Stages.{SetupFits, RequestFits, LentFits};
+ghost use Rattle.gate.specs.State.{holding};
+ghost use Rattle.gate.specs.Sizes.{longFrom, tableFits, endFits};
+ghost use Rattle.gate.specs.Decisions.{SetupFits, RequestFits, LentFits};
 use table::session::SIZE;
 
 // Records in a table, bytes in what a request brings, and bytes in a reply buffer.
@@ -17,8 +18,8 @@ const MOST_BODY: usize = 65536;
 
 const LEAST_REPLY: usize = 1024;
 
-fn between(low: usize, high: usize, run: &[u8]) -> bool
-    ensures { λ r. ⌜ r ≡ between low high (now (run .entry)) ⌝ }
+fn long_from(low: usize, high: usize, run: &[u8]) -> bool
+    ensures { λ r. ⌜ r ≡ longFrom low high (now (run .entry)) ⌝ }
 {
     (low <= run.len()) & (run.len() <= high)
 }
@@ -26,7 +27,7 @@ fn between(low: usize, high: usize, run: &[u8]) -> bool
 fn table_fits(table: &[u8]) -> bool
     ensures { λ r. ⌜ r ≡ tableFits (now (table .entry)) ⌝ }
 {
-    (table.len() % SIZE == 0) & between(SIZE, MOST_RECORDS * SIZE, table)
+    (table.len() % SIZE == 0) & long_from(SIZE, MOST_RECORDS * SIZE, table)
 }
 
 pub fn setup_fits(
@@ -43,7 +44,7 @@ pub fn setup_fits(
     (server_key.len() == 32)
         & ((session_key.len() == 32)
             & ((iv.len() == 12)
-                & (between(1, 64, session_id)
+                & (long_from(1, 64, session_id)
                     & ((value.len() <= MOST_VALUE)
                         & (table_fits(table) & (LEAST_REPLY <= reply.len()))))))
 }
@@ -79,12 +80,12 @@ pub fn lent_fits(
         & ((value.len() <= MOST_VALUE)
             & ((head.len() <= MOST_LINES)
                 & ((aside.len() <= MOST_LINES)
-                    & (between(1, MOST_PATH, path)
+                    & (long_from(1, MOST_PATH, path)
                         & ((body.len() <= MOST_BODY) & (LEAST_REPLY <= reply.len()))))))
 }
 
 pub fn end_fits(iv: &[u8], table: &[u8]) -> bool
-    ensures { λ r. ⌜ r ≡ endFits (now (iv .entry)) (now (table .entry)) ⌝ }
+    ensures { λ r. ⌜ r ≡ endFits (now (iv .entry)) (holding (now (table .entry))) ⌝ }
 {
     (iv.len() == 12) & table_fits(table)
 }

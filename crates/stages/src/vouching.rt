@@ -4,10 +4,12 @@ ghost use mathlib.Core.Bool.{true};
 ghost use Prim.Native.Nat.{_≤_};
 ghost use lib.ListN.{length};
 ghost use Rattle.names.specs.Extra.{goodExtra};
-ghost use Rattle.gate.specs.Stages.{VouchIs};
+ghost use Rattle.names.specs.Walk.{Known};
+ghost use Rattle.orders.specs.Orders.{orders};
+ghost use Rattle.stages.specs.Stages.{VouchIs};
 use armor::Request;
+use orders::Numbers;
 use token::Unsealed;
-use window::Nonce;
 use window::time::Time;
 
 // The number that the checks come to, and the token unless it is 9.
@@ -17,9 +19,10 @@ pub struct Vouched {
 }
 
 pub fn vouch<'a>(
-    mask: u64,
+    known: &[u8],
+    numbers: Numbers,
     extra: &[u8],
-    clock: u32,
+    clock: Time,
     server_key: &[u8],
     request: Request,
     head: &'a [u8],
@@ -27,8 +30,8 @@ pub fn vouch<'a>(
     path: &[u8],
     body: &[u8],
 ) -> Vouched
-    requires { ⌜ (goodExtra (now extra) ≡ true) × (length (now «server_key») ≡ 32) × (request .«s_len» ≤ 118) × (length (now head) ≤ 16384) × (length (now aside) ≤ 16384) × (length (now path) ≤ 2048) × (length (now body) ≤ 65536) ⌝ }
-    ensures { λ r. ⌜ VouchIs mask (now (extra .entry)) clock (now («server_key» .entry)) request (now (head .entry)) (now (aside .entry)) (now (path .entry)) (now (body .entry)) r ⌝ }
+    requires { ⌜ Known (now known) × (goodExtra (now extra) ≡ true) × (length (now «server_key») ≡ 32) × (request .«s_len» ≤ 118) × (length (now head) ≤ 16384) × (length (now aside) ≤ 16384) × (length (now path) ≤ 2048) × (length (now body) ≤ 65536) ⌝ }
+    ensures { λ r. ⌜ VouchIs (orders numbers (now (extra .entry))) (clock .0) (now («server_key» .entry)) request (now (head .entry)) (now (aside .entry)) (now (path .entry)) (now (body .entry)) r ⌝ }
 {
     let iv = request.iv;
     let s = request.s;
@@ -38,17 +41,19 @@ pub fn vouch<'a>(
     if !token.good {
         return Vouched { number: 9, token };
     }
-    if token.expiry <= clock {
+    let expiry = token.expiry;
+    if expiry.0 <= clock.0 {
         return Vouched { number: 10, token };
     }
     let key = token.key;
     let code = signed::code(
+        known,
         &key,
-        mask,
+        numbers.mask,
         extra,
-        Nonce(request.n),
-        Time(request.t),
-        Time(request.lt),
+        request.n,
+        request.t,
+        request.lt,
         head,
         aside,
         path,

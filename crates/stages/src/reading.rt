@@ -4,12 +4,15 @@ ghost use mathlib.Core.Bool.{true};
 ghost use Prim.Native.Nat.{_≤_};
 ghost use lib.ListN.{length};
 ghost use Rattle.names.specs.Extra.{goodExtra};
+ghost use Rattle.names.specs.Walk.{Known};
+ghost use Rattle.orders.specs.Orders.{orders};
 ghost use Rattle.armor.specs.Value.{carried};
 ghost use Rattle.armor.specs.Fields.{requestFields};
 ghost use Rattle.armor.specs.Answers.{Holds};
-ghost use Rattle.gate.specs.Stages.{CoversIs, ReadIs};
+ghost use Rattle.stages.specs.Stages.{CoversIs, ReadIs};
 use armor::Answer;
 use armor::Request;
+use orders::Numbers;
 
 // The number that the checks come to, and where it is 0 what the value carries.
 pub struct Reading {
@@ -17,9 +20,16 @@ pub struct Reading {
     pub request: Request,
 }
 
-pub fn read(mask: u64, extra: &[u8], value: &[u8], head: &[u8], aside: &[u8]) -> Reading
-    requires { ⌜ (goodExtra (now extra) ≡ true) × (length (now extra) ≤ 128) × (length (now value) ≤ 4096) ⌝ }
-    ensures { λ r. ⌜ ReadIs mask (now (extra .entry)) (now (value .entry)) (now (head .entry)) (now (aside .entry)) r ⌝ }
+pub fn read(
+    known: &[u8],
+    numbers: Numbers,
+    extra: &[u8],
+    value: &[u8],
+    head: &[u8],
+    aside: &[u8],
+) -> Reading
+    requires { ⌜ Known (now known) × (goodExtra (now extra) ≡ true) × (length (now value) ≤ 4096) ⌝ }
+    ensures { λ r. ⌜ ReadIs (orders numbers (now (extra .entry))) (now (value .entry)) (now (head .entry)) (now (aside .entry)) r ⌝ }
 {
     let heard = armor::read_request(value);
     let request = heard.request;
@@ -28,7 +38,7 @@ pub fn read(mask: u64, extra: &[u8], value: &[u8], head: &[u8], aside: &[u8]) ->
         Answer::Grammar => Reading { number: 4, request },
         Answer::Fields => Reading { number: 5, request },
         Answer::Good => Reading {
-            number: compare(mask, extra, value, request, head, aside),
+            number: compare(known, numbers, extra, value, request, head, aside),
             request,
         },
     }
@@ -36,20 +46,22 @@ pub fn read(mask: u64, extra: &[u8], value: &[u8], head: &[u8], aside: &[u8]) ->
 
 // Checks 6 to 8.
 fn compare(
-    mask: u64,
+    known: &[u8],
+    numbers: Numbers,
     extra: &[u8],
     value: &[u8],
     request: Request,
     head: &[u8],
     aside: &[u8],
 ) -> u32
-    requires { ⌜ (goodExtra (now extra) ≡ true) × (length (now extra) ≤ 128) × (requestFields (carried (now value)) ≡ true) × Holds (now value) (carried (now value)) request ⌝ }
-    ensures { λ r. ⌜ CoversIs mask (now (extra .entry)) (now (value .entry)) (now (head .entry)) (now (aside .entry)) r ⌝ }
+    requires { ⌜ Known (now known) × (goodExtra (now extra) ≡ true) × (requestFields (carried (now value)) ≡ true) × Holds (now value) (carried (now value)) request ⌝ }
+    ensures { λ r. ⌜ CoversIs (orders numbers (now (extra .entry))) (now (value .entry)) (now (head .entry)) (now (aside .entry)) r ⌝ }
 {
     if !(lines::good(head) & lines::good(aside)) {
         return 6;
     }
-    if lines::repeats(mask, extra, head) | lines::repeats(mask, extra, aside) {
+    let mask = numbers.mask;
+    if lines::repeats(known, mask, extra, head) | lines::repeats(known, mask, extra, aside) {
         return 7;
     }
     if !coverage::as_ordered(value, request, mask, extra) {

@@ -1,6 +1,7 @@
 // Whether the request's session admits it: checks 12 to 16, over the session's record.
 ghost use mathlib.Core.Path.{_≡_};
-ghost use Rattle.gate.specs.Stages.{AdmitIs};
+ghost use Rattle.stages.specs.Stages.{AdmitIs};
+use orders::Limits;
 use table::place::Place;
 use table::session::Record;
 use window::Nonce;
@@ -20,20 +21,19 @@ pub fn admit(
     clock: Time,
     t: Time,
     lt: Time,
-    life: u32,
-    idle: u32,
+    limits: Limits,
     ordered: bool,
     n: Nonce,
 ) -> Admitted
-    ensures { λ r. ⌜ AdmitIs place held (clock .0) (t .0) (lt .0) life idle ordered (n .0) r ⌝ }
+    ensures { λ r. ⌜ AdmitIs place held (clock .0) (t .0) (lt .0) limits ordered (n .0) r ⌝ }
 {
     let Place::At(_) = place else {
         return as_it_was(12, held);
     };
-    if time::idle(t, lt, idle) {
+    if time::idle(t, lt, limits.idle) {
         return as_it_was(13, held);
     }
-    if time::too_old(clock, t, life) {
+    if time::too_old(clock, t, limits.request_life) {
         return as_it_was(14, held);
     }
     if !ordered {

@@ -1,0 +1,109 @@
+-- What the code's stages answer for a request, by the parts of its checks. A stage is lent only what it looks at; what it answers holds
+-- whatever the rest of the request is.
+-- Assumes nothing.
+use mathlib.Core.Path.{_≡_}
+use mathlib.Core.Bool.{Bool, true, false, _||_}
+use mathlib.Core.List.{List, _++_}
+use Prim.Native.Nat.{ℕ, _≤_}
+use lib.Dec.{eqb}
+use lib.ListN.{length, take}
+use Rattle.armor.specs.Value.{carried}
+use Rattle.armor.specs.Answers.{Holds}
+use Rattle.armor.specs.declared.Request.{Request as ArmorRequest}
+use Rattle.orders.specs.Orders.{Orders, limitsOf}
+use Rattle.orders.specs.declared.Limits.{Limits}
+use Rattle.token.specs.Token.{Token}
+use Rattle.token.specs.Held.{IsToken}
+use Rattle.token.specs.declared.Unsealed.{Unsealed}
+use Rattle.table.specs.declared.session.Record.{Record}
+use Rattle.table.specs.declared.place.Place.{Place}
+use Rattle.stages.specs.declared.reading.Reading.{Reading}
+use Rattle.stages.specs.declared.vouching.Vouched.{Vouched}
+use Rattle.stages.specs.declared.admitting.Admitted.{Admitted}
+use Rattle.stages.specs.declared.settling.Decision.{Decision}
+use Rattle.stages.specs.Request.{Request, requestOf}
+use Rattle.stages.specs.Checks.{first, nowhere}
+use Rattle.stages.specs.Session.{placeOf, heldAt}
+use Rattle.stages.specs.Parts.{ivOf, nonceOf, timeOf, lastTimeOf, tokenOf, limits, ordered, nextOf, coveringPart, readingPart, vouchingPart, admittingPart, invalidates}
+
+-- 6 to 8
+abbrev pub CoversIs : Orders → List ℕ → List ℕ → List ℕ → ℕ → Type 0
+CoversIs o value head aside number =
+    (clock : ℕ) (server-key path body reply : List ℕ) → number ≡ first (coveringPart (requestOf o clock server-key value head aside path body reply))
+
+-- 4 to 8: the number, and where it is 0 what the value carries
+pub record Reads (q : Request) (r : Reading) : Type 0 where
+  pub is : r .number ≡ first (readingPart q)
+  pub holds : r .number ≡ 0 → Holds (q .value) (carried (q .value)) (r .request)
+
+abbrev pub ReadIs : Orders → List ℕ → List ℕ → List ℕ → Reading → Type 0
+ReadIs o value head aside r =
+    (clock : ℕ) (server-key path body reply : List ℕ) → Reads (requestOf o clock server-key value head aside path body reply) r
+
+-- 9 to 11: the number, and the token unless it is 9
+pub record Vouches (q : Request) (r : Vouched) : Type 0 where
+  pub is : r .number ≡ first (vouchingPart q)
+  pub holds : (r .number ≡ 9 → ⊥) → IsToken (tokenOf q) (r .token)
+
+abbrev pub VouchIs : Orders → ℕ → List ℕ → ArmorRequest → List ℕ → List ℕ → List ℕ → List ℕ → Vouched → Type 0
+VouchIs o clock server-key request head aside path body r =
+    (value reply : List ℕ) → Holds value (carried value) request → Vouches (requestOf o clock server-key value head aside path body reply) r
+
+-- 12 to 16: the number, and where it is 0 and nonces are ordered the next record
+pub record Admits (q : Request) (table : List ℕ) (r : Admitted) : Type 0 where
+  pub is : r .number ≡ first (admittingPart q table)
+  pub next : r .number ≡ 0 → ordered q ≡ true → r .next ≡ nextOf q table
+
+-- a request's session stands at this place of a table, or nowhere, and its record holds this
+pub record StandsAt (q : Request) (table : List ℕ) (place : Place) (held : Record) : Type 0 where
+  pub at : placeOf table (ivOf q) ≡ place
+  pub holds : nowhere place ≡ false → heldAt table place ≡ held
+
+-- what admitting is asked, of any request that asks it
+pub record Asks (q : Request) (now' t' lt' : ℕ) (limits' : Limits) (nonces' : Bool) (n' : ℕ) : Type 0 where
+  pub clock : q .clock ≡ now'
+  pub t : timeOf q ≡ t'
+  pub lt : lastTimeOf q ≡ lt'
+  pub within : limits q ≡ limits'
+  pub nonces : ordered q ≡ nonces'
+  pub n : nonceOf q ≡ n'
+
+abbrev pub AdmitIs : Place → Record → ℕ → ℕ → ℕ → Limits → Bool → ℕ → Admitted → Type 0
+AdmitIs place held clock t lt within nonces n r =
+    (q : Request) (table : List ℕ) → StandsAt q table place held → Asks q clock t lt within nonces n → Admits q table r
+
+-- a number whose effect needs the session: 0, 10 and 13
+abbrev pub tells : ℕ → Bool
+tells n = eqb n 0 || invalidates n
+
+abbrev pub decisionOf : ℕ → Place → Unsealed → Bool → Record → Decision
+decisionOf number place token nonces next = record {
+  number = number;
+  place = place;
+  key = token .key;
+  id = token .id;
+  «id_len» = token .«id_len»;
+  nonces = nonces;
+  next = next;
+}
+
+-- the token that a decision is about
+pub record About (token : Token) (d : Decision) : Type 0 where
+  pub key : d .key ≡ token .key
+  pub id : take (d .«id_len») (d .id) ≡ token .id
+  pub id-size : d .«id_len» ≡ length (token .id)
+  pub id-fits : d .«id_len» ≤ 64
+
+-- 9 to 16: the number, and where its effect needs them the token, the place and the next record
+pub record Settles (q : Request) (table : List ℕ) (d : Decision) : Type 0 where
+  pub is : d .number ≡ first (vouchingPart q ++ admittingPart q table)
+  pub knows : tells (d .number) ≡ true → About (tokenOf q) d
+  pub at : d .place ≡ placeOf table (ivOf q)
+  pub orders : d .number ≡ 0 → d .nonces ≡ ordered q
+  pub next : d .number ≡ 0 → ordered q ≡ true → d .next ≡ nextOf q table
+
+abbrev pub SettleIs : Orders → ℕ → List ℕ → ArmorRequest → Limits → List ℕ → List ℕ → List ℕ → List ℕ → Place → Record → Decision → Type 0
+SettleIs o clock server-key request within head aside path body place held d =
+    (value reply table : List ℕ)
+    → let q = requestOf o clock server-key value head aside path body reply in
+    Holds value (carried value) request → within ≡ limitsOf o → StandsAt q table place held → Settles q table d

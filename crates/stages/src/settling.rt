@@ -1,0 +1,110 @@
+// What becomes of a request that was read, over the record of its session: checks 9 to 16.
+ghost use mathlib.Core.Path.{_≡_};
+ghost use mathlib.Core.Bool.{true};
+ghost use Prim.Native.Nat.{_≤_};
+ghost use lib.ListN.{length};
+ghost use Rattle.names.specs.Extra.{goodExtra};
+ghost use Rattle.names.specs.Walk.{Known};
+ghost use Rattle.orders.specs.Orders.{orders};
+ghost use Rattle.table.specs.declared.place.Place.the-variants.{Nowhere};
+ghost use Rattle.stages.specs.Stages.{SettleIs, decisionOf};
+use super::admitting;
+use super::vouching;
+use armor::Request;
+use orders::Limits;
+use orders::Numbers;
+use table::place::Place;
+use table::session;
+use table::session::Record;
+use token::Unsealed;
+use window::time::Time;
+
+// The number, and what its effect needs: the session's place, key and id, and where nonces are ordered its next record.
+pub struct Decision {
+    pub number: u32,
+    pub place: Place,
+    pub key: [u8; 32],
+    pub id: [u8; 64],
+    pub id_len: usize,
+    pub nonces: bool,
+    pub next: Record,
+}
+
+pub fn settle<'a>(
+    known: &[u8],
+    numbers: Numbers,
+    extra: &[u8],
+    clock: Time,
+    server_key: &[u8],
+    request: Request,
+    limits: Limits,
+    head: &'a [u8],
+    aside: &'a [u8],
+    path: &[u8],
+    body: &[u8],
+    place: Place,
+    held: Record,
+) -> Decision
+    requires { ⌜ Known (now known) × (goodExtra (now extra) ≡ true) × (length (now «server_key») ≡ 32) × (request .«s_len» ≤ 118) × (length (now head) ≤ 16384) × (length (now aside) ≤ 16384) × (length (now path) ≤ 2048) × (length (now body) ≤ 65536) ⌝ }
+    ensures { λ r. ⌜ SettleIs (orders numbers (now (extra .entry))) (clock .0) (now («server_key» .entry)) request limits (now (head .entry)) (now (aside .entry)) (now (path .entry)) (now (body .entry)) place held r ⌝ }
+{
+    let vouched = vouching::vouch(
+        known,
+        numbers,
+        extra,
+        clock,
+        server_key,
+        request,
+        head,
+        aside,
+        path,
+        body,
+    );
+    let token = vouched.token;
+    if vouched.number != 0 {
+        return decided(vouched.number, place, token, false, held);
+    }
+    let ordered = numbers.mask % 2 == 1;
+    let admitted = admitting::admit(
+        place,
+        held,
+        clock,
+        request.t,
+        request.lt,
+        limits,
+        ordered,
+        request.n,
+    );
+    decided(admitted.number, place, token, ordered, admitted.next)
+}
+
+fn decided(number: u32, place: Place, token: Unsealed, nonces: bool, next: Record) -> Decision
+    ensures { λ r. ⌜ r ≡ decisionOf number place token nonces next ⌝ }
+{
+    let key = token.key;
+    let id = token.id;
+    Decision {
+        number,
+        place,
+        key,
+        id,
+        id_len: token.id_len,
+        nonces,
+        next,
+    }
+}
+
+// A refusal that touches nothing.
+pub fn refused(number: u32) -> Decision
+    ensures { λ r. ⌜ (r .number ≡ number) × (r .place ≡ Nowhere) ⌝ }
+{
+    Decision {
+        number,
+        place: Place::Nowhere,
+        key: [0u8; 32],
+        id: [0u8; 64],
+        id_len: 0,
+        nonces: false,
+        next: session::freed(),
+    }
+}
