@@ -54,7 +54,7 @@ holds iv r = isUsed r && same (r .iv) iv
 
 -- its expiry is at or before now
 abbrev pub lapsed : ℕ → Record → Bool
-lapsed clock r = leb (r .expiry) clock
+lapsed clock r = leb (r .expiry .0) clock
 
 -- the used record with an IV
 unfoldable pub found : List Record → List ℕ → Place
