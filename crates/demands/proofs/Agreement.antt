@@ -16,9 +16,13 @@ use Rattle.lines.specs.Lines.{linesIn}
 use Rattle.lines.specs.Values.{coveredValue}
 use Rattle.signed.specs.SignedText.{signedText}
 use Rattle.signed.proofs.SameText as Text
-use Rattle.gate.specs.Calls.{Request}
-use Rattle.gate.specs.Judge.{fieldsOf, ivOf, nonceOf, timeOf, lastTimeOf, signatureOf, openedOf, tokenOf, textOf, entryPart, readingPart, tokenPart, judged}
-use Rattle.gate.proofs.Numbers.{none-holds, entry-numbered, reading-numbered}
+use Rattle.gate.specs.State.{State}
+use Rattle.stages.specs.Request.{Request}
+use Rattle.stages.specs.Parts.{fieldsOf, ivOf, nonceOf, timeOf, lastTimeOf, signatureOf, openedOf, tokenOf, textOf, readingPart, tokenPart}
+use Rattle.gate.specs.Judge.{entryPart, judged}
+use Rattle.stages.proofs.Checks.{none-holds}
+use Rattle.gate.proofs.Numbers.{entry-numbered}
+use Rattle.stages.proofs.Parts.{reading-numbered}
 use Rattle.demands.specs.Passing.{Reaches}
 use Rattle.demands.proofs.Checks.{opens}
 use Rattle.demands.proofs.Passed.{Passed, all-passed}
@@ -36,13 +40,13 @@ pub record Agree (p q : Request) : Type 0 where
   pub ah : carries nameAh p ≡ carries nameAh q
   pub eah : carries nameEah p ≡ carries nameEah q
   pub eah-or-not : carriesTimes nameEah p ≡ carriesTimes nameEah q
-  pub mask : p .orders .mask ≡ q .orders .mask
+  pub mask : p .orders .numbers .mask ≡ q .orders .numbers .mask
   pub extra : p .orders .extra ≡ q .orders .extra
   pub n : carries nameN p ≡ carries nameN q
   pub n-or-not : carriesTimes nameN p ≡ carriesTimes nameN q
   pub t : carries nameT p ≡ carries nameT q
   pub lt : carries nameLt p ≡ carries nameLt q
-  pub headers : (name : List ℕ) → List·Memᴰ name (coveredNames (p .orders .mask) (p .orders .extra)) → headerOf p name ≡ headerOf q name
+  pub headers : (name : List ℕ) → List·Memᴰ name (coveredNames (p .orders .numbers .mask) (p .orders .extra)) → headerOf p name ≡ headerOf q name
   pub path : p .path ≡ q .path
   pub body : p .body ≡ q .body
 
@@ -56,20 +60,20 @@ pub record MeetAlike (p q : Request) : Type 0 where
   pub orders : p .orders ≡ q .orders
   pub clock : p .clock ≡ q .clock
 
-reaching : (q : Request) (table : List ℕ) → Reaches q table → Passed q table
+reaching : (q : Request) (state : State) → Reaches q state → Passed q state
 unfolding entryPart
-reaching q table r =
-    let read = none-holds (entryPart q table) (readingPart q ++ tokenPart q) (entry-numbered _ _ _) r in
+reaching q state r =
+    let read = none-holds (entryPart q state) (readingPart q ++ tokenPart q) (entry-numbered _ _ _) r in
     let opened = none-holds (readingPart q) (tokenPart q) (reading-numbered q) (read .later) in
-    all-passed q table (read .none) (opened .none) (opens q [] 0 (rw append-nil (opened .later)) (λ z. omega arith))
+    all-passed q state (read .none) (opened .none) (opens q [] 0 (rw append-nil (opened .later)) (λ z. omega arith))
 
 -- its signed text is document 01's, of the bytes that it carries
-pub signed-text : (q : Request) (table : List ℕ) → Reaches q table → textOf q ≡ signedText (signedBy q)
-signed-text q table r = text-carried q table (reaching q table r)
+pub signed-text : (q : Request) (state : State) → Reaches q state → textOf q ≡ signedText (signedBy q)
+signed-text q state r = text-carried q state (reaching q state r)
 
 abbrev signing : Request → Text.Request
 signing q = record {
-  mask = q .orders .mask;
+  mask = q .orders .numbers .mask;
   extra = q .orders .extra;
   n = nonceOf q;
   t = timeOf q;
@@ -80,11 +84,11 @@ signing q = record {
   body = q .body;
 }
 
-signing-fits : (q : Request) (table : List ℕ) → Passed q table → Text.Fits (signing q)
-signing-fits q table p =
-    record { mask = mask-fits q table p; n = nonce-small q table p; t = time-small q table p; lt = last-time-small q table p }
+signing-fits : (q : Request) (state : State) → Passed q state → Text.Fits (signing q)
+signing-fits q state p =
+    record { mask = mask-fits q state p; n = nonce-small q state p; t = time-small q state p; lt = last-time-small q state p }
 
-module _ (p q : Request) (s t : List ℕ) (rp : Reaches p s) (rq : Reaches q t) (e : textOf p ≡ textOf q) where
+module _ (p q : Request) (s t : State) (rp : Reaches p s) (rq : Reaches q t) (e : textOf p ≡ textOf q) where
   left : Passed p s
   left = reaching p s rp
 
@@ -102,7 +106,7 @@ module _ (p q : Request) (s t : List ℕ) (rp : Reaches p s) (rq : Reaches q t) 
   nonces zero c l = none-held nameN (fieldsOf p) c ∙ sym (none-held nameN (fieldsOf q) (sym counts ∙ c))
   nonces (suc zero) c l =
       sym (nonce-carried p s left c)
-      ∙ ap numberBytes (texts .n (eq-eqb (p .orders .mask % 2) 1 (sym (nonce-ordered p s left) ∙ c)))
+      ∙ ap numberBytes (texts .n (eq-eqb (p .orders .numbers .mask % 2) 1 (sym (nonce-ordered p s left) ∙ c)))
       ∙ nonce-carried q t right (sym counts ∙ c)
   nonces (suc (suc k)) c l = absurd (omega arith)
 
@@ -114,7 +118,7 @@ module _ (p q : Request) (s t : List ℕ) (rp : Reaches p s) (rq : Reaches q t) 
     eah-or-not = names-times p s left ∙ ap named (texts .extra) ∙ sym (names-times q t right);
     mask = texts .mask;
     extra = texts .extra;
-    n = nonces (p .orders .mask % 2) (nonce-ordered p s left) (omega arith);
+    n = nonces (p .orders .numbers .mask % 2) (nonce-ordered p s left) (omega arith);
     n-or-not = counts;
     t = sym (time-carried p s left) ∙ ap numberBytes (texts .t) ∙ time-carried q t right;
     lt = sym (last-time-carried p s left) ∙ ap numberBytes (texts .lt) ∙ last-time-carried q t right;
@@ -124,7 +128,7 @@ module _ (p q : Request) (s t : List ℕ) (rp : Reaches p s) (rq : Reaches q t) 
   }
 
 -- THE THEOREM, its first sentence; the two may meet other orders and tables
-pub agree : (p q : Request) (s t : List ℕ) → Reaches p s → Reaches q t → textOf p ≡ textOf q → Agree p q
+pub agree : (p q : Request) (s t : State) → Reaches p s → Reaches q t → textOf p ≡ textOf q → Agree p q
 agree = agreed
 
 token-alike : (p q : Request) → MeetAlike p q → tokenOf p ≡ tokenOf q
@@ -146,11 +150,11 @@ read-alike p q a m e = record {
 }
 
 -- THE THEOREM, its second sentence
-pub same-verdict : (p q : Request) (table : List ℕ) → Reaches p table → Reaches q table → textOf p ≡ textOf q → MeetAlike p q
-    → Alike (judged p table) (judged q table)
-same-verdict p q table rp rq e m = judged-alike p q table (read-alike p q (agree p q table table rp rq e) m e) rp rq
+pub same-verdict : (p q : Request) (state : State) → Reaches p state → Reaches q state → textOf p ≡ textOf q → MeetAlike p q
+    → Alike (judged p state) (judged q state)
+same-verdict p q state rp rq e m = judged-alike p q state (read-alike p q (agree p q state state rp rq e) m e) rp rq
 
 -- where the reply buffers are equal too, every byte of them is the same after
-pub same-outcome : (p q : Request) (table : List ℕ) → Reaches p table → Reaches q table → textOf p ≡ textOf q → MeetAlike p q
-    → p .reply ≡ q .reply → judged p table ≡ judged q table
-same-outcome p q table rp rq e m b = judged-same p q table (read-alike p q (agree p q table table rp rq e) m e) rp rq b
+pub same-outcome : (p q : Request) (state : State) → Reaches p state → Reaches q state → textOf p ≡ textOf q → MeetAlike p q
+    → p .reply ≡ q .reply → judged p state ≡ judged q state
+same-outcome p q state rp rq e m b = judged-same p q state (read-alike p q (agree p q state state rp rq e) m e) rp rq b

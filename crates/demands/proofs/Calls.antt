@@ -16,12 +16,14 @@ use Rattle.table.specs.Table.{records, recordAt}
 use Rattle.table.proofs.Found.{found-at, taken-at}
 use Rattle.table.proofs.Sessions.{begun-fits, stepped-fits}
 use Rattle.signed.specs.SignedText.{ordersNonce}
-use Rattle.gate.specs.Calls.{Setup, Request}
-use Rattle.gate.specs.Checks.{first}
-use Rattle.gate.specs.Session.{without}
-use Rattle.gate.specs.Setup
-use Rattle.gate.specs.Setup.{expiryOf, setupChecks, setUp}
-use Rattle.gate.specs.Judge.{ivOf, nonceOf, stepped, requestChecks, invalidates, judged}
+use Rattle.gate.specs.Calls.{Setup}
+use Rattle.stages.specs.Request.{Request}
+use Rattle.stages.specs.Checks.{first}
+use Rattle.stages.specs.Session.{without}
+use Rattle.gate.specs.State.{State}
+use Rattle.gate.specs.Setup.{expiryOf, setupChecks, withSession, setUp}
+use Rattle.stages.specs.Parts.{ivOf, nonceOf, stepped, invalidates}
+use Rattle.gate.specs.Judge.{requestChecks, judged}
 use Rattle.gate.specs.End.{endChecks, ended}
 use Rattle.demands.specs.History.{Call, setting-up, judging, ending, answer, withAccepted, withSetUp}
 use Rattle.demands.proofs.Checks.{accepted-passes}
@@ -31,72 +33,72 @@ use Rattle.demands.proofs.Others.{accepts-zero, Finds, passes-finds, pa
 use Rattle.demands.proofs.Sessions.{begun-sessions, stepped-sessions}
 use Rattle.demands.proofs.Tables.{Standing, held, stored-standing, without-standing}
 
-module _ (n : ℕ) (table : List ℕ) (ivs : List (List ℕ)) (nonces : List ℕ → List ℕ) (st : Standing n table ivs nonces) where
+module _ (n : ℕ) (state : State) (ivs : List (List ℕ)) (nonces : List ℕ → List ℕ) (st : Standing n (state .table) ivs nonces) where
   -- a setup that is answered 0
-  setup-done : (s : Setup) → Takes s table → Standing n (Setup.tableOf s table) (s .iv ∷ ivs) nonces
+  setup-done : (s : Setup) → Takes s state → Standing n (withSession s (state .table)) (s .iv ∷ ivs) nonces
   setup-done s t =
-      let h = taken-at (records table) (s .clock) (t .place) (t .takes) .0 in
-      rw (begun-table s table (t .place) (t .takes))
-      (stored-standing n table ivs nonces st (t .place) (begun (s .iv) (expiryOf s)) h (begun-fits (s .iv) (expiryOf s) (t .long) (t .small))
-      (begun-sessions (records table) ivs nonces (st .sessions) (t .place) (s .iv) (expiryOf s) h (t .unused) (t .long) (t .small)))
+      let h = taken-at (records (state .table)) (s .clock) (t .place) (t .takes) .0 in
+      rw (begun-table s (state .table) (t .place) (t .takes))
+      (stored-standing n (state .table) ivs nonces st (t .place) (begun (s .iv) (expiryOf s)) h (begun-fits (s .iv) (expiryOf s) (t .long) (t .small))
+      (begun-sessions (records (state .table)) ivs nonces (st .sessions) (t .place) (s .iv) (expiryOf s) h (t .unused) (t .long) (t .small)))
 
-  setup-standing : (s : Setup) → Standing n (setUp s table .table) (withSetUp (setting-up s) (setUp s table .number) ivs) nonces
-  setup-standing s = rw (setUp-table s table, setUp-number s table) (by (eqb (first (setupChecks s table)) 0) refl)
+  setup-standing : (s : Setup) → Standing n (setUp s state .state .table) (withSetUp (setting-up s) (setUp s state .number) ivs) nonces
+  setup-standing s = rw (setUp-table s state, setUp-number s state) (by (eqb (first (setupChecks s state)) 0) refl)
     where
-      by : (t : Bool) → eqb (first (setupChecks s table)) 0 ≡ t
-          → Standing n (cond t (Setup.tableOf s table) table) (cond t (s .iv ∷ ivs) ivs) nonces
-      by true e = setup-done s (setup-takes s table (eqb-true _ 0 e))
+      by : (t : Bool) → eqb (first (setupChecks s state)) 0 ≡ t
+          → Standing n (cond t (withSession s (state .table)) (state .table)) (cond t (s .iv ∷ ivs) ivs) nonces
+      by true e = setup-done s (setup-takes s state (eqb-true _ 0 e))
       by false e = st
 
-  end-standing : (iv : List ℕ) → Standing n (ended iv table .table) ivs nonces
-  end-standing iv = rw (ended-table iv table) (by (eqb (first (endChecks iv table)) 0))
+  end-standing : (iv : List ℕ) → Standing n (ended iv state .state .table) ivs nonces
+  end-standing iv = rw (ended-table iv state) (by (eqb (first (endChecks iv state)) 0))
     where
-      by : (t : Bool) → Standing n (cond t (without table iv) table) ivs nonces
-      by true = without-standing n table ivs nonces st iv
+      by : (t : Bool) → Standing n (cond t (without (state .table) iv) (state .table)) ivs nonces
+      by true = without-standing n (state .table) ivs nonces st iv
       by false = st
 
   module _ (q : Request) where
-    abbrev old : Finds q table → Record
-    old f = getD (records table) (f .place) freed
+    abbrev old : Finds q state → Record
+    old f = getD (records (state .table)) (f .place) freed
 
     -- the session's record, and the step that its window takes
-    held-record : (f : Finds q table) → recordAt table (f .place) ≡ old f
-    held-record f = held n table ivs nonces st (f .place) (found-at (records table) (ivOf q) (f .place) (f .finds) .0)
+    held-record : (f : Finds q state) → recordAt (state .table) (f .place) ≡ old f
+    held-record f = held n (state .table) ivs nonces st (f .place) (found-at (records (state .table)) (ivOf q) (f .place) (f .finds) .0)
 
-    pub held-step : (f : Finds q table) → stepped q table ≡ stepOf (windowOf (old f)) (nonceOf q)
-    held-step f = found-step q table (f .place) (f .finds) ∙ ap (λ (r : Record). stepOf (windowOf r) (nonceOf q)) (held-record f)
+    pub held-step : (f : Finds q state) → stepped q (state .table) ≡ stepOf (windowOf (old f)) (nonceOf q)
+    held-step f = found-step q (state .table) (f .place) (f .finds) ∙ ap (λ (r : Record). stepOf (windowOf r) (nonceOf q)) (held-record f)
 
-    request-done : (o : Bool) → ordersNonce (q .orders .mask) ≡ o → first (requestChecks q table) ≡ 0
-        → Standing n (steppedFor q table) ivs (λ iv. keep (o && same (ivOf q) iv) (nonceOf q) (nonces iv))
+    request-done : (o : Bool) → ordersNonce (q .orders .numbers .mask) ≡ o → first (requestChecks q state) ≡ 0
+        → Standing n (steppedFor q (state .table)) ivs (λ iv. keep (o && same (ivOf q) iv) (nonceOf q) (nonces iv))
     request-done true o e =
-        let passes = accepted-passes q table e in
-        let f = passes-finds q table passes in
-        let h = found-at (records table) (ivOf q) (f .place) (f .finds) .0 in
-        let accepts = accepts-zero (stepped q table .verdict) ∙ eq-eqb _ 0 (sym (passes-window q table passes o) ∙ e) in
-        rw (ordered-table q table (f .place) (f .finds) o, held-record f)
-        (stored-standing n table ivs nonces st (f .place) (next (nonceOf q) (old f)) h (stepped-fits (old f) (nonceOf q) (st .sessions .fit (f .place) h) (f .small))
-        (stepped-sessions (records table) ivs nonces (st .sessions) (f .place) (ivOf q) (nonceOf q) (f .finds) (f .small)
+        let passes = accepted-passes q state e in
+        let f = passes-finds q state passes in
+        let h = found-at (records (state .table)) (ivOf q) (f .place) (f .finds) .0 in
+        let accepts = accepts-zero (stepped q (state .table) .verdict) ∙ eq-eqb _ 0 (sym (passes-window q state passes o) ∙ e) in
+        rw (ordered-table q (state .table) (f .place) (f .finds) o, held-record f)
+        (stored-standing n (state .table) ivs nonces st (f .place) (next (nonceOf q) (old f)) h (stepped-fits (old f) (nonceOf q) (st .sessions .fit (f .place) h) (f .small))
+        (stepped-sessions (records (state .table)) ivs nonces (st .sessions) (f .place) (ivOf q) (nonceOf q) (f .finds) (f .small)
         (rw (held-step f) at accepts)))
-    request-done false o e = rw (unordered-table q table o) st
+    request-done false o e = rw (unordered-table q (state .table) o) st
 
-  request-standing : (q : Request) → Standing n (judged q table .table) ivs (λ iv. withAccepted iv (judging q) (judged q table .number) (nonces iv))
+  request-standing : (q : Request) → Standing n (judged q state .state .table) ivs (λ iv. withAccepted iv (judging q) (judged q state .number) (nonces iv))
   request-standing q =
-      subst (λ (k : ℕ). Standing n (judged q table .table) ivs (λ iv. withAccepted iv (judging q) k (nonces iv))) (sym (judged-number q table))
-      (rw (judged-table q table) (by (eqb (first (requestChecks q table)) 0) refl))
+      subst (λ (k : ℕ). Standing n (judged q state .state .table) ivs (λ iv. withAccepted iv (judging q) k (nonces iv))) (sym (judged-number q state))
+      (rw (judged-table q state) (by (eqb (first (requestChecks q state)) 0) refl))
     where
-      refused : (t : Bool) → Standing n (cond t (without table (ivOf q)) table) ivs nonces
-      refused true = without-standing n table ivs nonces st (ivOf q)
+      refused : (t : Bool) → Standing n (cond t (without (state .table) (ivOf q)) (state .table)) ivs nonces
+      refused true = without-standing n (state .table) ivs nonces st (ivOf q)
       refused false = st
 
-      by : (t : Bool) → eqb (first (requestChecks q table)) 0 ≡ t
-          → Standing n (cond t (steppedFor q table) (cond (invalidates (first (requestChecks q table))) (without table (ivOf q)) table)) ivs
-          (λ iv. keep (t && (ordersNonce (q .orders .mask) && same (ivOf q) iv)) (nonceOf q) (nonces iv))
-      by true e = request-done q (ordersNonce (q .orders .mask)) refl (eqb-true _ 0 e)
-      by false e = refused (invalidates (first (requestChecks q table)))
+      by : (t : Bool) → eqb (first (requestChecks q state)) 0 ≡ t
+          → Standing n (cond t (steppedFor q (state .table)) (cond (invalidates (first (requestChecks q state))) (without (state .table) (ivOf q)) (state .table))) ivs
+          (λ iv. keep (t && (ordersNonce (q .orders .numbers .mask) && same (ivOf q) iv)) (nonceOf q) (nonces iv))
+      by true e = request-done q (ordersNonce (q .orders .numbers .mask)) refl (eqb-true _ 0 e)
+      by false e = refused (invalidates (first (requestChecks q state)))
 
   pub call-standing : (call : Call)
-      → Standing n (answer call table .table) (withSetUp call (answer call table .number) ivs)
-      (λ iv. withAccepted iv call (answer call table .number) (nonces iv))
+      → Standing n (answer call state .state .table) (withSetUp call (answer call state .number) ivs)
+      (λ iv. withAccepted iv call (answer call state .number) (nonces iv))
   call-standing (setting-up s) = setup-standing s
   call-standing (judging q) = request-standing q
   call-standing (ending iv) = end-standing iv

@@ -24,8 +24,9 @@ use Rattle.armor.proofs.Carried.{carried-bytes, request-given, request-has, non
 use Rattle.orders.specs.Orders.{ordersGood}
 use Rattle.table.proofs.Tests.{both}
 use Rattle.coverage.specs.Coverage.{asOrdered, extraAsOrdered}
-use Rattle.gate.specs.Calls.{Request}
-use Rattle.gate.specs.Judge.{fieldsOf, nonceOf, timeOf, lastTimeOf}
+use Rattle.gate.specs.State.{State}
+use Rattle.stages.specs.Request.{Request}
+use Rattle.stages.specs.Parts.{fieldsOf, nonceOf, timeOf, lastTimeOf}
 use Rattle.demands.proofs.Passed.{Passed}
 
 -- a number that a good value carries once
@@ -63,18 +64,18 @@ extra-times : (extra : List ℕ) (fs : List Field) → extraAsOrdered extra fs �
 extra-times [] fs e = eqb-true (times nameEah fs) 0 e
 extra-times (b ∷ bs) fs e = eqb-true (times nameEah fs) 1 (both (eqb (times nameEah fs) 1) (same (the nameEah fs) (b ∷ bs)) e .0)
 
-module _ (q : Request) (table : List ℕ) (p : Passed q table) where
-  covered : (same (the nameH (fieldsOf q)) (maskBytes hashMask) ≡ true) × (same (the nameAh (fieldsOf q)) (maskBytes (q .orders .mask)) ≡ true) × (extraAsOrdered (q .orders .extra) (fieldsOf q) ≡ true)
+module _ (q : Request) (state : State) (p : Passed q state) where
+  covered : (same (the nameH (fieldsOf q)) (maskBytes hashMask) ≡ true) × (same (the nameAh (fieldsOf q)) (maskBytes (q .orders .numbers .mask)) ≡ true) × (extraAsOrdered (q .orders .extra) (fieldsOf q) ≡ true)
   unfolding asOrdered
   covered =
       let hash = both (same (the nameH (fieldsOf q)) (maskBytes hashMask)) _ (p .covers) in
-      let rest = both (same (the nameAh (fieldsOf q)) (maskBytes (q .orders .mask))) (extraAsOrdered (q .orders .extra) (fieldsOf q)) (hash .1) in
+      let rest = both (same (the nameAh (fieldsOf q)) (maskBytes (q .orders .numbers .mask))) (extraAsOrdered (q .orders .extra) (fieldsOf q)) (hash .1) in
       (hash .0, rest .0, rest .1)
 
   pub hash-ordered : the nameH (fieldsOf q) ≡ maskBytes hashMask
   hash-ordered = same-equal _ _ (covered .0)
 
-  pub mask-ordered : the nameAh (fieldsOf q) ≡ maskBytes (q .orders .mask)
+  pub mask-ordered : the nameAh (fieldsOf q) ≡ maskBytes (q .orders .numbers .mask)
   mask-ordered = same-equal _ _ (covered .1)
 
   -- an eah that is not carried counts as an empty one
@@ -84,16 +85,16 @@ module _ (q : Request) (table : List ℕ) (p : Passed q table) where
   pub names-times : times nameEah (fieldsOf q) ≡ named (q .orders .extra)
   names-times = extra-times (q .orders .extra) (fieldsOf q) (covered .2)
 
-  pub mask-fits : q .orders .mask < 2 ^ 56
+  pub mask-fits : q .orders .numbers .mask < 2 ^ 56
   unfolding ordersGood
-  mask-fits = ltb-true (q .orders .mask) (2 ^ 56) (both _ _ (both _ _ (p .orders) .0) .0)
+  mask-fits = ltb-true (q .orders .numbers .mask) (2 ^ 56) (both _ _ (both _ _ (p .orders) .0) .0)
 
   -- n is carried exactly if the orders ask for nonces
-  pub nonce-ordered : times nameN (fieldsOf q) ≡ q .orders .mask % 2
+  pub nonce-ordered : times nameN (fieldsOf q) ≡ q .orders .numbers .mask % 2
   unfolding fieldsOf nonceBit
   nonce-ordered =
       nonce-times (q .value) (p .value)
-      ∙ ap (λ (m : ℕ). m % 2) (ap maskOf mask-ordered ∙ maskOf-maskBytes (q .orders .mask) (omega (arith, mask-fits)))
+      ∙ ap (λ (m : ℕ). m % 2) (ap maskOf mask-ordered ∙ maskOf-maskBytes (q .orders .numbers .mask) (omega (arith, mask-fits)))
 
   pub time-small : timeOf q < 2 ^ 32
   unfolding timeOf fieldsOf
@@ -105,4 +106,4 @@ module _ (q : Request) (table : List ℕ) (p : Passed q table) where
 
   pub nonce-small : nonceOf q < 2 ^ 32
   unfolding nonceOf fieldsOf
-  nonce-small = nonce-fits (q .value) (p .value) (q .orders .mask % 2) nonce-ordered (omega arith)
+  nonce-small = nonce-fits (q .value) (p .value) (q .orders .numbers .mask % 2) nonce-ordered (omega arith)

@@ -8,62 +8,65 @@ use borrow.Author.Tests.{eq-eqb, not-false}
 use lib.Dec.{eqb, leb}
 use Rattle.token.specs.Token.{given}
 use Rattle.window.specs.Time.{exceeds}
-use Rattle.gate.specs.Calls.{Request}
-use Rattle.gate.specs.Checks.{Check, check, first, nowhere, tableChecks, entryChecks}
-use Rattle.gate.specs.Session.{placeOf}
-use Rattle.gate.specs.Judge.{ivOf, timeOf, lastTimeOf, openedOf, tokenOf, limits, entryPart, readingPart, coveringPart, tokenPart, signaturePart, vouchingPart, sessionPart, noncePart, admittingPart, requestChecks}
-use Rattle.gate.proofs.Numbers.{numbered, lacks, comes-later, none-holds, passed-by}
+use Rattle.gate.specs.State.{State}
+use Rattle.stages.specs.Request.{Request}
+use Rattle.stages.specs.Checks.{Check, check, first, nowhere}
+use Rattle.gate.specs.Entry.{stateChecks, entryChecks}
+use Rattle.stages.specs.Session.{placeOf}
+use Rattle.stages.specs.Parts.{ivOf, timeOf, lastTimeOf, openedOf, tokenOf, limits, readingPart, coveringPart, tokenPart, signaturePart, vouchingPart, sessionPart, noncePart, admittingPart}
+use Rattle.gate.specs.Judge.{entryPart, requestChecks}
+use Rattle.stages.proofs.Checks.{numbered, lacks, comes-later, none-holds, passed-by}
 use Rattle.demands.specs.Passing.{otherChecks, PassesOthers, beforeSignature, Reaches}
 
-module _ (q : Request) (table : List ℕ) where
-  others-then-nonce : requestChecks q table ≡ otherChecks q table ++ noncePart q table
+module _ (q : Request) (state : State) where
+  others-then-nonce : requestChecks q state ≡ otherChecks q state ++ noncePart q (state .table)
   unfolding requestChecks
   others-then-nonce = simp append-assoc
 
-  before-then-signature : requestChecks q table ≡ beforeSignature q table ++ (signaturePart q ++ admittingPart q table)
+  before-then-signature : requestChecks q state ≡ beforeSignature q state ++ (signaturePart q ++ admittingPart q (state .table))
   unfolding requestChecks
   before-then-signature = simp append-assoc
 
-  others-numbered : numbered (otherChecks q table) ≡ true
-  unfolding entryPart readingPart coveringPart tokenPart signaturePart sessionPart entryChecks tableChecks
+  others-numbered : numbered (otherChecks q state) ≡ true
+  unfolding entryPart readingPart coveringPart tokenPart signaturePart sessionPart entryChecks stateChecks
   others-numbered = refl
 
-  before-numbered : numbered (beforeSignature q table) ≡ true
-  unfolding entryPart readingPart coveringPart tokenPart entryChecks tableChecks
+  before-numbered : numbered (beforeSignature q state) ≡ true
+  unfolding entryPart readingPart coveringPart tokenPart entryChecks stateChecks
   before-numbered = refl
 
   -- a request that is answered 0 passes the checks other than those of its nonce
-  pub accepted-passes : first (requestChecks q table) ≡ 0 → PassesOthers q table
+  pub accepted-passes : first (requestChecks q state) ≡ 0 → PassesOthers q state
   accepted-passes e =
-      none-holds (otherChecks q table) (noncePart q table) others-numbered (sym (ap first others-then-nonce) ∙ e) .none
+      none-holds (otherChecks q state) (noncePart q (state .table)) others-numbered (sym (ap first others-then-nonce) ∙ e) .none
 
   -- one that passes them is decided by those of its nonce
-  pub nonce-decides : PassesOthers q table → first (requestChecks q table) ≡ first (noncePart q table)
-  nonce-decides e = ap first others-then-nonce ∙ passed-by (otherChecks q table) (noncePart q table) others-numbered e
+  pub nonce-decides : PassesOthers q state → first (requestChecks q state) ≡ first (noncePart q (state .table))
+  nonce-decides e = ap first others-then-nonce ∙ passed-by (otherChecks q state) (noncePart q (state .table)) others-numbered e
 
   -- one that reaches the signature check is decided from there on
-  pub signature-decides : Reaches q table → first (requestChecks q table) ≡ first (signaturePart q ++ admittingPart q table)
-  signature-decides e = ap first before-then-signature ∙ passed-by (beforeSignature q table) _ before-numbered e
+  pub signature-decides : Reaches q state → first (requestChecks q state) ≡ first (signaturePart q ++ admittingPart q (state .table))
+  signature-decides e = ap first before-then-signature ∙ passed-by (beforeSignature q state) _ before-numbered e
 
   -- what a request has passed whose number is of none of the checks 1 to 8
   pub record Read (n : ℕ) : Type 0 where
-    pub entry : first (entryPart q table) ≡ 0
+    pub entry : first (entryPart q state) ≡ 0
     pub reading : first (readingPart q) ≡ 0
-    pub later : first (vouchingPart q ++ admittingPart q table) ≡ n
+    pub later : first (vouchingPart q ++ admittingPart q (state .table)) ≡ n
 
-  entry-numbered : numbered (entryPart q table) ≡ true
-  unfolding entryPart entryChecks tableChecks
+  entry-numbered : numbered (entryPart q state) ≡ true
+  unfolding entryPart entryChecks stateChecks
   entry-numbered = refl
 
   reading-numbered : numbered (readingPart q) ≡ true
   unfolding readingPart coveringPart
   reading-numbered = refl
 
-  pub read-through : (n : ℕ) → lacks n (entryPart q table) ≡ true → lacks n (readingPart q) ≡ true → first (requestChecks q table) ≡ n → Read n
+  pub read-through : (n : ℕ) → lacks n (entryPart q state) ≡ true → lacks n (readingPart q) ≡ true → first (requestChecks q state) ≡ n → Read n
   unfolding requestChecks
   read-through n a b e =
-      let read = comes-later (entryPart q table) (readingPart q ++ (vouchingPart q ++ admittingPart q table)) n entry-numbered a e in
-      let vouched = comes-later (readingPart q) (vouchingPart q ++ admittingPart q table) n reading-numbered b (read .later) in
+      let read = comes-later (entryPart q state) (readingPart q ++ (vouchingPart q ++ admittingPart q (state .table))) n entry-numbered a e in
+      let vouched = comes-later (readingPart q) (vouchingPart q ++ admittingPart q (state .table)) n reading-numbered b (read .later) in
       record { entry = read .none; reading = vouched .none; later = vouched .later }
 
 -- a check does not hold whose number is not given though it stands first
@@ -81,11 +84,11 @@ opens q later n e nine =
     not-false _ (not-first (check 9 (not (given (openedOf q)))) (check 10 (leb (tokenOf q .expiry) (q .clock)) ∷ later) n e nine)
 
 -- the session is found, unless 12 is given
-pub finds : (q : Request) (table : List ℕ) (later : List Check) (n : ℕ) → first (sessionPart q table ++ later) ≡ n → (n ≡ 12 → ⊥)
-    → nowhere (placeOf table (ivOf q)) ≡ false
+pub finds : (q : Request) (state : State) (later : List Check) (n : ℕ) → first (sessionPart q (state .table) ++ later) ≡ n → (n ≡ 12 → ⊥)
+    → nowhere (placeOf (state .table) (ivOf q)) ≡ false
 unfolding sessionPart
-finds q table later n e twelve =
-    not-first (check 12 (nowhere (placeOf table (ivOf q)))) (timed ++ later) n e twelve
+finds q state later n e twelve =
+    not-first (check 12 (nowhere (placeOf (state .table) (ivOf q)))) (timed ++ later) n e twelve
   where
     timed : List Check
     timed =

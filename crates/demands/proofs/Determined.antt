@@ -8,8 +8,7 @@ use mathlib.Core.List.{List, []}
 use Prim.Native.Nat.{ℕ, _+_, _*_, _/_, _%_}
 use native.Mathlib.Omega.{arith}
 use Rattle.cells.proofs.Decimal.{decimal-injective}
-use Rattle.names.specs.Names.{headerNames}
-use Rattle.names.specs.Extra.{namesIn}
+use Rattle.names.specs.Walk.{Known}
 use Rattle.table.specs.declared.place.Place.the-variants as Place
 use Rattle.table.specs.declared.session.Record.{Record}
 use Rattle.table.specs.Record.{recordBytes, recordOf, Fits}
@@ -19,8 +18,9 @@ use Rattle.token.specs.declared.expiry.Expiry.the-variants as E
 use Rattle.token.specs.Expiry.{ExpiryIs}
 use Rattle.gate.specs.declared.setup.Start.{Start}
 use Rattle.gate.specs.declared.setup.Start.the-variants as S
-use Rattle.gate.specs.Calls.{Setup, Request}
-use Rattle.gate.specs.Outcome.{Outcome, outcome}
+use Rattle.gate.specs.Calls.{Setup}
+use Rattle.stages.specs.Request.{Request}
+use Rattle.gate.specs.State.{State, holding, Outcome, outcome}
 use Rattle.gate.specs.Setup.{setUp}
 use Rattle.gate.specs.Judge.{judged}
 use Rattle.gate.specs.End.{ended}
@@ -28,48 +28,48 @@ use Rattle.gate.specs.Starts.{StartIs}
 use Rattle.primitives.specs.Answer.{Answer, answer}
 use Rattle.primitives.specs.Digests.{sha512Call, hmacCall}
 use Rattle.primitives.specs.Sealing.{SealAnswer, sealAnswer, sealCall, openCall}
-use Rattle.demands.proofs.Pieces.{names-in-injective}
+use Rattle.names.proofs.Joined.{names-in-injective}
 
--- what gate_setup and gate_judge leave: the answer, the reply buffer and the table
+-- what gate_setup and gate_judge leave: the answer, the reply buffer and the state
 pub record Result : Type 0 where
   pub answer : ℕ
   pub reply : List ℕ
-  pub table : List ℕ
+  pub state : State
 
 -- a contract that asks for an outcome allows a result
 abbrev pub Allows : Outcome → Result → Type 0
-Allows o r = outcome (r .answer) (r .reply) (r .table) ≡ o
+Allows o r = outcome (r .answer) (r .reply) (r .state) ≡ o
 
 -- the one result that an outcome leaves: its number and its length are the answer's
 abbrev resultOf : Outcome → Result
-resultOf o = record { answer = 256 * o .length + o .number; reply = o .reply; table = o .table }
+resultOf o = record { answer = 256 * o .length + o .number; reply = o .reply; state = o .state }
 
 allowed : {o : Outcome} (r : Result) → Allows o r → r ≡ resultOf o
 allowed r e =
     let answer : r .answer ≡ 256 * (r .answer / 256) + r .answer % 256 = omega arith in
-    ap (λ (n : ℕ). record { answer = n; reply = r .reply; table = r .table }) answer ∙ ap resultOf e
+    ap (λ (n : ℕ). record { answer = n; reply = r .reply; state = r .state }) answer ∙ ap resultOf e
 
 one-result : {o : Outcome} (a b : Result) → Allows o a → Allows o b → a ≡ b
 one-result a b p q = allowed a p ∙ sym (allowed b q)
 
-pub setup-determined : (s : Setup) (before : List ℕ) (a b : Result) → Allows (setUp s before) a → Allows (setUp s before) b → a ≡ b
+pub setup-determined : (s : Setup) (before : State) (a b : Result) → Allows (setUp s before) a → Allows (setUp s before) b → a ≡ b
 setup-determined s before = one-result
 
-pub judge-determined : (q : Request) (before : List ℕ) (a b : Result) → Allows (judged q before) a → Allows (judged q before) b → a ≡ b
+pub judge-determined : (q : Request) (before : State) (a b : Result) → Allows (judged q before) a → Allows (judged q before) b → a ≡ b
 judge-determined q before = one-result
 
 -- gate_end is lent no reply buffer
 pub record EndResult : Type 0 where
   pub answer : ℕ
-  pub table : List ℕ
+  pub state : State
 
 abbrev pub AllowsEnd : Outcome → EndResult → Type 0
-AllowsEnd o r = outcome (r .answer) [] (r .table) ≡ o
+AllowsEnd o r = outcome (r .answer) [] (r .state) ≡ o
 
-pub end-determined : (iv before : List ℕ) (a b : EndResult) → AllowsEnd (ended iv before) a → AllowsEnd (ended iv before) b → a ≡ b
+pub end-determined : (iv : List ℕ) (before : State) (a b : EndResult) → AllowsEnd (ended iv before) a → AllowsEnd (ended iv before) b → a ≡ b
 end-determined iv before a b p q =
-    let whole : EndResult → Result = λ r. record { answer = r .answer; reply = []; table = r .table } in
-    ap (λ (r : Result). record { answer = r .answer; table = r .table }) (one-result (whole a) (whole b) p q)
+    let whole : EndResult → Result = λ r. record { answer = r .answer; reply = []; state = r .state } in
+    ap (λ (r : Result). record { answer = r .answer; state = r .state }) (one-result (whole a) (whole b) p q)
 
 -- gate_judge_one is lent one session's record and leaves it there: its outcome is that of a table of the record's bytes
 pub record OneResult : Type 0 where
@@ -78,19 +78,19 @@ pub record OneResult : Type 0 where
   pub session : Record
 
 abbrev pub AllowsOne : Outcome → OneResult → Type 0
-AllowsOne o r = outcome (r .answer) (r .reply) (recordBytes (r .session)) ≡ o
+AllowsOne o r = outcome (r .answer) (r .reply) (holding (recordBytes (r .session))) ≡ o
 
 -- a record's fields fit their types, so its bytes leave no choice of it
 pub judge-one-determined : (q : Request) (before : Record) (a b : OneResult) → Fits (a .session) → Fits (b .session)
-    → AllowsOne (judged q (recordBytes before)) a → AllowsOne (judged q (recordBytes before)) b → a ≡ b
+    → AllowsOne (judged q (holding (recordBytes before))) a → AllowsOne (judged q (holding (recordBytes before))) b → a ≡ b
 judge-one-determined request before a b f g p q =
     read a f ∙ ap one (one-result (whole a) (whole b) p q) ∙ sym (read b g)
   where
     whole : OneResult → Result
-    whole r = record { answer = r .answer; reply = r .reply; table = recordBytes (r .session) }
+    whole r = record { answer = r .answer; reply = r .reply; state = holding (recordBytes (r .session)) }
 
     one : Result → OneResult
-    one r = record { answer = r .answer; reply = r .reply; session = recordOf (r .table) }
+    one r = record { answer = r .answer; reply = r .reply; session = recordOf (r .state .table) }
 
     read : (r : OneResult) → Fits (r .session) → r ≡ one (whole r)
     read r f =
@@ -116,13 +116,13 @@ open-determined key iv text tag out a b p q = p ∙ sym q
 
 -- three of the others have a relation for a contract, and it leaves no choice either: token::expiry::read,
 pub expiry-determined : (digits : List ℕ) (a b : Expiry) → ExpiryIs digits a → ExpiryIs digits b → a ≡ b
-expiry-determined digits (E.Is m) (E.Is n) p q = ap E.Is (decimal-injective m n (sym (p .0) ∙ q .0))
-expiry-determined digits (E.Is m) E.Bad p q = absurd (q m (p .1) (p .0))
-expiry-determined digits E.Bad (E.Is n) p q = absurd (p n (q .1) (q .0))
+expiry-determined digits (E.Is m) (E.Is n) p q = ap (λ (t : ℕ). E.Is (record { 0 = t })) (decimal-injective (m .0) (n .0) (sym (p .0) ∙ q .0))
+expiry-determined digits (E.Is m) E.Bad p q = absurd (q (m .0) (p .1) (p .0))
+expiry-determined digits E.Bad (E.Is n) p q = absurd (p (n .0) (q .1) (q .0))
 expiry-determined digits E.Bad E.Bad p q = refl
 
 -- gate::setup::decide
-pub start-determined : (s : Setup) (before : List ℕ) (a b : Start) → StartIs s before a → StartIs s before b → a ≡ b
+pub start-determined : (s : Setup) (before : State) (a b : Start) → StartIs s before a → StartIs s before b → a ≡ b
 start-determined s before (S.At i m) (S.At j n) p q =
     let there : Place.At i ≡ Place.At j = sym (p .is) ∙ q .is in
     let until = p .until ∙ sym (q .until) in
@@ -131,6 +131,6 @@ start-determined s before (S.At i m) (S.Refused n) p q = absurd (omega (arith, p
 start-determined s before (S.Refused m) (S.At j n) p q = absurd (omega (arith, q .none, p .is, p .some))
 start-determined s before (S.Refused m) (S.Refused n) p q = ap S.Refused (sym (p .is) ∙ q .is)
 
--- and orders::names
-pub names-determined : (a b : List ℕ) → namesIn a ≡ headerNames → namesIn b ≡ headerNames → a ≡ b
-names-determined a b p q = names-in-injective a b (p ∙ sym q)
+-- and names::known
+pub known-determined : (a b : List ℕ) → Known a → Known b → a ≡ b
+known-determined a b p q = names-in-injective a b (p ∙ sym q)

@@ -14,12 +14,14 @@ use Rattle.table.specs.Record.{freed, begun, windowOf, withWindow}
 use Rattle.table.specs.Table.{records, recordAt, taken}
 use Rattle.signed.specs.SignedText.{ordersNonce}
 use Rattle.reply.specs.Replies.{invalidation}
-use Rattle.gate.specs.Calls.{Setup, Request}
-use Rattle.gate.specs.Outcome.{Outcome, replied}
+use Rattle.gate.specs.Calls.{Setup}
+use Rattle.stages.specs.Request.{Request}
+use Rattle.gate.specs.State.{State, Outcome, replied}
 use Rattle.gate.specs.Setup.{expiryOf, setupChecks, replyOf}
-use Rattle.gate.specs.Judge.{ivOf, nonceOf, tokenOf, requestChecks}
+use Rattle.stages.specs.Parts.{ivOf, nonceOf, tokenOf}
+use Rattle.gate.specs.Judge.{requestChecks}
 use Rattle.gate.specs.End.{endChecks}
-use Rattle.gate.proofs.Numbers.{Exactly}
+use Rattle.stages.proofs.Checks.{Exactly}
 use Rattle.demands.proofs.Stored.{Replaced}
 use Rattle.demands.proofs.Named.{SessionAt, Session}
 
@@ -34,10 +36,10 @@ abbrev pub endNumbers : List ℕ
 endNumbers = 0 ∷ 1 ∷ 3 ∷ 12 ∷ []
 
 -- table and reply buffer keep every byte, and the reply length is 0
-pub record Kept (buffer before : List ℕ) (o : Outcome) : Type 0 where
+pub record Kept (buffer : List ℕ) (before : State) (o : Outcome) : Type 0 where
   pub long : o .length ≡ 0
   pub reply : o .reply ≡ buffer
-  pub table : o .table ≡ before
+  pub state : o .state ≡ before
 
 -- a text stands at the front of the reply buffer, and the bytes after it keep their contents
 pub record Replied (text buffer : List ℕ) (o : Outcome) : Type 0 where
@@ -46,13 +48,13 @@ pub record Replied (text buffer : List ℕ) (o : Outcome) : Type 0 where
   pub rest : drop (length text) (o .reply) ≡ drop (length text) buffer
 
 -- a setup takes the lowest free record, else the lowest whose expiry is at or before now
-pub record Begun (s : Setup) (before : List ℕ) (o : Outcome) : Type 0 where
+pub record Begun (s : Setup) (before : State) (o : Outcome) : Type 0 where
   pub place : ℕ
-  pub lowest : taken (records before) (s .clock) ≡ At place
-  pub session : Replaced before (o .table) place (begun (s .iv) (expiryOf s))
+  pub lowest : taken (records (before .table)) (s .clock) ≡ At place
+  pub session : Replaced (before .table) (o .state .table) place (begun (s .iv) (expiryOf s))
   pub reply : Replied (replyOf s) (s .reply) o
 
-pub record SetupEffects (s : Setup) (before : List ℕ) (o : Outcome) : Type 0 where
+pub record SetupEffects (s : Setup) (before : State) (o : Outcome) : Type 0 where
   pub listed : List·Memᴰ (o .number) setupNumbers
   pub in-order : Exactly (setupChecks s before) (o .number)
   pub refused : 1 ≤ o .number → Kept (s .reply) before o
@@ -63,11 +65,11 @@ abbrev pub TenOrThirteen : ℕ → Type 0
 TenOrThirteen n = (n ≡ 10) ⊎ (n ≡ 13)
 
 -- at 10 and 13 the record with the request's IV is freed, if there is one, and the reply is the invalidation
-pub record Invalidated (q : Request) (before : List ℕ) (o : Outcome) : Type 0 where
+pub record Invalidated (q : Request) (before : State) (o : Outcome) : Type 0 where
   pub long : o .length ≡ 90
   pub reply : Replied (invalidation (tokenOf q .key)) (q .reply) o
-  pub freed : (place : ℕ) → SessionAt before (ivOf q) place → Replaced before (o .table) place freed
-  pub kept : ((place : ℕ) → SessionAt before (ivOf q) place → ⊥) → o .table ≡ before
+  pub freed : (place : ℕ) → SessionAt (before .table) (ivOf q) place → Replaced (before .table) (o .state .table) place freed
+  pub kept : ((place : ℕ) → SessionAt (before .table) (ivOf q) place → ⊥) → o .state ≡ before
 
 -- a record with its window after a nonce: the second mark, the highest nonce and the bits may change, and nothing else does
 pub record Moved (before after : List ℕ) (place nonce : ℕ) : Type 0 where
@@ -77,36 +79,36 @@ pub record Moved (before after : List ℕ) (place nonce : ℕ) : Type 0 where
   pub expiry : recordAt after place .expiry ≡ recordAt before place .expiry
 
 -- a request that returns 0 is replied to with the session id; its session's window takes the nonce where nonces are ordered
-pub record Accepted (q : Request) (before : List ℕ) (o : Outcome) : Type 0 where
-  pub session : Session before (ivOf q)
+pub record Accepted (q : Request) (before : State) (o : Outcome) : Type 0 where
+  pub session : Session (before .table) (ivOf q)
   pub reply : Replied (tokenOf q .id) (q .reply) o
-  pub ordered : Bytes before → ordersNonce (q .orders .mask) ≡ true → Moved before (o .table) (session .place) (nonceOf q)
-  pub unordered : ordersNonce (q .orders .mask) ≡ false → o .table ≡ before
+  pub ordered : Bytes (before .table) → ordersNonce (q .orders .numbers .mask) ≡ true → Moved (before .table) (o .state .table) (session .place) (nonceOf q)
+  pub unordered : ordersNonce (q .orders .numbers .mask) ≡ false → o .state ≡ before
 
-pub record JudgeEffects (q : Request) (before : List ℕ) (o : Outcome) : Type 0 where
+pub record JudgeEffects (q : Request) (before : State) (o : Outcome) : Type 0 where
   pub listed : List·Memᴰ (o .number) judgeNumbers
   pub in-order : Exactly (requestChecks q before) (o .number)
   pub refused : 1 ≤ o .number → (TenOrThirteen (o .number) → ⊥) → Kept (q .reply) before o
   pub invalidated : TenOrThirteen (o .number) → Invalidated q before o
-  pub idle : o .number ≡ 13 → Session before (ivOf q)
+  pub idle : o .number ≡ 13 → Session (before .table) (ivOf q)
   pub passed : o .number ≡ 0 → Accepted q before o
 
 -- an ending frees the record
-pub record Ended (vector before : List ℕ) (o : Outcome) : Type 0 where
-  pub session : Session before vector
-  pub freed : Replaced before (o .table) (session .place) freed
+pub record Ended (vector : List ℕ) (before : State) (o : Outcome) : Type 0 where
+  pub session : Session (before .table) vector
+  pub freed : Replaced (before .table) (o .state .table) (session .place) freed
 
-pub record EndEffects (vector before : List ℕ) (o : Outcome) : Type 0 where
+pub record EndEffects (vector : List ℕ) (before : State) (o : Outcome) : Type 0 where
   pub listed : List·Memᴰ (o .number) endNumbers
   pub in-order : Exactly (endChecks vector before) (o .number)
   pub no-reply : (o .length ≡ 0) × (o .reply ≡ [])
-  pub refused : 1 ≤ o .number → o .table ≡ before
+  pub refused : 1 ≤ o .number → o .state ≡ before
   pub passed : o .number ≡ 0 → Ended vector before o
 
 -- as the definitions put it
-pub fronted-replied : (n : ℕ) (text buffer table : List ℕ) → Replied text buffer (replied n text buffer table)
+pub fronted-replied : (n : ℕ) (text buffer : List ℕ) (state : State) → Replied text buffer (replied n text buffer state)
 unfolding fronted
-fronted-replied n text buffer table = record {
+fronted-replied n text buffer state = record {
   long = refl;
   front = take-append-seam text (drop (length text) buffer);
   rest = drop-append-seam text (drop (length text) buffer);

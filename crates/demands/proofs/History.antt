@@ -23,13 +23,14 @@ use Rattle.table.specs.Table.{records}
 use Rattle.table.specs.WellFormed.{wellFormed}
 use Rattle.table.proofs.Meaning.{is-wellFormed}
 use Rattle.signed.specs.SignedText.{ordersNonce}
-use Rattle.gate.specs.Calls.{Request}
-use Rattle.gate.specs.Checks.{tableChecks, entryChecks}
+use Rattle.stages.specs.Request.{Request}
+use Rattle.gate.specs.Entry.{stateChecks, entryChecks}
 use Rattle.gate.specs.Setup as S
 use Rattle.gate.specs.Setup.{offerPart, lastingPart, roomPart, setupChecks}
-use Rattle.gate.specs.Judge.{ivOf, nonceOf, entryPart, readingPart, coveringPart, tokenPart, signaturePart, sessionPart, noncePart, requestChecks, judged}
+use Rattle.stages.specs.Parts.{ivOf, nonceOf, readingPart, coveringPart, tokenPart, signaturePart, sessionPart, noncePart}
+use Rattle.gate.specs.Judge.{entryPart, requestChecks, judged}
 use Rattle.gate.specs.End.{endChecks}
-use Rattle.demands.specs.History.{Call, setting-up, judging, ending, answer, emptyTable, after, acceptedIn, setUpIn, lentIn, Apart}
+use Rattle.demands.specs.History.{Call, setting-up, judging, ending, answer, empty, after, acceptedIn, setUpIn, lentIn, Apart}
 use Rattle.demands.specs.Passing.{PassesOthers}
 use Rattle.demands.proofs.Checks.{never-given}
 use Rattle.demands.proofs.Tables.{Standing, empty-standing}
@@ -40,37 +41,37 @@ use Rattle.demands.proofs.Calls.{held-step, call-standing}
 
 -- after any calls the table's sessions are those of the history
 standing : (n : ℕ) (calls : List Call)
-    → Standing n (after (emptyTable n) calls) (setUpIn (emptyTable n) calls) (λ iv. acceptedIn iv (emptyTable n) calls)
+    → Standing n (after (empty n) calls .table) (setUpIn (empty n) calls) (λ iv. acceptedIn iv (empty n) calls)
 unfolding after setUpIn acceptedIn
 standing n [] = empty-standing n
 standing n (call ∷ earlier) = call-standing n _ _ _ (standing n earlier) call
 
 -- which of 0, 15 and 16 a request that passes the other checks is answered
 pub verdict-exactly : (n : ℕ) (calls : List Call) (q : Request)
-    → Apart (setUpIn (emptyTable n) calls)
-    → ordersNonce (q .orders .mask) ≡ true
-    → PassesOthers q (after (emptyTable n) calls)
-    → judged q (after (emptyTable n) calls) .number ≡ numberOf (verdictAfter (acceptedIn (ivOf q) (emptyTable n) calls) (nonceOf q))
+    → Apart (setUpIn (empty n) calls)
+    → ordersNonce (q .orders .numbers .mask) ≡ true
+    → PassesOthers q (after (empty n) calls)
+    → judged q (after (empty n) calls) .number ≡ numberOf (verdictAfter (acceptedIn (ivOf q) (empty n) calls) (nonceOf q))
 verdict-exactly n calls q apart ordered passes =
-    let table = after (emptyTable n) calls in
-    let before = acceptedIn (ivOf q) (emptyTable n) calls in
+    let state = after (empty n) calls in
+    let before = acceptedIn (ivOf q) (empty n) calls in
     let st = standing n calls in
-    let f = passes-finds q table passes in
-    judged-number q table
-    ∙ passes-window q table passes ordered
-    ∙ ap (λ (s : Stepped). numberOf (s .verdict)) (held-step n table _ _ st q f)
+    let f = passes-finds q state passes in
+    judged-number q state
+    ∙ passes-window q state passes ordered
+    ∙ ap (λ (s : Stepped). numberOf (s .verdict)) (held-step n state _ _ st q f)
     ∙ ap numberOf (right _ before (st .sessions .known apart (ivOf q) (f .place) (f .finds)) (nonceOf q) .verdict)
 
 -- the customer's sentence
 pub accepted-exactly : (n : ℕ) (calls : List Call) (q : Request)
     → Apart (lentIn calls)
-    → ordersNonce (q .orders .mask) ≡ true
-    → PassesOthers q (after (emptyTable n) calls)
-    → (judged q (after (emptyTable n) calls) .number ≡ 0) ↔ (admits (acceptedIn (ivOf q) (emptyTable n) calls) (nonceOf q) ≡ true)
+    → ordersNonce (q .orders .numbers .mask) ≡ true
+    → PassesOthers q (after (empty n) calls)
+    → (judged q (after (empty n) calls) .number ≡ 0) ↔ (admits (acceptedIn (ivOf q) (empty n) calls) (nonceOf q) ≡ true)
 accepted-exactly n calls q lent ordered passes =
-    let before = acceptedIn (ivOf q) (emptyTable n) calls in
+    let before = acceptedIn (ivOf q) (empty n) calls in
     let verdict = verdictAfter before (nonceOf q) in
-    let number = verdict-exactly n calls q (lent-apart (emptyTable n) calls lent) ordered passes in
+    let number = verdict-exactly n calls q (lent-apart (empty n) calls lent) ordered passes in
     let admits-zero = sym (admitted before (nonceOf q)) ∙ accepts-zero verdict in (
       λ e. admits-zero ∙ eq-eqb (numberOf verdict) 0 (sym number ∙ e),
       λ e. number ∙ eqb-true (numberOf verdict) 0 (sym admits-zero ∙ e),
@@ -79,30 +80,30 @@ accepted-exactly n calls q lent ordered passes =
 -- a first nonce always passes
 pub first-passes : (n : ℕ) (calls : List Call) (q : Request)
     → Apart (lentIn calls)
-    → ordersNonce (q .orders .mask) ≡ true
-    → PassesOthers q (after (emptyTable n) calls)
-    → acceptedIn (ivOf q) (emptyTable n) calls ≡ []
-    → judged q (after (emptyTable n) calls) .number ≡ 0
+    → ordersNonce (q .orders .numbers .mask) ≡ true
+    → PassesOthers q (after (empty n) calls)
+    → acceptedIn (ivOf q) (empty n) calls ≡ []
+    → judged q (after (empty n) calls) .number ≡ 0
 first-passes n calls q lent ordered passes none =
     accepted-exactly n calls q lent ordered passes .1 (ap (λ (before : List ℕ). admits before (nonceOf q)) none)
 
 -- the table stays well formed and keeps its length
 pub well-formed : (n : ℕ) (calls : List Call)
-    → (wellFormed (records (after (emptyTable n) calls)) ≡ true) × (length (after (emptyTable n) calls) ≡ length (emptyTable n))
+    → (wellFormed (records (after (empty n) calls .table)) ≡ true) × (length (after (empty n) calls .table) ≡ length (empty n .table))
 well-formed n calls = (
-  is-wellFormed (records (after (emptyTable n) calls)) (standing n calls .sessions .well),
+  is-wellFormed (records (after (empty n) calls .table)) (standing n calls .sessions .well),
   standing n calls .long ∙ sym (length-replicate {A = ℕ} (size * n) 0),
 )
 
 -- so no further call answers 3
-pub never-malformed : (n : ℕ) (calls : List Call) (call : Call) → answer call (after (emptyTable n) calls) .number ≡ 3 → ⊥
-unfolding setupChecks S.entryPart offerPart lastingPart roomPart requestChecks entryPart readingPart coveringPart tokenPart signaturePart sessionPart noncePart endChecks entryChecks tableChecks
+pub never-malformed : (n : ℕ) (calls : List Call) (call : Call) → answer call (after (empty n) calls) .number ≡ 3 → ⊥
+unfolding setupChecks S.entryPart offerPart lastingPart roomPart requestChecks entryPart readingPart coveringPart tokenPart signaturePart sessionPart noncePart endChecks entryChecks stateChecks
 never-malformed n calls (setting-up s) e =
     let well = well-formed n calls .0 in
-    never-given 3 (setupChecks s (after (emptyTable n) calls)) (λ z. omega arith) (rw well) (sym (setUp-number s _) ∙ e)
+    never-given 3 (setupChecks s (after (empty n) calls)) (λ z. omega arith) (rw well) (sym (setUp-number s _) ∙ e)
 never-malformed n calls (judging q) e =
     let well = well-formed n calls .0 in
-    never-given 3 (requestChecks q (after (emptyTable n) calls)) (λ z. omega arith) (rw well) (sym (judged-number q _) ∙ e)
+    never-given 3 (requestChecks q (after (empty n) calls)) (λ z. omega arith) (rw well) (sym (judged-number q _) ∙ e)
 never-malformed n calls (ending iv) e =
     let well = well-formed n calls .0 in
-    never-given 3 (endChecks iv (after (emptyTable n) calls)) (λ z. omega arith) (rw well) (sym (ended-number iv _) ∙ e)
+    never-given 3 (endChecks iv (after (empty n) calls)) (λ z. omega arith) (rw well) (sym (ended-number iv _) ∙ e)

@@ -12,8 +12,8 @@ use Rattle.table.specs.WellFormed.{WellFormed}
 use Rattle.table.proofs.Records.{length-records, records-at, freed-fits}
 use Rattle.table.proofs.Tests.{holds-used, used-holds}
 use Rattle.table.proofs.Found.{found-at, at-found}
-use Rattle.gate.specs.Checks.{nowhere}
-use Rattle.gate.specs.Session.{placeOf, with-record, without}
+use Rattle.stages.specs.Checks.{nowhere}
+use Rattle.stages.specs.Session.{placeOf, with-record, without}
 use Rattle.demands.proofs.Stored.{Replaced, replaced}
 
 -- what it says that a place is somewhere

@@ -12,11 +12,15 @@ use Rattle.window.specs.declared.Verdict.the-variants.{Accepted, TooOld, Seen}
 use Rattle.window.specs.Window.{numberOf}
 use Rattle.window.specs.History.{isAccepted}
 use Rattle.table.specs.declared.place.Place.the-variants.{At}
-use Rattle.gate.specs.Calls.{Request}
-use Rattle.gate.specs.Checks.{first}
-use Rattle.gate.specs.Session.{placeOf}
-use Rattle.gate.specs.Judge.{ivOf, nonceOf, ordered, stepped, entryPart, readingPart, signaturePart, vouchingPart, sessionPart, noncePart, requestChecks}
-use Rattle.gate.proofs.Numbers.{none-holds, entry-numbered, reading-numbered, vouching-numbered}
+use Rattle.gate.specs.State.{State}
+use Rattle.stages.specs.Request.{Request}
+use Rattle.stages.specs.Checks.{first}
+use Rattle.stages.specs.Session.{placeOf}
+use Rattle.stages.specs.Parts.{ivOf, nonceOf, ordered, stepped, readingPart, signaturePart, vouchingPart, sessionPart, noncePart}
+use Rattle.gate.specs.Judge.{entryPart, requestChecks}
+use Rattle.stages.proofs.Checks.{none-holds}
+use Rattle.gate.proofs.Numbers.{entry-numbered}
+use Rattle.stages.proofs.Parts.{reading-numbered, vouching-numbered}
 use Rattle.demands.specs.Passing.{PassesOthers}
 use Rattle.demands.proofs.Checks.{nonce-decides, opens, finds}
 use Rattle.demands.proofs.Named.{placed}
@@ -34,38 +38,38 @@ verdict-number Accepted = refl
 verdict-number TooOld = refl
 verdict-number Seen = refl
 
-module _ (q : Request) (table : List ℕ) where
+module _ (q : Request) (state : State) where
   pub record Finds : Type 0 where
     pub place : ℕ
-    pub finds : placeOf table (ivOf q) ≡ At place
+    pub finds : placeOf (state .table) (ivOf q) ≡ At place
     pub small : nonceOf q < 2 ^ 32
 
   -- none of those checks holds, part by part
   record Parts : Type 0 where
-    entry : first (entryPart q table) ≡ 0
+    entry : first (entryPart q state) ≡ 0
     reading : first (readingPart q) ≡ 0
     vouching : first (vouchingPart q) ≡ 0
-    session : first (sessionPart q table) ≡ 0
+    session : first (sessionPart q (state .table)) ≡ 0
 
-  parts : PassesOthers q table → Parts
+  parts : PassesOthers q state → Parts
   unfolding entryPart
   parts e =
-      let read = none-holds (entryPart q table) (readingPart q ++ (vouchingPart q ++ sessionPart q table)) (entry-numbered _ _ _) e in
-      let vouched = none-holds (readingPart q) (vouchingPart q ++ sessionPart q table) (reading-numbered q) (read .later) in
-      let admitted = none-holds (vouchingPart q) (sessionPart q table) (vouching-numbered q) (vouched .later) in
+      let read = none-holds (entryPart q state) (readingPart q ++ (vouchingPart q ++ sessionPart q (state .table))) (entry-numbered _ _ _) e in
+      let vouched = none-holds (readingPart q) (vouchingPart q ++ sessionPart q (state .table)) (reading-numbered q) (read .later) in
+      let admitted = none-holds (vouchingPart q) (sessionPart q (state .table)) (vouching-numbered q) (vouched .later) in
       record { entry = read .none; reading = vouched .none; vouching = admitted .none; session = admitted .later }
 
-  pub passes-finds : PassesOthers q table → Finds
+  pub passes-finds : PassesOthers q state → Finds
   passes-finds e =
       let p = parts e in
       let opened = opens q (signaturePart q) 0 (p .vouching) (λ z. omega arith) in
-      let place = placed (placeOf table (ivOf q)) (finds q table [] 0 (rw append-nil (p .session)) (λ z. omega arith)) in
-      record { place = place .0; finds = place .1; small = nonce-small q table (all-passed q table (p .entry) (p .reading) opened) }
+      let place = placed (placeOf (state .table) (ivOf q)) (finds q state [] 0 (rw append-nil (p .session)) (λ z. omega arith)) in
+      record { place = place .0; finds = place .1; small = nonce-small q state (all-passed q state (p .entry) (p .reading) opened) }
 
-  pub passes-window : PassesOthers q table → ordered q ≡ true → first (requestChecks q table) ≡ numberOf (stepped q table .verdict)
+  pub passes-window : PassesOthers q state → ordered q ≡ true → first (requestChecks q state) ≡ numberOf (stepped q (state .table) .verdict)
   unfolding noncePart
   passes-window e o =
-      let v = numberOf (stepped q table .verdict) in
-      nonce-decides q table e
+      let v = numberOf (stepped q (state .table) .verdict) in
+      nonce-decides q state e
       ∙ ap (λ (t : Bool). cond (t && eqb v 15) 15 (cond (t && eqb v 16) 16 0)) o
-      ∙ verdict-number (stepped q table .verdict)
+      ∙ verdict-number (stepped q (state .table) .verdict)

@@ -24,27 +24,33 @@ use Rattle.table.proofs.Tests.{both}
 use Rattle.table.proofs.Meaning.{wellFormed-is}
 use Rattle.coverage.specs.Coverage.{asOrdered}
 use Rattle.token.specs.Token.{given}
-use Rattle.gate.specs.Calls.{Setup, Request}
+use Rattle.gate.specs.Calls.{Setup}
+use Rattle.gate.specs.State.{State}
+use Rattle.stages.specs.Request.{Request}
 use Rattle.gate.specs.Sizes.{exactly, setupFits, requestFits}
-use Rattle.gate.specs.Checks.{first, ordersBad, missing, nowhere, tableChecks, entryChecks}
-use Rattle.gate.specs.Session.{placeOf}
+use Rattle.stages.specs.Checks.{first, missing, nowhere}
+use Rattle.gate.specs.Entry.{stateChecks, entryChecks}
+use Rattle.stages.specs.Session.{placeOf}
 use Rattle.gate.specs.Setup as S
 use Rattle.gate.specs.Setup.{expiryOf, offerPart, lastingPart, roomPart, setupChecks}
 use Rattle.gate.specs.End.{endChecks}
-use Rattle.gate.specs.Judge.{fieldsOf, openedOf, twice, entryPart, readingPart, coveringPart, signaturePart, admittingPart, requestChecks}
-use Rattle.gate.proofs.Numbers.{lacks, passed-at, entry-passed, reading-numbered, setup-numbered, end-numbered}
+use Rattle.stages.specs.Parts.{fieldsOf, openedOf, twice, readingPart, coveringPart, signaturePart, admittingPart}
+use Rattle.gate.specs.Judge.{entryPart, requestChecks}
+use Rattle.stages.proofs.Checks.{lacks, passed-at}
+use Rattle.gate.proofs.Numbers.{entry-passed, setup-numbered, end-numbered}
+use Rattle.stages.proofs.Parts.{reading-numbered}
 use Rattle.demands.proofs.Checks.{read-through, opens}
 use Rattle.demands.proofs.Named.{placed}
 
 -- none of the checks 1 to 9 holds
-pub record Passed (q : Request) (table : List ℕ) : Type 0 where
-  pub sizes : requestFits q table ≡ true
-  pub orders : ordersGood (q .orders .mask) (q .orders .extra) (q .orders .session-life) ≡ true
-  pub well : WellFormed (records table)
+pub record Passed (q : Request) (state : State) : Type 0 where
+  pub sizes : requestFits q state ≡ true
+  pub orders : ordersGood (q .orders) ≡ true
+  pub well : WellFormed (records (state .table))
   pub value : requestAnswer (q .value) ≡ Answer.Good
   pub lines : (goodBlock (q .head) && goodBlock (q .aside)) ≡ true
   pub once : (twice q (q .head) || twice q (q .aside)) ≡ false
-  pub covers : asOrdered (q .orders .mask) (q .orders .extra) (fieldsOf q) ≡ true
+  pub covers : asOrdered (q .orders .numbers .mask) (q .orders .extra) (fieldsOf q) ≡ true
   pub opened : given (openedOf q) ≡ true
 
 value-good : (v : List ℕ) (o : Option (List Field)) → grammar v ≡ o → missing o ≡ false → requestFields (carried v) ≡ true
@@ -52,15 +58,15 @@ value-good : (v : List ℕ) (o : Option (List Field)) → grammar v ≡ o → mi
 value-good v none p m f = absurd (true≢false m)
 value-good v (some fs) p m f = request-by v true (ap Scan.given p) f
 
-pub all-passed : (q : Request) (table : List ℕ) → first (entryPart q table) ≡ 0 → first (readingPart q) ≡ 0 → given (openedOf q) ≡ true → Passed q table
-unfolding entryPart readingPart coveringPart ordersBad fieldsOf
-all-passed q table entry reading opened =
-    let lent = entry-passed (requestFits q table) (q .orders) table entry in
+pub all-passed : (q : Request) (state : State) → first (entryPart q state) ≡ 0 → first (readingPart q) ≡ 0 → given (openedOf q) ≡ true → Passed q state
+unfolding entryPart readingPart coveringPart fieldsOf
+all-passed q state entry reading opened =
+    let lent = entry-passed (requestFits q state) (q .orders) state entry in
     let past = passed-at (readingPart q) (reading-numbered q) reading in
     record {
       sizes = lent .sizes;
-      orders = not-false _ (lent .orders);
-      well = wellFormed-is (records table) (lent .formed);
+      orders = lent .orders;
+      well = wellFormed-is (records (state .table)) (lent .formed);
       value = value-good (q .value) (grammar (q .value)) refl (past 4) (not-false _ (past 5));
       lines = not-false _ (past 6);
       once = past 7;
@@ -69,15 +75,15 @@ all-passed q table entry reading opened =
     }
 
 -- a request with one of these numbers has passed them
-pub passed : (q : Request) (table : List ℕ) (n : ℕ) → lacks n (entryPart q table) ≡ true → lacks n (readingPart q) ≡ true → (n ≡ 9 → ⊥)
-    → first (requestChecks q table) ≡ n → Passed q table
-passed q table n a b nine e =
-    let read = read-through q table n a b e in
-    all-passed q table (read .entry) (read .reading) (opens q (signaturePart q ++ admittingPart q table) n (simp append-assoc at (read .later)) nine)
+pub passed : (q : Request) (state : State) (n : ℕ) → lacks n (entryPart q state) ≡ true → lacks n (readingPart q) ≡ true → (n ≡ 9 → ⊥)
+    → first (requestChecks q state) ≡ n → Passed q state
+passed q state n a b nine e =
+    let read = read-through q state n a b e in
+    all-passed q state (read .entry) (read .reading) (opens q (signaturePart q ++ admittingPart q (state .table)) n (simp append-assoc at (read .later)) nine)
 
-pub accepted-passed : (q : Request) (table : List ℕ) → first (requestChecks q table) ≡ 0 → Passed q table
-unfolding entryPart readingPart coveringPart entryChecks tableChecks
-accepted-passed q table e = passed q table 0 refl refl (λ z. omega arith) e
+pub accepted-passed : (q : Request) (state : State) → first (requestChecks q state) ≡ 0 → Passed q state
+unfolding entryPart readingPart coveringPart entryChecks stateChecks
+accepted-passed q state e = passed q state 0 refl refl (λ z. omega arith) e
 
 third : (a b c d : Bool) → (a && (b && (c && d))) ≡ true → c ≡ true
 third a b c d e = both c d (both b (c && d) (both a (b && (c && d)) e .1) .1) .0
@@ -87,32 +93,32 @@ unplaced (At i) e = absurd (true≢false (sym e))
 unplaced Nowhere e = refl
 
 -- a setup of which no check holds takes a record, its IV is in no used record, and its IV and expiry fit in one
-pub record Takes (s : Setup) (table : List ℕ) : Type 0 where
+pub record Takes (s : Setup) (state : State) : Type 0 where
   pub place : ℕ
-  pub takes : taken (records table) (s .clock) ≡ At place
-  pub unused : placeOf table (s .iv) ≡ Nowhere
+  pub takes : taken (records (state .table)) (s .clock) ≡ At place
+  pub unused : placeOf (state .table) (s .iv) ≡ Nowhere
   pub long : length (s .iv) ≡ 12
   pub small : expiryOf s < 2 ^ 32
 
-pub setup-takes : (s : Setup) (table : List ℕ) → first (setupChecks s table) ≡ 0 → Takes s table
-unfolding setupChecks S.entryPart offerPart lastingPart roomPart entryChecks tableChecks setupFits
-setup-takes s table e =
-    let past = passed-at (setupChecks s table) (setup-numbered s table) e in
-    let place = placed (taken (records table) (s .clock)) (past 18) in
+pub setup-takes : (s : Setup) (state : State) → first (setupChecks s state) ≡ 0 → Takes s state
+unfolding setupChecks S.entryPart offerPart lastingPart roomPart entryChecks stateChecks setupFits
+setup-takes s state e =
+    let past = passed-at (setupChecks s state) (setup-numbered s state) e in
+    let place = placed (taken (records (state .table)) (s .clock)) (past 18) in
     record {
       place = place .0;
       takes = place .1;
-      unused = unplaced (placeOf table (s .iv)) (not-false _ (past 17));
-      long = eqb-true (length (s .iv)) 12 (third (exactly 32 (s .server-key)) (exactly 32 (s .session-key)) (exactly 12 (s .iv)) _ (not-false (setupFits s table) (past 1)));
+      unused = unplaced (placeOf (state .table) (s .iv)) (not-false _ (past 17));
+      long = eqb-true (length (s .iv)) 12 (third (exactly 32 (s .server-key)) (exactly 32 (s .session-key)) (exactly 12 (s .iv)) _ (not-false (setupFits s state) (past 1)));
       small = omega (arith, ltb-false 4294967295 (expiryOf s) (past 20));
     }
 
 -- an ending of which no check holds
-module _ (iv table : List ℕ) (none : first (endChecks iv table) ≡ 0) where
-  pub table-passed : WellFormed (records table)
-  unfolding endChecks tableChecks
-  table-passed = wellFormed-is (records table) (not-false _ (passed-at (endChecks iv table) (end-numbered iv table) none 3))
+module _ (iv : List ℕ) (state : State) (none : first (endChecks iv state) ≡ 0) where
+  pub table-passed : WellFormed (records (state .table))
+  unfolding endChecks stateChecks
+  table-passed = wellFormed-is (records (state .table)) (not-false _ (passed-at (endChecks iv state) (end-numbered iv state) none 3))
 
-  pub session-passed : nowhere (placeOf table iv) ≡ false
-  unfolding endChecks tableChecks
-  session-passed = passed-at (endChecks iv table) (end-numbered iv table) none 12
+  pub session-passed : nowhere (placeOf (state .table) iv) ≡ false
+  unfolding endChecks stateChecks
+  session-passed = passed-at (endChecks iv state) (end-numbered iv state) none 12

@@ -10,11 +10,12 @@ use lib.Seq.{take-append-seam}
 use Rattle.cells.specs.Runs.{fronted}
 use Rattle.token.specs.Token.{Token}
 use Rattle.reply.specs.Replies.{invalidation}
-use Rattle.gate.specs.Calls.{Request}
-use Rattle.gate.specs.Outcome.{Outcome, untouched, replied}
-use Rattle.gate.specs.Checks.{first}
-use Rattle.gate.specs.Session.{placeOf}
-use Rattle.gate.specs.Judge.{ivOf, nonceOf, timeOf, lastTimeOf, signatureOf, tokenOf, limits, textOf, codeOf, ordered, stepped, nextOf, signaturePart, sessionPart, noncePart, admittingPart, requestChecks, invalidates, tableAfter, answered, outcomeAt, judged}
+use Rattle.stages.specs.Request.{Request}
+use Rattle.gate.specs.State.{State, holding, Outcome, untouched, replied}
+use Rattle.stages.specs.Checks.{first}
+use Rattle.stages.specs.Session.{placeOf}
+use Rattle.stages.specs.Parts.{ivOf, nonceOf, timeOf, lastTimeOf, signatureOf, tokenOf, limits, textOf, codeOf, ordered, stepped, nextOf, signaturePart, sessionPart, noncePart, admittingPart, invalidates}
+use Rattle.gate.specs.Judge.{requestChecks, tableAfter, answered, outcomeAt, judged}
 use Rattle.demands.specs.Passing.{Reaches}
 use Rattle.demands.proofs.Checks.{signature-decides}
 
@@ -30,29 +31,29 @@ pub record ReadAlike (p q : Request) : Type 0 where
   pub token : tokenOf p ≡ tokenOf q
   pub text : textOf p ≡ textOf q
 
--- two outcomes with the same number, reply and table
+-- two outcomes with the same number, reply and state
 pub record Alike (a b : Outcome) : Type 0 where
   pub number : a .number ≡ b .number
   pub long : a .length ≡ b .length
   pub reply : take (a .length) (a .reply) ≡ take (b .length) (b .reply)
-  pub table : a .table ≡ b .table
+  pub state : a .state ≡ b .state
 
-replied-alike : (n : ℕ) {text other : List ℕ} (buffer lent : List ℕ) {after later : List ℕ} → text ≡ other → after ≡ later
+replied-alike : (n : ℕ) {text other : List ℕ} (buffer lent : List ℕ) {after later : State} → text ≡ other → after ≡ later
     → Alike (replied n text buffer after) (replied n other lent later)
 unfolding fronted
 replied-alike n {text} {other} buffer lent e f = record {
   number = refl;
   long = ap length e;
   reply = take-append-seam text (drop (length text) buffer) ∙ e ∙ sym (take-append-seam other (drop (length other) lent));
-  table = f;
+  state = f;
 }
 
-module _ (p q : Request) (table : List ℕ) (same : ReadAlike p q) where
-  -- the table after a number
-  abbrev tableOf : ℕ → Request → List ℕ
-  tableOf n r = tableAfter n (ordered r) (placeOf table (ivOf r)) (nextOf r table) table
+module _ (p q : Request) (state : State) (same : ReadAlike p q) where
+  -- what a number leaves
+  abbrev left : ℕ → Request → State
+  left n r = holding (tableAfter n (ordered r) (placeOf (state .table) (ivOf r)) (nextOf r (state .table)) (state .table))
 
-  step-same : stepped p table ≡ stepped q table
+  step-same : stepped p (state .table) ≡ stepped q (state .table)
   unfolding stepped
   step-same = rw (same .iv, same .nonce)
 
@@ -64,41 +65,41 @@ module _ (p q : Request) (table : List ℕ) (same : ReadAlike p q) where
   unfolding codeOf
   code-same = rw (same .token, same .text)
 
-  next-same : nextOf p table ≡ nextOf q table
+  next-same : nextOf p (state .table) ≡ nextOf q (state .table)
   unfolding nextOf
   next-same = rw (same .iv, step-same)
 
-  table-same : (n : ℕ) → tableOf n p ≡ tableOf n q
-  table-same n = rw (same .iv, next-same, same .orders)
+  left-same : (n : ℕ) → left n p ≡ left n q
+  left-same n = rw (same .iv, next-same, same .orders)
 
-  rest-same : signaturePart p ++ admittingPart p table ≡ signaturePart q ++ admittingPart q table
+  rest-same : signaturePart p ++ admittingPart p (state .table) ≡ signaturePart q ++ admittingPart q (state .table)
   unfolding signaturePart sessionPart noncePart
   rest-same = rw (same .signature, code-same, same .iv, same .time, same .last-time, limits-same, step-same, same .orders, same .clock)
 
-  number-same : Reaches p table → Reaches q table → first (requestChecks p table) ≡ first (requestChecks q table)
-  number-same rp rq = signature-decides p table rp ∙ ap first rest-same ∙ sym (signature-decides q table rq)
+  number-same : Reaches p state → Reaches q state → first (requestChecks p state) ≡ first (requestChecks q state)
+  number-same rp rq = signature-decides p state rp ∙ ap first rest-same ∙ sym (signature-decides q state rq)
 
-  outcome-alike : (n : ℕ) → Alike (outcomeAt n p table) (outcomeAt n q table)
+  outcome-alike : (n : ℕ) → Alike (outcomeAt n p state) (outcomeAt n q state)
   unfolding answered
   outcome-alike n = by (eqb n 0) (invalidates n)
     where
       by : (t u : Bool)
-          → Alike (cond t (replied 0 (tokenOf p .id) (p .reply) (tableOf n p)) (cond u (replied n (invalidation (tokenOf p .key)) (p .reply) (tableOf n p)) (untouched n (p .reply) (tableOf n p))))
-          (cond t (replied 0 (tokenOf q .id) (q .reply) (tableOf n q)) (cond u (replied n (invalidation (tokenOf q .key)) (q .reply) (tableOf n q)) (untouched n (q .reply) (tableOf n q))))
-      by true u = replied-alike 0 (p .reply) (q .reply) (ap (λ (t : Token). t .id) (same .token)) (table-same n)
-      by false true = replied-alike n (p .reply) (q .reply) (ap (λ (t : Token). invalidation (t .key)) (same .token)) (table-same n)
-      by false false = record { number = refl; long = refl; reply = refl; table = table-same n }
+          → Alike (cond t (replied 0 (tokenOf p .id) (p .reply) (left n p)) (cond u (replied n (invalidation (tokenOf p .key)) (p .reply) (left n p)) (untouched n (p .reply) (left n p))))
+          (cond t (replied 0 (tokenOf q .id) (q .reply) (left n q)) (cond u (replied n (invalidation (tokenOf q .key)) (q .reply) (left n q)) (untouched n (q .reply) (left n q))))
+      by true u = replied-alike 0 (p .reply) (q .reply) (ap (λ (t : Token). t .id) (same .token)) (left-same n)
+      by false true = replied-alike n (p .reply) (q .reply) (ap (λ (t : Token). invalidation (t .key)) (same .token)) (left-same n)
+      by false false = record { number = refl; long = refl; reply = refl; state = left-same n }
 
   -- they get the same verdict, reply and table after
-  pub judged-alike : Reaches p table → Reaches q table → Alike (judged p table) (judged q table)
+  pub judged-alike : Reaches p state → Reaches q state → Alike (judged p state) (judged q state)
   unfolding judged
   judged-alike rp rq =
-      subst (λ (n : ℕ). Alike (outcomeAt n p table) (judged q table)) (sym (number-same rp rq)) (outcome-alike (first (requestChecks q table)))
+      subst (λ (n : ℕ). Alike (outcomeAt n p state) (judged q state)) (sym (number-same rp rq)) (outcome-alike (first (requestChecks q state)))
 
-  outcome-same : (n : ℕ) → p .reply ≡ q .reply → outcomeAt n p table ≡ outcomeAt n q table
+  outcome-same : (n : ℕ) → p .reply ≡ q .reply → outcomeAt n p state ≡ outcomeAt n q state
   outcome-same n e = rw (same .token, same .iv, next-same, e, same .orders)
 
   -- and in equal reply buffers every byte is the same
-  pub judged-same : Reaches p table → Reaches q table → p .reply ≡ q .reply → judged p table ≡ judged q table
+  pub judged-same : Reaches p state → Reaches q state → p .reply ≡ q .reply → judged p state ≡ judged q state
   unfolding judged
-  judged-same rp rq e = ap (λ (n : ℕ). outcomeAt n p table) (number-same rp rq) ∙ outcome-same (first (requestChecks q table)) e
+  judged-same rp rq e = ap (λ (n : ℕ). outcomeAt n p state) (number-same rp rq) ∙ outcome-same (first (requestChecks q state)) e

@@ -16,8 +16,9 @@ use Rattle.armor.proofs.Numerals.{maskOf-maskBytes}
 use Rattle.armor.proofs.Carried.{time-bytes, last-time-bytes, nonce-bytes}
 use Rattle.signed.specs.SignedText as Text
 use Rattle.signed.specs.SignedText.{Signed, signedText, coveredValues, signedOf, requestText}
-use Rattle.gate.specs.Calls.{Request}
-use Rattle.gate.specs.Judge.{fieldsOf, nonceOf, timeOf, lastTimeOf, textOf}
+use Rattle.gate.specs.State.{State}
+use Rattle.stages.specs.Request.{Request}
+use Rattle.stages.specs.Parts.{fieldsOf, nonceOf, timeOf, lastTimeOf, textOf}
 use Rattle.demands.proofs.Passed.{Passed}
 use Rattle.demands.proofs.Carried.{hash-ordered, mask-ordered, names-ordered, mask-fits, nonce-ordered}
 
@@ -43,28 +44,28 @@ signedBy q = record {
   body = q .body;
 }
 
-pub time-carried : (q : Request) (table : List ℕ) → Passed q table → numberBytes (timeOf q) ≡ carries nameT q
+pub time-carried : (q : Request) (state : State) → Passed q state → numberBytes (timeOf q) ≡ carries nameT q
 unfolding timeOf fieldsOf
-time-carried q table p = time-bytes (q .value) (p .value)
+time-carried q state p = time-bytes (q .value) (p .value)
 
-pub last-time-carried : (q : Request) (table : List ℕ) → Passed q table → numberBytes (lastTimeOf q) ≡ carries nameLt q
+pub last-time-carried : (q : Request) (state : State) → Passed q state → numberBytes (lastTimeOf q) ≡ carries nameLt q
 unfolding lastTimeOf fieldsOf
-last-time-carried q table p = last-time-bytes (q .value) (p .value)
+last-time-carried q state p = last-time-bytes (q .value) (p .value)
 
-pub nonce-carried : (q : Request) (table : List ℕ) → Passed q table → carriesTimes nameN q ≡ 1 → numberBytes (nonceOf q) ≡ carries nameN q
+pub nonce-carried : (q : Request) (state : State) → Passed q state → carriesTimes nameN q ≡ 1 → numberBytes (nonceOf q) ≡ carries nameN q
 unfolding nonceOf fieldsOf
-nonce-carried q table p one = nonce-bytes (q .value) (p .value) one
+nonce-carried q state p one = nonce-bytes (q .value) (p .value) one
 
-n-carried : (q : Request) (table : List ℕ) → Passed q table
-    → Text.nonceOf (q .orders .mask) (nonceOf q) ≡ cond (eqb (carriesTimes nameN q) 1) (some (carries nameN q)) none
+n-carried : (q : Request) (state : State) → Passed q state
+    → Text.nonceOf (q .orders .numbers .mask) (nonceOf q) ≡ cond (eqb (carriesTimes nameN q) 1) (some (carries nameN q)) none
 unfolding Text.nonceOf
-n-carried q table p = rw (nonce-ordered q table p) (by (eqb (q .orders .mask % 2) 1) refl)
+n-carried q state p = rw (nonce-ordered q state p) (by (eqb (q .orders .numbers .mask % 2) 1) refl)
   where
-    by : (t : Bool) → eqb (q .orders .mask % 2) 1 ≡ t → cond t (some (numberBytes (nonceOf q))) none ≡ cond t (some (carries nameN q)) none
-    by true e = ap some (nonce-carried q table p (nonce-ordered q table p ∙ eqb-true (q .orders .mask % 2) 1 e))
+    by : (t : Bool) → eqb (q .orders .numbers .mask % 2) 1 ≡ t → cond t (some (numberBytes (nonceOf q))) none ≡ cond t (some (carries nameN q)) none
+    by true e = ap some (nonce-carried q state p (nonce-ordered q state p ∙ eqb-true (q .orders .numbers .mask % 2) 1 e))
     by false e = refl
 
-pub text-carried : (q : Request) (table : List ℕ) → Passed q table → textOf q ≡ signedText (signedBy q)
+pub text-carried : (q : Request) (state : State) → Passed q state → textOf q ≡ signedText (signedBy q)
 unfolding textOf requestText signedOf
-text-carried q table p =
-    rw (hash-ordered q table p, mask-ordered q table p, names-ordered q table p, maskOf-maskBytes (q .orders .mask) (omega (arith, mask-fits q table p)), ← (n-carried q table p), ← (time-carried q table p), ← (last-time-carried q table p))
+text-carried q state p =
+    rw (hash-ordered q state p, mask-ordered q state p, names-ordered q state p, maskOf-maskBytes (q .orders .numbers .mask) (omega (arith, mask-fits q state p)), ← (n-carried q state p), ← (time-carried q state p), ← (last-time-carried q state p))

@@ -14,8 +14,8 @@ use Rattle.table.specs.Record.{size, recordBytes, recordOf, Fits, freed}
 use Rattle.table.specs.Table.{places, recordAt, chunks, records}
 use Rattle.table.proofs.Records.{length-records, records-at, records-stored, freed-fits}
 use Rattle.table.proofs.Found.{found-at}
-use Rattle.gate.specs.Session.{placeOf, with-record, without}
-use Rattle.demands.specs.History.{emptyTable}
+use Rattle.stages.specs.Session.{placeOf, with-record, without}
+use Rattle.demands.specs.History.{empty}
 use Rattle.demands.proofs.Stored.{replaced}
 use Rattle.demands.proofs.Sessions.{Sessions, free-sessions, freed-sessions}
 
@@ -34,13 +34,13 @@ empty-chunks (suc n) =
     ∙ ap (λ (l : List ℕ). chunks (suc n) l) (sym (replicate-append-replicate size (size * n) 0))
     ∙ ap (λ (l : List Record). freed ∷ l) (empty-chunks n)
 
-empty-records : (n : ℕ) → records (emptyTable n) ≡ replicate n freed
+empty-records : (n : ℕ) → records (empty n .table) ≡ replicate n freed
 unfolding records
 empty-records n =
-    let all : places (emptyTable n) ≡ n = omega (arith, length-replicate {A = ℕ} (size * n) 0) in
-    ap (λ (k : ℕ). chunks k (emptyTable n)) all ∙ empty-chunks n
+    let all : places (empty n .table) ≡ n = omega (arith, length-replicate {A = ℕ} (size * n) 0) in
+    ap (λ (k : ℕ). chunks k (empty n .table)) all ∙ empty-chunks n
 
-pub empty-standing : (n : ℕ) → Standing n (emptyTable n) [] (λ iv. [])
+pub empty-standing : (n : ℕ) → Standing n (empty n .table) [] (λ iv. [])
 empty-standing n = record {
   long = length-replicate {A = ℕ} (size * n) 0;
   sessions = subst (λ (rs : List Record). Sessions rs [] (λ iv. [])) (sym (empty-records n)) (free-sessions n);

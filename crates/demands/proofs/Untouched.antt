@@ -7,7 +7,9 @@ use Prim.Native.Nat.{ℕ, _≤_}
 use Rattle.table.specs.declared.session.Record.{Record}
 use Rattle.table.specs.Record.{recordBytes, recordOf, Fits}
 use Rattle.table.proofs.Records.{recordOf-bytes}
-use Rattle.gate.specs.Calls.{Setup, Request}
+use Rattle.gate.specs.Calls.{Setup}
+use Rattle.stages.specs.Request.{Request}
+use Rattle.gate.specs.State.{State, holding}
 use Rattle.gate.specs.Setup.{setUp}
 use Rattle.gate.specs.Judge.{judged}
 use Rattle.gate.specs.End.{ended}
@@ -18,13 +20,13 @@ use Rattle.demands.proofs.Requests.{judge-effects}
 use Rattle.demands.proofs.Endings.{end-effects}
 
 -- each call's number is one that document 01 gives it, by the order given there, and what it does follows from the number
-pub setup : (s : Setup) (table : List ℕ) → SetupEffects s table (setUp s table)
+pub setup : (s : Setup) (state : State) → SetupEffects s state (setUp s state)
 setup = setup-effects
 
-pub judge : (q : Request) (table : List ℕ) → JudgeEffects q table (judged q table)
+pub judge : (q : Request) (state : State) → JudgeEffects q state (judged q state)
 judge = judge-effects
 
-pub end : (iv table : List ℕ) → EndEffects iv table (ended iv table)
+pub end : (iv : List ℕ) (state : State) → EndEffects iv state (ended iv state)
 end = end-effects
 
 -- what is lent to a call for its reply; no buffer is lent to an ending
@@ -40,17 +42,17 @@ Freeing (judging q) n = TenOrThirteen n
 Freeing (ending iv) n = ⊥
 
 -- THE THEOREM: only the refusals 10 and 13 alter the table, and only they write a reply; the others touch nothing
-pub untouched-else : (c : Call) (table : List ℕ) → 1 ≤ answer c table .number → (Freeing c (answer c table .number) → ⊥)
-    → Kept (bufferOf c) table (answer c table)
-untouched-else (setting-up s) table h f = setup s table .refused h
-untouched-else (judging q) table h f = judge q table .refused h f
-untouched-else (ending iv) table h f =
-    record { long = end iv table .no-reply .0; reply = end iv table .no-reply .1; table = end iv table .refused h }
+pub untouched-else : (c : Call) (state : State) → 1 ≤ answer c state .number → (Freeing c (answer c state .number) → ⊥)
+    → Kept (bufferOf c) state (answer c state)
+untouched-else (setting-up s) state h f = setup s state .refused h
+untouched-else (judging q) state h f = judge q state .refused h f
+untouched-else (ending iv) state h f =
+    record { long = end iv state .no-reply .0; reply = end iv state .no-reply .1; state = end iv state .refused h }
 
 -- the thin entry leaves the record that a table of it alone would hold: what holds of that table is said by `judge`, and of the record
 -- itself, that a refusal other than 10 and 13 keeps every field
-pub one-untouched : (q : Request) (before after : Record) → Fits before → Fits after → judged q (recordBytes before) .table ≡ recordBytes after
-    → 1 ≤ judged q (recordBytes before) .number → (TenOrThirteen (judged q (recordBytes before) .number) → ⊥) → after ≡ before
+pub one-untouched : (q : Request) (before after : Record) → Fits before → Fits after → judged q (holding (recordBytes before)) .state ≡ holding (recordBytes after)
+    → 1 ≤ judged q (holding (recordBytes before)) .number → (TenOrThirteen (judged q (holding (recordBytes before)) .number) → ⊥) → after ≡ before
 one-untouched q before after f g left h t =
-    let kept = judge q (recordBytes before) .refused h t .table in
-    sym (recordOf-bytes after g) ∙ ap recordOf (sym left ∙ kept) ∙ recordOf-bytes before f
+    let kept = judge q (holding (recordBytes before)) .refused h t .state in
+    sym (recordOf-bytes after g) ∙ ap (λ (s : State). recordOf (s .table)) (sym left ∙ kept) ∙ recordOf-bytes before f

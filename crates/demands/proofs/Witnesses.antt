@@ -27,7 +27,7 @@ use Rattle.cells.specs.Spans.{all, leading}
 use Rattle.names.specs.Names.{hasByte, tokenByte, isToken, lower, sameName, headerNames}
 use Rattle.names.specs.Extra.{extraNames, goodNames, goodExtra}
 use Rattle.names.specs.Covered.{chosen, coveredNames}
-use Rattle.orders.specs.Orders.{ordersGood, limitsOf}
+use Rattle.orders.specs.Orders.{ordersGood, limitsOf, Orders, ordersOf}
 use Rattle.lines.specs.Lines.{CR, LF, valueByte, goodLine, lineText, textOf, frontLine, startsLine, linesUpTo, linesIn, goodBlock}
 use Rattle.lines.specs.Values.{timesNamed, repeated}
 use Rattle.window.specs.Window.{bit}
@@ -38,14 +38,17 @@ use Rattle.coverage.specs.Coverage.{asOrdered}
 use Rattle.token.specs.Token.{tokenText, tokenIn, tokenFrom, openedToken}
 use Rattle.token.proofs.Text.{length-three}
 use Rattle.token.proofs.Exactly.{no-token}
-use Rattle.gate.specs.Calls.{Orders, Setup, Request, ordersOf, setupOf, requestOf}
+use Rattle.gate.specs.Calls.{Setup, setupOf}
+use Rattle.stages.specs.Request.{Request, requestOf}
+use Rattle.gate.specs.State.{State, holding}
 use Rattle.gate.specs.Sizes.{tableFits, setupFits, lentFits, requestFits, endFits}
-use Rattle.gate.specs.Checks.{ordersBad, tableChecks, entryChecks}
+use Rattle.gate.specs.Entry.{stateChecks, entryChecks}
 use Rattle.gate.specs.Setup as S
 use Rattle.gate.specs.Setup.{offered, expiryOf, offerPart, lastingPart, roomPart, setupChecks, setUp}
-use Rattle.gate.specs.Judge.{fieldsOf, ivOf, openedOf, twice, entryPart, readingPart, coveringPart, tokenPart, signaturePart, sessionPart, noncePart, requestChecks, answered, judged}
+use Rattle.stages.specs.Parts.{fieldsOf, ivOf, openedOf, twice, readingPart, coveringPart, tokenPart, signaturePart, sessionPart, noncePart}
+use Rattle.gate.specs.Judge.{entryPart, requestChecks, answered, judged}
 use Rattle.gate.specs.End.{endChecks, ended}
-use Rattle.demands.specs.History.{emptyTable}
+use Rattle.demands.specs.History.{empty}
 
 -- limits by default, and no extra names
 abbrev pub ordering : ℕ → Orders
@@ -63,12 +66,12 @@ abbrev pub offer : List ℕ
 offer = codes "r:AQQ="
 
 -- a table of one session, which has this IV and lasts until 1
-abbrev pub session : List ℕ → List ℕ
-session iv = recordBytes (begun iv 1)
+abbrev pub session : List ℕ → State
+session iv = holding (recordBytes (begun iv 1))
 
 -- a table with a mark that is neither 0 nor 1
-abbrev pub marked : List ℕ
-marked = replicate size 2
+abbrev pub marked : State
+marked = holding (replicate size 2)
 
 -- a request with a value and a head
 abbrev pub sending : ℕ → List ℕ → List ℕ → Request
@@ -84,19 +87,19 @@ abbrev pub host : List ℕ
 host = codes "Host:a" ++ (CR ∷ LF ∷ [])
 
 pub record SetupWitnesses : Type 0 where
-  pub zero : setUp (asking 2 0 offer) (emptyTable 1) .number ≡ 0
-  pub one : setUp (asking 2 0 offer) [] .number ≡ 1
-  pub two : setUp (asking (2 ^ 56) 0 offer) (emptyTable 1) .number ≡ 2
+  pub zero : setUp (asking 2 0 offer) (empty 1) .number ≡ 0
+  pub one : setUp (asking 2 0 offer) (holding []) .number ≡ 1
+  pub two : setUp (asking (2 ^ 56) 0 offer) (empty 1) .number ≡ 2
   pub three : setUp (asking 2 0 offer) marked .number ≡ 3
-  pub four : setUp (asking 2 0 []) (emptyTable 1) .number ≡ 4
-  pub five : setUp (asking 2 0 (codes "x:AQQ=")) (emptyTable 1) .number ≡ 5
+  pub four : setUp (asking 2 0 []) (empty 1) .number ≡ 4
+  pub five : setUp (asking 2 0 (codes "x:AQQ=")) (empty 1) .number ≡ 5
   pub seventeen : setUp (asking 2 0 offer) (session (zeros 12)) .number ≡ 17
   pub eighteen : setUp (asking 2 0 offer) (session (replicate 12 1)) .number ≡ 18
-  pub nineteen : setUp (asking 2 0 (codes "r:AQE=")) (emptyTable 1) .number ≡ 19
-  pub twenty : setUp (asking 2 4294967295 offer) (emptyTable 1) .number ≡ 20
+  pub nineteen : setUp (asking 2 0 (codes "r:AQE=")) (empty 1) .number ≡ 19
+  pub twenty : setUp (asking 2 4294967295 offer) (empty 1) .number ≡ 20
 
 pub setup-witnesses : SetupWitnesses
-unfolding setUp setupChecks S.entryPart offerPart lastingPart roomPart entryChecks tableChecks setupFits tableFits ordersBad ordersGood goodExtra extraNames goodNames wellFormed fitting sound same bit records recordOf recordBytes bytesOf number codes Value.grammar Value.fieldsOf Value.fieldsIn Value.fieldOf Value.allGood Value.fieldGood Value.carried Pieces.pieces Pieces.upTo Pieces.after decoded full two one ending coded sixBits placeIn alphabet counted obeys ruleOf ruleAt keyNumber placeOf keys isMask isNumeral plain setupFields once times contents offered the maskOf expiryOf limitsOf found taken
+unfolding setUp setupChecks S.entryPart offerPart lastingPart roomPart entryChecks stateChecks setupFits tableFits ordersGood goodExtra extraNames goodNames wellFormed fitting sound same bit records recordOf recordBytes bytesOf number codes Value.grammar Value.fieldsOf Value.fieldsIn Value.fieldOf Value.allGood Value.fieldGood Value.carried Pieces.pieces Pieces.upTo Pieces.after decoded full two one ending coded sixBits placeIn alphabet counted obeys ruleOf ruleAt keyNumber placeOf keys isMask isNumeral plain setupFields once times contents offered the maskOf expiryOf limitsOf found taken
 setup-witnesses = record {
   zero = refl;
   one = refl;
@@ -112,12 +115,12 @@ setup-witnesses = record {
 
 pub record EndWitnesses : Type 0 where
   pub zero : ended (zeros 12) (session (zeros 12)) .number ≡ 0
-  pub one : ended (zeros 12) [] .number ≡ 1
+  pub one : ended (zeros 12) (holding []) .number ≡ 1
   pub three : ended (zeros 12) marked .number ≡ 3
-  pub twelve : ended (zeros 12) (emptyTable 1) .number ≡ 12
+  pub twelve : ended (zeros 12) (empty 1) .number ≡ 12
 
 pub end-witnesses : EndWitnesses
-unfolding ended endChecks tableChecks endFits tableFits wellFormed fitting sound same records recordOf recordBytes bytesOf number found
+unfolding ended endChecks stateChecks endFits tableFits wellFormed fitting sound same records recordOf recordBytes bytesOf number found
 end-witnesses = record { zero = refl; one = refl; three = refl; twelve = refl }
 
 -- one byte is no token, whatever it opens to
@@ -138,18 +141,18 @@ unopened key iv tag b = by (same tag (tagOf key iv [] (b ∷ [])))
     by false = refl
 
 pub record RequestWitnesses : Type 0 where
-  pub one : judged (sending 2 fields []) [] .number ≡ 1
-  pub two : judged (sending (2 ^ 56) fields []) (emptyTable 1) .number ≡ 2
+  pub one : judged (sending 2 fields []) (holding []) .number ≡ 1
+  pub two : judged (sending (2 ^ 56) fields []) (empty 1) .number ≡ 2
   pub three : judged (sending 2 fields []) marked .number ≡ 3
-  pub four : judged (sending 2 [] []) (emptyTable 1) .number ≡ 4
-  pub five : judged (sending 2 offer []) (emptyTable 1) .number ≡ 5
-  pub six : judged (sending 2 fields (codes "Host")) (emptyTable 1) .number ≡ 6
-  pub seven : judged (sending 2 fields (host ++ host)) (emptyTable 1) .number ≡ 7
-  pub eight : judged (sending 0 fields []) (emptyTable 1) .number ≡ 8
-  pub nine : judged (sending 2 fields []) (emptyTable 1) .number ≡ 9
+  pub four : judged (sending 2 [] []) (empty 1) .number ≡ 4
+  pub five : judged (sending 2 offer []) (empty 1) .number ≡ 5
+  pub six : judged (sending 2 fields (codes "Host")) (empty 1) .number ≡ 6
+  pub seven : judged (sending 2 fields (host ++ host)) (empty 1) .number ≡ 7
+  pub eight : judged (sending 0 fields []) (empty 1) .number ≡ 8
+  pub nine : judged (sending 2 fields []) (empty 1) .number ≡ 9
 
 pub request-witnesses : RequestWitnesses
-unfolding judged answered requestChecks entryPart readingPart coveringPart tokenPart signaturePart sessionPart noncePart entryChecks tableChecks requestFits lentFits tableFits ordersBad ordersGood goodExtra extraNames goodNames wellFormed fitting sound same records recordOf number codes Value.grammar Value.fieldsOf Value.fieldsIn Value.fieldOf Value.allGood Value.fieldGood Value.carried Pieces.pieces Pieces.upTo Pieces.after decoded full two one ending coded sixBits placeIn alphabet counted obeys ruleOf ruleAt keyNumber placeOf keys isMask isNumeral isNumber plain requestFields required once times contents only nonceBit the maskOf fieldsOf goodBlock linesIn linesUpTo startsLine frontLine lineText textOf goodLine valueByte isToken tokenByte hasByte all leading twice repeated timesNamed sameName lower coveredNames chosen headerNames asOrdered maskBytes numberBytes shortest bytesOf openedOf ivOf
+unfolding judged answered requestChecks entryPart readingPart coveringPart tokenPart signaturePart sessionPart noncePart entryChecks stateChecks requestFits lentFits tableFits ordersGood goodExtra extraNames goodNames wellFormed fitting sound same records recordOf number codes Value.grammar Value.fieldsOf Value.fieldsIn Value.fieldOf Value.allGood Value.fieldGood Value.carried Pieces.pieces Pieces.upTo Pieces.after decoded full two one ending coded sixBits placeIn alphabet counted obeys ruleOf ruleAt keyNumber placeOf keys isMask isNumeral isNumber plain requestFields required once times contents only nonceBit the maskOf fieldsOf goodBlock linesIn linesUpTo startsLine frontLine lineText textOf goodLine valueByte isToken tokenByte hasByte all leading twice repeated timesNamed sameName lower coveredNames chosen headerNames asOrdered maskBytes numberBytes shortest bytesOf openedOf ivOf
 request-witnesses = record {
   one = refl;
   two = refl;

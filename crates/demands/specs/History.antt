@@ -12,10 +12,12 @@ use Rattle.armor.specs.Fields.{among}
 use Rattle.window.specs.History.{keep}
 use Rattle.table.specs.Record.{size}
 use Rattle.signed.specs.SignedText.{ordersNonce}
-use Rattle.gate.specs.Calls.{Setup, Request}
-use Rattle.gate.specs.Outcome.{Outcome}
+use Rattle.gate.specs.Calls.{Setup}
+use Rattle.stages.specs.Request.{Request}
+use Rattle.gate.specs.State.{State, holding, Outcome}
 use Rattle.gate.specs.Setup.{setUp}
-use Rattle.gate.specs.Judge.{ivOf, nonceOf, judged}
+use Rattle.stages.specs.Parts.{ivOf, nonceOf}
+use Rattle.gate.specs.Judge.{judged}
 use Rattle.gate.specs.End.{ended}
 
 -- a call with what is lent to it, the table apart
@@ -24,32 +26,32 @@ pub data Call : Type 0 where
   judging : Request → Call
   ending : List ℕ → Call
 
-abbrev pub answer : Call → List ℕ → Outcome
-answer (setting-up s) table = setUp s table
-answer (judging q) table = judged q table
-answer (ending iv) table = ended iv table
+abbrev pub answer : Call → State → Outcome
+answer (setting-up s) state = setUp s state
+answer (judging q) state = judged q state
+answer (ending iv) state = ended iv state
 
 -- a table of n free records
-abbrev pub emptyTable : ℕ → List ℕ
-emptyTable n = replicate (size * n) 0
+abbrev pub empty : ℕ → State
+empty n = holding (replicate (size * n) 0)
 
--- the table after some calls: each call got the table that the one before it left
-unfoldable pub after : List ℕ → List Call → List ℕ
-after table [] = table
-after table (call ∷ earlier) = answer call (after table earlier) .table
+-- what some calls leave: each got what the one before it left
+unfoldable pub after : State → List Call → State
+after state [] = state
+after state (call ∷ earlier) = answer call (after state earlier) .state
 
 -- with the nonce of a call, if it is a request with this IV and with nonces ordered that was answered 0
 abbrev pub withAccepted : List ℕ → Call → ℕ → List ℕ → List ℕ
 withAccepted iv (setting-up s) number nonces = nonces
 withAccepted iv (judging q) number nonces =
-    keep (eqb number 0 && (ordersNonce (q .orders .mask) && same (ivOf q) iv)) (nonceOf q) nonces
+    keep (eqb number 0 && (ordersNonce (q .orders .numbers .mask) && same (ivOf q) iv)) (nonceOf q) nonces
 withAccepted iv (ending other) number nonces = nonces
 
 -- the nonces accepted in the session of an IV
-unfoldable pub acceptedIn : List ℕ → List ℕ → List Call → List ℕ
-acceptedIn iv table [] = []
-acceptedIn iv table (call ∷ earlier) =
-    withAccepted iv call (answer call (after table earlier) .number) (acceptedIn iv table earlier)
+unfoldable pub acceptedIn : List ℕ → State → List Call → List ℕ
+acceptedIn iv state [] = []
+acceptedIn iv state (call ∷ earlier) =
+    withAccepted iv call (answer call (after state earlier) .number) (acceptedIn iv state earlier)
 
 -- with the IV of a call, if it is a setup that was answered 0
 abbrev pub withSetUp : Call → ℕ → List (List ℕ) → List (List ℕ)
@@ -58,9 +60,9 @@ withSetUp (judging q) number ivs = ivs
 withSetUp (ending iv) number ivs = ivs
 
 -- the IVs of the setups that were answered 0
-unfoldable pub setUpIn : List ℕ → List Call → List (List ℕ)
-setUpIn table [] = []
-setUpIn table (call ∷ earlier) = withSetUp call (answer call (after table earlier) .number) (setUpIn table earlier)
+unfoldable pub setUpIn : State → List Call → List (List ℕ)
+setUpIn state [] = []
+setUpIn state (call ∷ earlier) = withSetUp call (answer call (after state earlier) .number) (setUpIn state earlier)
 
 -- with the IV that is lent to a call, if it is a setup
 abbrev pub withLent : Call → List (List ℕ) → List (List ℕ)

@@ -3,21 +3,22 @@
 -- Assumes nothing.
 use mathlib.Core.Path.{_≡_}
 use mathlib.Core.List.{List, _++_}
-use Prim.Native.Nat.{ℕ}
-use Rattle.gate.specs.Calls.{Request}
-use Rattle.gate.specs.Checks.{Check, first}
-use Rattle.gate.specs.Judge.{entryPart, readingPart, tokenPart, vouchingPart, sessionPart}
+use Rattle.stages.specs.Request.{Request}
+use Rattle.gate.specs.State.{State}
+use Rattle.stages.specs.Checks.{Check, first}
+use Rattle.gate.specs.Judge.{entryPart}
+use Rattle.stages.specs.Parts.{readingPart, tokenPart, vouchingPart, sessionPart}
 
 -- all but those of the nonce
-abbrev pub otherChecks : Request → List ℕ → List Check
-otherChecks q table = entryPart q table ++ (readingPart q ++ (vouchingPart q ++ sessionPart q table))
+abbrev pub otherChecks : Request → State → List Check
+otherChecks q state = entryPart q state ++ (readingPart q ++ (vouchingPart q ++ sessionPart q (state .table)))
 
-abbrev pub PassesOthers : Request → List ℕ → Type 0
-PassesOthers q table = first (otherChecks q table) ≡ 0
+abbrev pub PassesOthers : Request → State → Type 0
+PassesOthers q state = first (otherChecks q state) ≡ 0
 
 -- those before that of the signature
-abbrev pub beforeSignature : Request → List ℕ → List Check
-beforeSignature q table = entryPart q table ++ (readingPart q ++ tokenPart q)
+abbrev pub beforeSignature : Request → State → List Check
+beforeSignature q state = entryPart q state ++ (readingPart q ++ tokenPart q)
 
-abbrev pub Reaches : Request → List ℕ → Type 0
-Reaches q table = first (beforeSignature q table) ≡ 0
+abbrev pub Reaches : Request → State → Type 0
+Reaches q state = first (beforeSignature q state) ≡ 0

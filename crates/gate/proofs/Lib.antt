@@ -1,4 +1,4 @@
 -- The laws that the proofs of this crate's functions cite.
 pub mod Numbers
-pub mod Stages
+pub mod Judging
 pub mod Starting

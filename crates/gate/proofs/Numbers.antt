@@ -1,285 +1,85 @@
--- The first of several checks that holds, and a number and a length that one answer holds: document 01, 'The numbers a call returns'.
+-- The numbers of the calls' checks, what the first of them let through, and a number and a length that one answer holds: document 01, 'The numbers
+-- a call returns'.
 -- Assumes nothing.
-use mathlib.Core.Path.{_≡_, refl, sym, ap, ap₂, _∙_}
-use mathlib.Core.Bool.{Bool, true, false, true≢false, cond, not, _&&_}
-use mathlib.Core.List.{List, [], _∷_, _++_, map, List·Memᴰ, List·Memᴰ·head, List·Memᴰ·tail}
-use Prim.Native.Nat.{ℕ, zero, suc, _+_, _*_, _≤_, _<_}
+use mathlib.Core.Path.{_≡_, refl, ap₂}
+use mathlib.Core.Bool.{Bool, true, false, cond, not}
+use mathlib.Core.List.{List}
+use Prim.Native.Nat.{ℕ, _+_, _*_, _<_}
 use native.Mathlib.Omega.{arith}
-use borrow.Author.Tests.{leb-true, ltb-true, eqb-true, eqb-false, ne-eqb, not-true}
-use lib.Dec.{eqb, leb, ltb}
-use lib.ListN.{length, getD}
-use Rattle.table.proofs.Tests.{both}
+use Rattle.orders.specs.Orders.{Orders, ordersGood}
 use Rattle.table.specs.Table.{records}
 use Rattle.table.specs.WellFormed.{wellFormed}
-use Rattle.gate.specs.Calls.{Orders, Setup, Request}
-use Rattle.gate.specs.Outcome.{outcome}
-use Rattle.gate.specs.Checks.{Check, check, first, ordersBad, tableChecks, entryChecks}
+use Rattle.stages.specs.Request.{Request}
+use Rattle.stages.specs.Checks.{first}
+use Rattle.stages.specs.Parts.{readingPart, coveringPart, tokenPart, signaturePart, sessionPart, noncePart}
+use Rattle.stages.proofs.Checks.{numbered, lacks, small}
+use Rattle.gate.specs.State.{State, outcome}
+use Rattle.gate.specs.Calls.{Setup}
+use Rattle.gate.specs.Entry.{stateChecks, entryChecks}
 use Rattle.gate.specs.Setup as S
 use Rattle.gate.specs.Setup.{offerPart, lastingPart, roomPart, setupChecks}
-use Rattle.gate.specs.Judge.{entryPart, readingPart, coveringPart, tokenPart, signaturePart, vouchingPart, sessionPart, noncePart, requestChecks}
+use Rattle.gate.specs.Judge.{entryPart, requestChecks}
 use Rattle.gate.specs.End.{endChecks}
 
--- the checks' numbers are not 0
-abbrev pub numbered : List Check → Bool
-numbered [] = true
-numbered (c ∷ cs) = leb 1 (c .number) && numbered cs
+-- the checks of the three calls
+pub setup-numbered : (s : Setup) (state : State) → numbered (setupChecks s state) ≡ true
+unfolding setupChecks S.entryPart offerPart lastingPart roomPart entryChecks stateChecks
+setup-numbered s state = refl
 
-pub record Numbered (c : Check) (cs : List Check) : Type 0 where
-  pub low : 1 ≤ c .number
-  pub rest : numbered cs ≡ true
+pub setup-small : (s : Setup) (state : State) → small (setupChecks s state) ≡ true
+unfolding setupChecks S.entryPart offerPart lastingPart roomPart entryChecks stateChecks
+setup-small s state = refl
 
-numbered-parts : (c : Check) (cs : List Check) → numbered (c ∷ cs) ≡ true → Numbered c cs
-numbered-parts c cs e =
-    let p = both (leb 1 (c .number)) (numbered cs) e in
-    record { low = leb-true 1 (c .number) (p .0); rest = p .1 }
+pub request-numbered : (q : Request) (state : State) → numbered (requestChecks q state) ≡ true
+unfolding requestChecks entryPart readingPart coveringPart tokenPart signaturePart sessionPart noncePart entryChecks stateChecks
+request-numbered q state = refl
 
--- checks after others are looked at where none of those holds
-pub first-append : (xs ys : List Check) → numbered xs ≡ true → first (xs ++ ys) ≡ cond (eqb (first xs) 0) (first ys) (first xs)
-first-append [] ys e = refl
-first-append (c ∷ cs) ys e =
-    let parts = numbered-parts c cs e in
-    by (c .holds) (parts .low) (first-append cs ys (parts .rest))
-  where
-    by : (t : Bool) → 1 ≤ c .number → first (cs ++ ys) ≡ cond (eqb (first cs) 0) (first ys) (first cs)
-        → cond t (c .number) (first (cs ++ ys)) ≡ cond (eqb (cond t (c .number) (first cs)) 0) (first ys) (cond t (c .number) (first cs))
-    by true h k = rw (ne-eqb (c .number) 0 (λ z. omega arith))
-    by false h k = k
+pub request-small : (q : Request) (state : State) → small (requestChecks q state) ≡ true
+unfolding requestChecks entryPart readingPart coveringPart tokenPart signaturePart sessionPart noncePart entryChecks stateChecks
+request-small q state = refl
 
--- no check has this number
-abbrev pub lacks : ℕ → List Check → Bool
-lacks n [] = true
-lacks n (c ∷ cs) = not (eqb (c .number) n) && lacks n cs
+pub end-numbered : (iv : List ℕ) (state : State) → numbered (endChecks iv state) ≡ true
+unfolding endChecks stateChecks
+end-numbered iv state = refl
 
-pub first-lacks : (n : ℕ) (cs : List Check) → (n ≡ 0 → ⊥) → lacks n cs ≡ true → first cs ≡ n → ⊥
-first-lacks n [] nz e f = nz (sym f)
-first-lacks n (c ∷ cs) nz e f =
-    let parts = both (not (eqb (c .number) n)) (lacks n cs) e in
-    by (c .holds) f (not-true (eqb (c .number) n) (parts .0)) (first-lacks n cs nz (parts .1))
-  where
-    by : (t : Bool) → cond t (c .number) (first cs) ≡ n → eqb (c .number) n ≡ false → (first cs ≡ n → ⊥) → ⊥
-    by true g other later = eqb-false (c .number) n other g
-    by false g other later = later g
+pub entry-numbered : (fits : Bool) (o : Orders) (state : State) → numbered (entryChecks fits o state) ≡ true
+unfolding entryChecks stateChecks
+entry-numbered fits o state = refl
 
--- a number that none of the checks at the front has is given by those after them
-pub record Later (xs ys : List Check) (n : ℕ) : Type 0 where
-  pub none : first xs ≡ 0
-  pub later : first ys ≡ n
+pub entry-ten : (fits : Bool) (o : Orders) (state : State) → lacks 10 (entryChecks fits o state) ≡ true
+unfolding entryChecks stateChecks
+entry-ten fits o state = refl
 
-pub comes-later : (xs ys : List Check) (n : ℕ) → numbered xs ≡ true → lacks n xs ≡ true → first (xs ++ ys) ≡ n → Later xs ys n
-comes-later xs ys n e l f = by (eqb (first xs) 0) refl (sym (first-append xs ys e) ∙ f)
-  where
-    by : (t : Bool) → eqb (first xs) 0 ≡ t → cond t (first ys) (first xs) ≡ n → Later xs ys n
-    by true z g = record { none = eqb-true (first xs) 0 z; later = g }
-    by false z g = absurd (first-lacks n xs (λ o. eqb-false (first xs) 0 z (g ∙ o)) l g)
-
--- where none of all holds, none of either holds
-numbered-lacks : (cs : List Check) → numbered cs ≡ true → lacks 0 cs ≡ true
-numbered-lacks [] e = refl
-numbered-lacks (c ∷ cs) e =
-    let parts = numbered-parts c cs e in
-    rw (ne-eqb (c .number) 0 (λ z. omega (arith, parts .low))) (numbered-lacks cs (parts .rest))
-
-pub none-holds : (xs ys : List Check) → numbered xs ≡ true → first (xs ++ ys) ≡ 0 → Later xs ys 0
-none-holds xs ys e z = comes-later xs ys 0 e (numbered-lacks xs e) z
-
--- where none of the checks at the front holds, those after them decide
-pub passed-by : (xs ys : List Check) → numbered xs ≡ true → first xs ≡ 0 → first (xs ++ ys) ≡ first ys
-passed-by xs ys e z = first-append xs ys e ∙ rw z
-
-pub stopped-by : (xs ys : List Check) → numbered xs ≡ true → (first xs ≡ 0 → ⊥) → first (xs ++ ys) ≡ first xs
-stopped-by xs ys e nz = first-append xs ys e ∙ rw (ne-eqb (first xs) 0 nz)
-
--- whether the check with this number holds
-abbrev pub at : ℕ → List Check → Bool
-at k [] = false
-at k (c ∷ cs) = cond (eqb (c .number) k) (c .holds) (at k cs)
-
-pub passed-at : (cs : List Check) → numbered cs ≡ true → first cs ≡ 0 → (k : ℕ) → at k cs ≡ false
-passed-at [] e z k = refl
-passed-at (c ∷ cs) e z k =
-    let parts = numbered-parts c cs e in
-    by (c .holds) refl z (parts .low) (λ f. passed-at cs (parts .rest) f k) (eqb (c .number) k)
-  where
-    by : (t : Bool) → c .holds ≡ t → cond t (c .number) (first cs) ≡ 0 → 1 ≤ c .number → (first cs ≡ 0 → at k cs ≡ false) → (u : Bool)
-        → cond u (c .holds) (at k cs) ≡ false
-    by true p f low later u = absurd (omega arith)
-    by false p f low later true = p
-    by false p f low later false = later f
-
--- checks with numbers below 256 come to one
-abbrev pub small : List Check → Bool
-small [] = true
-small (c ∷ cs) = ltb (c .number) 256 && small cs
-
-pub first-small : (cs : List Check) → small cs ≡ true → first cs < 256
-first-small [] e = omega arith
-first-small (c ∷ cs) e =
-    let parts = both (ltb (c .number) 256) (small cs) e in
-    by (c .holds) (ltb-true (c .number) 256 (parts .0)) (first-small cs (parts .1))
-  where
-    by : (t : Bool) → c .number < 256 → first cs < 256 → cond t (c .number) (first cs) < 256
-    by true h g = h
-    by false h g = g
-
--- the number of a call is 0 or that of one of its checks
-pub first-among : (cs : List Check) → List·Memᴰ (first cs) (0 ∷ map (λ (c : Check). c .number) cs)
-first-among [] = List·Memᴰ·head refl
-first-among (c ∷ cs) = by (c .holds) (first-among cs)
-  where
-    by : (t : Bool) → List·Memᴰ (first cs) (0 ∷ map (λ (d : Check). d .number) cs)
-        → List·Memᴰ (cond t (c .number) (first cs)) (0 ∷ map (λ (d : Check). d .number) (c ∷ cs))
-    by true m = List·Memᴰ·tail (List·Memᴰ·head refl)
-    by false (List·Memᴰ·head z) = List·Memᴰ·head z
-    by false (List·Memᴰ·tail m) = List·Memᴰ·tail (List·Memᴰ·tail m)
-
--- no check
-abbrev pub unchecked : Check
-unchecked = check 0 false
-
--- check k holds, and none before it in the order does
-pub record Given (k : ℕ) (cs : List Check) : Type 0 where
-  pub place : ℕ
-  pub within : place < length cs
-  pub number : getD cs place unchecked .number ≡ k
-  pub holds : getD cs place unchecked .holds ≡ true
-  pub before : (j : ℕ) → j < place → getD cs j unchecked .holds ≡ false
-
--- none of the checks holds
-abbrev pub NoneHolds : List Check → Type 0
-NoneHolds cs = (j : ℕ) → j < length cs → getD cs j unchecked .holds ≡ false
-
--- number k is given exactly if check k holds and none before it does, and 0 exactly if none holds
-pub record Exactly (cs : List Check) (n : ℕ) : Type 0 where
-  pub given : (k : ℕ) → 1 ≤ k → n ≡ k → Given k cs
-  pub only : (k : ℕ) → Given k cs → n ≡ k
-  pub passed : n ≡ 0 → NoneHolds cs
-  pub none : NoneHolds cs → n ≡ 0
-
-given-later : (k : ℕ) (c : Check) (cs : List Check) → c .holds ≡ false → Given k cs → Given k (c ∷ cs)
-given-later k c cs e g = record {
-  place = suc (g .place);
-  within = omega (arith, g .within);
-  number = g .number;
-  holds = g .holds;
-  before = earlier;
-}
-  where
-    earlier : (j : ℕ) → j < suc (g .place) → getD (c ∷ cs) j unchecked .holds ≡ false
-    earlier zero l = e
-    earlier (suc j) l = g .before j (omega arith)
-
-pub first-exactly : (cs : List Check) → numbered cs ≡ true → Exactly cs (first cs)
-first-exactly [] e = record {
-  given = λ k l z. absurd (omega arith);
-  only = λ k g. absurd (omega (arith, g .within));
-  passed = λ z j l. absurd (omega arith);
-  none = λ n. refl;
-}
-first-exactly (c ∷ cs) e = by (c .holds) refl (first-exactly cs (parts .rest))
-  where
-    parts : Numbered c cs
-    parts = numbered-parts c cs e
-
-    by : (t : Bool) → c .holds ≡ t → Exactly cs (first cs) → Exactly (c ∷ cs) (cond t (c .number) (first cs))
-    by true p x = record {
-      given = λ k l z. record { place = 0; within = omega arith; number = z; holds = p; before = λ j l. absurd (omega arith) };
-      only = λ k g. here k g (g .place) refl;
-      passed = λ z. absurd (omega (arith, parts .low));
-      none = λ n. absurd (true≢false (sym p ∙ n 0 (omega arith)));
-    }
-      where
-        here : (k : ℕ) (g : Given k (c ∷ cs)) (i : ℕ) → g .place ≡ i → c .number ≡ k
-        here k g zero q = sym (ap (λ (j : ℕ). getD (c ∷ cs) j unchecked .number) q) ∙ g .number
-        here k g (suc i) q = absurd (true≢false (sym p ∙ g .before 0 (omega arith)))
-    by false p x = record {
-      given = λ k l z. given-later k c cs p (x .given k l z);
-      only = λ k g. later k g (g .place) refl;
-      passed = λ z. skipped (x .passed z);
-      none = λ n. x .none (λ j l. n (suc j) (omega arith));
-    }
-      where
-        later : (k : ℕ) (g : Given k (c ∷ cs)) (i : ℕ) → g .place ≡ i → first cs ≡ k
-        later k g zero q = absurd (true≢false (sym (g .holds) ∙ ap (λ (j : ℕ). getD (c ∷ cs) j unchecked .holds) q ∙ p))
-        later k g (suc i) q = x .only k (record {
-          place = i;
-          within = omega (arith, g .within);
-          number = sym (ap (λ (j : ℕ). getD (c ∷ cs) j unchecked .number) q) ∙ g .number;
-          holds = sym (ap (λ (j : ℕ). getD (c ∷ cs) j unchecked .holds) q) ∙ g .holds;
-          before = λ j l. g .before (suc j) (omega arith);
-        })
-
-        skipped : NoneHolds cs → NoneHolds (c ∷ cs)
-        skipped n zero l = p
-        skipped n (suc j) l = n j (omega arith)
-
--- the checks of the three calls, and their parts
-pub setup-numbered : (s : Setup) (table : List ℕ) → numbered (setupChecks s table) ≡ true
-unfolding setupChecks S.entryPart offerPart lastingPart roomPart entryChecks tableChecks
-setup-numbered s table = refl
-
-pub setup-small : (s : Setup) (table : List ℕ) → small (setupChecks s table) ≡ true
-unfolding setupChecks S.entryPart offerPart lastingPart roomPart entryChecks tableChecks
-setup-small s table = refl
-
-pub request-numbered : (q : Request) (table : List ℕ) → numbered (requestChecks q table) ≡ true
-unfolding requestChecks entryPart readingPart coveringPart tokenPart signaturePart sessionPart noncePart entryChecks tableChecks
-request-numbered q table = refl
-
-pub request-small : (q : Request) (table : List ℕ) → small (requestChecks q table) ≡ true
-unfolding requestChecks entryPart readingPart coveringPart tokenPart signaturePart sessionPart noncePart entryChecks tableChecks
-request-small q table = refl
-
-pub end-numbered : (iv table : List ℕ) → numbered (endChecks iv table) ≡ true
-unfolding endChecks tableChecks
-end-numbered iv table = refl
-
-pub entry-numbered : (fits : Bool) (o : Orders) (table : List ℕ) → numbered (entryChecks fits o table) ≡ true
-unfolding entryChecks tableChecks
-entry-numbered fits o table = refl
+pub entry-thirteen : (fits : Bool) (o : Orders) (state : State) → lacks 13 (entryChecks fits o state) ≡ true
+unfolding entryChecks stateChecks
+entry-thirteen fits o state = refl
 
 -- what 1 to 3 let through
-pub record Entered (fits : Bool) (o : Orders) (table : List ℕ) : Type 0 where
+pub record Entered (fits : Bool) (o : Orders) (state : State) : Type 0 where
   pub sizes : fits ≡ true
-  pub orders : ordersBad o ≡ false
-  pub formed : wellFormed (records table) ≡ true
+  pub orders : ordersGood o ≡ true
+  pub formed : wellFormed (records (state .table)) ≡ true
 
-pub entry-passed : (fits : Bool) (o : Orders) (table : List ℕ) → first (entryChecks fits o table) ≡ 0 → Entered fits o table
-unfolding entryChecks tableChecks
-entry-passed fits o table e = by fits (ordersBad o) (wellFormed (records table)) refl refl refl e
+pub entry-passed : (fits : Bool) (o : Orders) (state : State) → first (entryChecks fits o state) ≡ 0 → Entered fits o state
+unfolding entryChecks stateChecks
+entry-passed fits o state e = by fits (ordersGood o) (wellFormed (records (state .table))) refl refl refl e
   where
-    by : (a b c : Bool) → fits ≡ a → ordersBad o ≡ b → wellFormed (records table) ≡ c
-        → _≡_ {A = ℕ} (cond (not a) 1 (cond b 2 (cond (not c) 3 0))) 0 → Entered fits o table
-    by true false true p q r z = record { sizes = p; orders = q; formed = r }
-    by true false false p q r z = absurd (omega arith)
-    by true true c p q r z = absurd (omega arith)
+    by : (a b c : Bool) → fits ≡ a → ordersGood o ≡ b → wellFormed (records (state .table)) ≡ c
+        → _≡_ {A = ℕ} (cond (not a) 1 (cond (not b) 2 (cond (not c) 3 0))) 0 → Entered fits o state
+    by true true true p q r z = record { sizes = p; orders = q; formed = r }
+    by true true false p q r z = absurd (omega arith)
+    by true false c p q r z = absurd (omega arith)
     by false b c p q r z = absurd (omega arith)
-
-pub reading-numbered : (q : Request) → numbered (readingPart q) ≡ true
-unfolding readingPart coveringPart
-reading-numbered q = refl
-
--- none of them frees a record
-pub reading-ten : (q : Request) → lacks 10 (readingPart q) ≡ true
-unfolding readingPart coveringPart
-reading-ten q = refl
-
-pub reading-thirteen : (q : Request) → lacks 13 (readingPart q) ≡ true
-unfolding readingPart coveringPart
-reading-thirteen q = refl
-
-pub vouching-numbered : (q : Request) → numbered (vouchingPart q) ≡ true
-unfolding tokenPart signaturePart
-vouching-numbered q = refl
 
 pub offer-numbered : (s : Setup) → numbered (offerPart s) ≡ true
 unfolding offerPart lastingPart
 offer-numbered s = refl
 
 -- an answer holds a call's number and its reply's length
-pub answered : (n l : ℕ) (reply table : List ℕ) → n < 256
-    → outcome (n + 256 * l) reply table ≡ record { number = n; length = l; reply = reply; table = table }
-answered n l reply table h = ap₂ (λ (m k : ℕ). record { number = m; length = k; reply = reply; table = table }) (omega arith) (omega arith)
+pub answered : (n l : ℕ) (reply : List ℕ) (state : State) → n < 256
+    → outcome (n + 256 * l) reply state ≡ record { number = n; length = l; reply = reply; state = state }
+answered n l reply state h = ap₂ (λ (m k : ℕ). record { number = m; length = k; reply = reply; state = state }) (omega arith) (omega arith)
 
-pub answer-is : (answer n l : ℕ) (reply table : List ℕ) → answer ≡ n + 256 * l → n < 256
-    → outcome answer reply table ≡ record { number = n; length = l; reply = reply; table = table }
-answer-is answer n l reply table e h = rw e (answered n l reply table h)
+pub answer-is : (answer n l : ℕ) (reply : List ℕ) (state : State) → answer ≡ n + 256 * l → n < 256
+    → outcome answer reply state ≡ record { number = n; length = l; reply = reply; state = state }
+answer-is answer n l reply state e h = rw e (answered n l reply state h)

@@ -1,8 +1,9 @@
 -- `gate_judge` meets its contract.
 use mathlib.Core.Path.{_∙_}
 use borrow.Author.Needs.{needs}
-use Rattle.gate.specs.Calls.{Request, ordersOf, requestOf}
-use Rattle.gate.proofs.Stages.{decided-small, applied-judged}
+use Rattle.stages.specs.Request.{Request, requestOf}
+use Rattle.orders.specs.Orders.{ordersOf}
+use Rattle.gate.proofs.Judging.{decided-small, applied-judged}
 use Rattle.gate.proofs.gate_judge.Statement.{statement}
 use Rattle.gate.proofs.gate_judge.Tie as tie
 

@@ -49,8 +49,9 @@ use Rattle.table.specs.Record.{recordBytes}
 use Rattle.table.proofs.session.Record as T
 use Rattle.table.proofs.session.Record.Laws as T′
 use Rattle.gate.specs.declared.one.Judged.{Judged}
-use Rattle.gate.specs.Calls.{ordersOf, requestOf}
-use Rattle.gate.specs.Outcome.{outcome}
+use Rattle.orders.specs.Orders.{ordersOf}
+use Rattle.stages.specs.Request.{requestOf}
+use Rattle.gate.specs.State.{outcome}
 use Rattle.gate.specs.Judge.{judged}
 use Rattle.gate.proofs.one.Judged as J
 use Rattle.gate.proofs.one.Judged.Laws as J′

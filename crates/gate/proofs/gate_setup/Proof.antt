@@ -4,7 +4,8 @@ use mathlib.Core.Path.{_∙_}
 use borrow.Author.Needs.{needs}
 use Rattle.orders.proofs.Orders.{good-mask, good-extra}
 use Rattle.names.proofs.Extra.{short-extra}
-use Rattle.gate.specs.Calls.{Setup, ordersOf, setupOf}
+use Rattle.gate.specs.Calls.{Setup, setupOf}
+use Rattle.orders.specs.Orders.{ordersOf}
 use Rattle.gate.specs.Starts.{Starts}
 use Rattle.gate.proofs.Starting.{lent, opened, starts, refuses}
 use Rattle.gate.proofs.gate_setup.Statement.{statement}

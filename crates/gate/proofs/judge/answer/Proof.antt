@@ -6,9 +6,9 @@ use borrow.Author.Needs.{needs}
 use lib.ListN.{length, take, length-take}
 use Rattle.reply.specs.Replies.{invalidation}
 use Rattle.reply.proofs.Lengths.{length-invalidation}
-use Rattle.gate.specs.Stages.{tells}
+use Rattle.stages.specs.Stages.{tells}
 use Rattle.gate.proofs.Numbers.{answer-is}
-use Rattle.gate.proofs.Stages.{told, answered-zero, answered-freed, answered-kept}
+use Rattle.gate.proofs.Judging.{told, answered-zero, answered-freed, answered-kept}
 use Rattle.gate.proofs.judge.answer.Statement.{statement}
 use Rattle.gate.proofs.judge.answer.Tie as tie
 

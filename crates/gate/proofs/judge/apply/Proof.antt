@@ -2,7 +2,7 @@
 -- Assumes nothing.
 use mathlib.Core.Path.{sym, _∙_}
 use borrow.Author.Needs.{needs}
-use Rattle.gate.proofs.Stages.{table-stepped, table-freed, table-kept}
+use Rattle.gate.proofs.Judging.{table-stepped, table-freed, table-kept}
 use Rattle.gate.proofs.judge.apply.Statement.{statement}
 use Rattle.gate.proofs.judge.apply.Tie as tie
 

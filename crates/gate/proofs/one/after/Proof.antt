@@ -12,9 +12,9 @@ use Rattle.table.specs.declared.place.Place.the-variants.{At, Nowhere}
 use Rattle.table.specs.Record.{freed, recordBytes}
 use Rattle.table.specs.Table.{Within}
 use Rattle.table.proofs.Single.{single-stored}
-use Rattle.gate.specs.Checks.{nowhere}
-use Rattle.gate.specs.Session.{with-record}
-use Rattle.gate.proofs.Stages.{table-nowhere, table-stepped, table-freed, table-kept}
+use Rattle.stages.specs.Checks.{nowhere}
+use Rattle.stages.specs.Session.{with-record}
+use Rattle.gate.proofs.Judging.{table-nowhere, table-stepped, table-freed, table-kept}
 use Rattle.gate.proofs.one.after.Statement.{statement}
 use Rattle.gate.proofs.one.after.Tie as tie
 

@@ -4,8 +4,9 @@ use mathlib.Core.Path.{_∙_}
 use borrow.Author.Needs.{needs}
 use Rattle.table.specs.Record.{Fits}
 use Rattle.table.proofs.Single.{one-place}
-use Rattle.gate.specs.Calls.{Request, ordersOf, requestOf}
-use Rattle.gate.proofs.Stages.{decided-small, applied-judged}
+use Rattle.stages.specs.Request.{Request, requestOf}
+use Rattle.orders.specs.Orders.{ordersOf}
+use Rattle.gate.proofs.Judging.{decided-small, applied-judged}
 use Rattle.gate.proofs.one.judge.Statement.{statement}
 use Rattle.gate.proofs.one.judge.Tie as tie
 

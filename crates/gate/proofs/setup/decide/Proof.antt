@@ -7,7 +7,8 @@ use borrow.Author.Needs.{needs}
 use borrow.Author.Tests.{not-true, not-false}
 use Rattle.orders.specs.declared.Limits.{Limits}
 use Rattle.orders.proofs.Orders.{checked-good, checked-bad}
-use Rattle.gate.specs.Calls.{Setup, ordersOf, setupOf}
+use Rattle.gate.specs.Calls.{Setup, setupOf}
+use Rattle.orders.specs.Orders.{ordersOf}
 use Rattle.gate.specs.Setup.{expiryOf}
 use Rattle.gate.specs.Sizes.{setupFits}
 use Rattle.gate.proofs.Starting.{wellOrdered, lifeOf, Opened, lent, ill-fitting, ill-ordered, ill-formed, offer-refuses, room-decides}

@@ -9,13 +9,13 @@ use borrow.Author.Needs.{needs}
 use borrow.Author.Tests.{not-true, not-false}
 use Rattle.window.specs.declared.Stepped.{Stepped}
 use Rattle.window.specs.declared.Verdict.the-variants.{Accepted, TooOld, Seen}
-use Rattle.gate.specs.Calls.{Request}
-use Rattle.gate.specs.Checks.{nowhere}
-use Rattle.gate.specs.Judge.{ordered, stepped, sessionPart}
-use Rattle.gate.specs.Stages.{StandsAt, Asks}
-use Rattle.gate.proofs.Stages.{InTime, stepped-held, next-held, turned-away, window-first, unordered-first}
-use Rattle.gate.proofs.admitting.admit.Statement.{statement}
-use Rattle.gate.proofs.admitting.admit.Tie as tie
+use Rattle.stages.specs.Request.{Request}
+use Rattle.stages.specs.Checks.{nowhere}
+use Rattle.stages.specs.Parts.{ordered, stepped, sessionPart}
+use Rattle.stages.specs.Stages.{StandsAt, Asks}
+use Rattle.stages.proofs.Stages.{InTime, stepped-held, next-held, turned-away, window-first, unordered-first}
+use Rattle.stages.proofs.admitting.admit.Statement.{statement}
+use Rattle.stages.proofs.admitting.admit.Tie as tie
 
 returns : tie.Need-returns
 unfolding sessionPart
@@ -27,7 +27,7 @@ unfolding sessionPart
 returns-2 c q table s a =
     let there = ap nowhere (c .before .before .before .enum-told .given .1) in
     let idle = sym (c .before .before .idle .ensures) ∙ c .before .if1 .taken in
-    turned-away q table _ 13 (c .as-it-was2 .ensures) (omega arith) (simp (s .at, a .t, a .lt, a .idle, there, idle))
+    turned-away q table _ 13 (c .as-it-was2 .ensures) (omega arith) (simp (s .at, a .t, a .lt, a .within, there, idle))
 
 returns-3 : tie.Need-returns-3
 unfolding sessionPart
@@ -35,7 +35,7 @@ returns-3 c q table s a =
     let there = ap nowhere (c .before .before .before .before .before .enum-told .given .1) in
     let active = sym (c .before .before .before .before .idle .ensures) ∙ c .before .before .before .if1 .left in
     let old = sym (c .before .before .too-old .ensures) ∙ c .before .if2 .taken in
-    turned-away q table _ 14 (c .as-it-was3 .ensures) (omega arith) (simp (s .at, a .clock, a .t, a .lt, a .life, a .idle, there, active, old))
+    turned-away q table _ 14 (c .as-it-was3 .ensures) (omega arith) (simp (s .at, a .clock, a .t, a .lt, a .within, there, active, old))
 
 abbrev stands : tie.Start → Request → List ℕ → Type 0
 stands c q table = StandsAt q table (c .args .place) (c .args .held)
@@ -43,13 +43,13 @@ stands c q table = StandsAt q table (c .args .place) (c .args .held)
 abbrev asked : tie.Start → Request → Type 0
 asked c q =
     let a = c .args in
-    Asks q (a .clock .0) (a .t .0) (a .lt .0) (a .life) (a .idle) (a .ordered) (a .n .0)
+    Asks q (a .clock .0) (a .t .0) (a .lt .0) (a .limits) (a .ordered) (a .n .0)
 
 in-time : (c : tie.Else2) (q : Request) (table : List ℕ) → stands (c .before .before .before .before .before .before) q table → asked (c .before .before .before .before .before .before) q → InTime q table
 in-time c q table s a = record {
   there = rw (s .at) (ap nowhere (c .before .before .before .before .enum-told .given .1));
-  active = rw (a .t, a .lt, a .idle) (sym (c .before .before .before .idle .ensures) ∙ c .before .before .if1 .left);
-  young = rw (a .t, a .life, a .clock) (sym (c .before .too-old .ensures) ∙ c .if2 .left);
+  active = rw (a .t, a .lt, a .within) (sym (c .before .before .before .idle .ensures) ∙ c .before .before .if1 .left);
+  young = rw (a .t, a .within, a .clock) (sym (c .before .too-old .ensures) ∙ c .if2 .left);
 }
 
 returns-4 : tie.Need-returns-4

@@ -2,17 +2,17 @@
 -- Assumes nothing.
 use borrow.Author.Needs.{needs}
 use borrow.Author.Tests.{not-true, not-false}
-use Rattle.gate.specs.Judge.{fieldsOf, twice, coveringPart}
-use Rattle.gate.proofs.reading.compare.Statement.{statement}
-use Rattle.gate.proofs.reading.compare.Tie as tie
+use Rattle.stages.specs.Parts.{fieldsOf, twice, coveringPart}
+use Rattle.stages.proofs.reading.compare.Statement.{statement}
+use Rattle.stages.proofs.reading.compare.Tie as tie
 
 returns : tie.Need-returns
 unfolding coveringPart
-returns c _ _ _ _ _ _ _ _ = simp (← (c .before .before .good2 .ensures), ← (c .before .good3 .ensures), c .if1 .taken)
+returns c _ _ _ _ _ = simp (← (c .before .before .good2 .ensures), ← (c .before .good3 .ensures), c .if1 .taken)
 
 returns-2 : tie.Need-returns-2
 unfolding coveringPart twice
-returns-2 c _ _ _ _ _ _ _ _ =
+returns-2 c _ _ _ _ _ =
     let lines = c .before .before .before in
     simp (
       ← (lines .before .before .good2 .ensures),
@@ -25,7 +25,7 @@ returns-2 c _ _ _ _ _ _ _ _ =
 
 returns-3 : tie.Need-returns-3
 unfolding coveringPart twice fieldsOf
-returns-3 c _ _ _ _ _ _ _ _ =
+returns-3 c _ _ _ _ _ =
     let names = c .before .before in
     let lines = names .before .before .before in
     simp (
@@ -41,7 +41,7 @@ returns-3 c _ _ _ _ _ _ _ _ =
 
 returns-4 : tie.Need-returns-4
 unfolding coveringPart twice fieldsOf
-returns-4 c _ _ _ _ _ _ _ _ =
+returns-4 c _ _ _ _ _ =
     let names = c .before .before in
     let lines = names .before .before .before in
     simp (

@@ -4,9 +4,9 @@ use native.Mathlib.Omega.{arith}
 use borrow.Author.Needs.{needs}
 use borrow.Author.Tests.{not-true, not-false}
 use lib.ListN.{length, length-take}
-use Rattle.gate.proofs.Stages.{unopened, lapsed, unsigned, vouched}
-use Rattle.gate.proofs.vouching.vouch.Statement.{statement}
-use Rattle.gate.proofs.vouching.vouch.Tie as tie
+use Rattle.stages.proofs.Stages.{unopened, lapsed, unsigned, vouched}
+use Rattle.stages.proofs.vouching.vouch.Statement.{statement}
+use Rattle.stages.proofs.vouching.vouch.Tie as tie
 
 array-share-prefix-s : tie.Need-array-share-prefix-s
 array-share-prefix-s c =
@@ -34,24 +34,24 @@ code-requires c κs =
     (omega arith, pre .0, pre .3, pre .4, pre .5, pre .6)
 
 returns : tie.Need-returns
-returns c life idle session value reply h =
+returns c value reply h =
     let u = c .before .before .unseal in
     unopened _ _ h (u .result) (u .ensures) (not-true (u .result .good) (c .if1 .taken))
 
 returns-2 : tie.Need-returns-2
-returns-2 c life idle session value reply h =
+returns-2 c value reply h =
     let u = c .before .before .before .before .unseal in
     lapsed _ _ h (u .result) (u .ensures) (not-false (u .result .good) (c .before .before .if1 .left)) (c .if2 .taken)
 
 returns-3 : tie.Need-returns-3
-returns-3 c life idle session value reply h =
+returns-3 c value reply h =
     let u = c .before .before .before .before .before .before .before .before .before .before .unseal in
     let good = not-false (u .result .good) (c .before .before .before .before .before .before .before .before .if1 .left) in
     unsigned _ _ h (u .result) (u .ensures) good (c .before .before .before .before .before .before .if2 .left) _ (c .before .before .before .code .ensures)
     (sym (c .before .same-code .ensures) ∙ not-true (c .before .same-code .result) (c .if3 .taken))
 
 returns-4 : tie.Need-returns-4
-returns-4 c life idle session value reply h =
+returns-4 c value reply h =
     let u = c .before .before .before .before .before .before .before .before .before .before .unseal in
     let good = not-false (u .result .good) (c .before .before .before .before .before .before .before .before .if1 .left) in
     vouched _ _ h (u .result) (u .ensures) good (c .before .before .before .before .before .before .if2 .left) _ (c .before .before .before .code .ensures)

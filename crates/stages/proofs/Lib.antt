@@ -1,0 +1,4 @@
+-- The laws that callers' proofs cite, and those of this crate's own functions.
+pub mod Checks
+pub mod Parts
+pub mod Stages

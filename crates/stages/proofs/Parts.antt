@@ -1,0 +1,24 @@
+-- The numbers of the parts of a request's checks.
+-- Assumes nothing.
+use mathlib.Core.Path.{_≡_, refl}
+use mathlib.Core.Bool.{true}
+use Rattle.stages.specs.Request.{Request}
+use Rattle.stages.specs.Parts.{readingPart, coveringPart, tokenPart, signaturePart, vouchingPart}
+use Rattle.stages.proofs.Checks.{numbered, lacks}
+
+pub reading-numbered : (q : Request) → numbered (readingPart q) ≡ true
+unfolding readingPart coveringPart
+reading-numbered q = refl
+
+-- none of them frees a record
+pub reading-ten : (q : Request) → lacks 10 (readingPart q) ≡ true
+unfolding readingPart coveringPart
+reading-ten q = refl
+
+pub reading-thirteen : (q : Request) → lacks 13 (readingPart q) ≡ true
+unfolding readingPart coveringPart
+reading-thirteen q = refl
+
+pub vouching-numbered : (q : Request) → numbered (vouchingPart q) ≡ true
+unfolding tokenPart signaturePart
+vouching-numbered q = refl

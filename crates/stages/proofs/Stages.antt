@@ -1,0 +1,179 @@
+-- How the stages' answers make up the parts of a request's checks.
+-- Assumes nothing.
+use mathlib.Core.Path.{_≡_, refl, sym, ap, subst, _∙_}
+use mathlib.Core.Bool.{Bool, true, false, true≢false, cond, not}
+use mathlib.Core.List.{List, []}
+use mathlib.Core.Option.{Option, none, some, Option·getD}
+use Prim.Native.Nat.{ℕ, _≤_, _<_}
+use native.Mathlib.Omega.{arith}
+use borrow.Author.Tests.{le-leb, lt-leb}
+use lib.ListN.{take}
+use Rattle.cells.specs.Runs.{same}
+use Rattle.hmac.specs.Hmac.{hmacSha512}
+use Rattle.armor.specs.declared.Answer.{Answer}
+use Rattle.armor.specs.declared.Request.{Request as ArmorRequest}
+use Rattle.armor.specs.Value.{Field, grammar, carried}
+use Rattle.armor.specs.Fields.{requestFields}
+use Rattle.armor.specs.Answers.{answerNumber, requestFrom, requestAnswer, Holds}
+use Rattle.signed.specs.SignedText.{requestText}
+use Rattle.table.specs.declared.session.Record.{Record}
+use Rattle.table.specs.declared.place.Place.{Place}
+use Rattle.table.specs.Record.{windowOf, withWindow}
+use Rattle.token.specs.Token.{Token, openedToken}
+use Rattle.token.specs.Held.{IsToken, Unseals}
+use Rattle.token.specs.declared.Unsealed.{Unsealed}
+use Rattle.window.specs.declared.Window.{Window}
+use Rattle.window.specs.declared.Stepped.{Stepped}
+use Rattle.window.specs.declared.Verdict.{Verdict}
+use Rattle.window.specs.declared.Verdict.the-variants.{Accepted, TooOld, Seen}
+use Rattle.window.specs.Time.{exceeds}
+use Rattle.window.specs.Window.{numberOf, stepOf}
+use Rattle.stages.specs.declared.vouching.Vouched.{Vouched}
+use Rattle.stages.specs.declared.admitting.Admitted.{Admitted}
+use Rattle.stages.specs.declared.settling.Decision.{Decision}
+use Rattle.stages.specs.Request.{Request}
+use Rattle.stages.specs.Checks.{first, missing, nowhere}
+use Rattle.stages.specs.Session.{placeOf, heldAt}
+use Rattle.stages.specs.Parts.{fieldsOf, ivOf, nonceOf, timeOf, lastTimeOf, signatureOf, openedOf, tokenOf, limits, textOf, codeOf, ordered, stepped, nextOf, tokenPart, signaturePart, vouchingPart, sessionPart, noncePart, admittingPart}
+use Rattle.stages.specs.Stages.{tells, decisionOf, About, Vouches, StandsAt, Admits, Settles}
+use Rattle.stages.proofs.Checks.{passed-by, stopped-by}
+use Rattle.stages.proofs.Parts.{vouching-numbered}
+
+-- what reading a value says of its grammar and its fields
+pub grammar-broken : (v : List ℕ) → requestAnswer v ≡ Answer.Grammar → missing (grammar v) ≡ true
+unfolding requestAnswer
+grammar-broken v e = by (grammar v) e
+  where
+    fields : (b : Bool) → answerNumber (cond b Answer.Good Answer.Fields) ≡ 4 → ⊥
+    fields true z = omega arith
+    fields false z = omega arith
+
+    by : (o : Option (List Field)) → requestFrom o ≡ Answer.Grammar → missing o ≡ true
+    by none z = refl
+    by (some fs) z = absurd (fields (requestFields fs) (ap answerNumber z))
+
+pub record Complete (v : List ℕ) (right : Bool) : Type 0 where
+  pub grammar : missing (grammar v) ≡ false
+  pub fields : requestFields (carried v) ≡ right
+
+abbrev answerFor : Bool → Answer
+answerFor true = Answer.Good
+answerFor false = Answer.Fields
+
+pub fields-told : (v : List ℕ) (right : Bool) → requestAnswer v ≡ answerFor right → Complete v right
+unfolding requestAnswer carried
+fields-told v right e = record { grammar = there (grammar v) right e; fields = rightly (grammar v) right e }
+  where
+    clash : (b : Bool) → answerNumber (answerFor b) ≡ 4 → ⊥
+    clash true z = omega arith
+    clash false z = omega arith
+
+    there : (o : Option (List Field)) (b : Bool) → requestFrom o ≡ answerFor b → missing o ≡ false
+    there none b z = absurd (clash b (sym (ap answerNumber z)))
+    there (some fs) b z = refl
+
+    same-side : (a b : Bool) → answerNumber (cond a Answer.Good Answer.Fields) ≡ answerNumber (answerFor b) → a ≡ b
+    same-side true true z = refl
+    same-side true false z = absurd (omega arith)
+    same-side false true z = absurd (omega arith)
+    same-side false false z = refl
+
+    rightly : (o : Option (List Field)) (b : Bool) → requestFrom o ≡ answerFor b → requestFields (Option·getD o []) ≡ b
+    rightly none b z = absurd (clash b (sym (ap answerNumber z)))
+    rightly (some fs) b z = same-side (requestFields fs) b (ap answerNumber z)
+
+-- what the token and the signature come to, of a request that was read and whose token was unsealed
+module _ (q : Request) (r : ArmorRequest) (h : Holds (q .value) (carried (q .value)) r) (u : Unsealed)
+    (told : Unseals (openedToken (q .server-key) (r .iv) (take (r .«s_len») (r .s)) (r .tag)) u) where
+  opens : Unseals (openedOf q) u
+  unfolding openedOf ivOf fieldsOf
+  opens = rw (← (h .token), ← (h .vector), ← (h .tag)) told
+
+  pub unopened : u .good ≡ false → Vouches q (record { number = 9; token = u })
+  unfolding tokenPart
+  unopened z = record { is = simp (sym (opens .is) ∙ z); holds = λ n. absurd (n refl) }
+
+  module _ (good : u .good ≡ true) where
+    held : IsToken (tokenOf q) u
+    unfolding tokenOf
+    held = opens .holds good
+
+    pub lapsed : u .expiry .0 ≤ q .clock → Vouches q (record { number = 10; token = u })
+    unfolding tokenPart
+    lapsed late =
+        record { is = simp (sym (opens .is) ∙ good, ← (held .expiry), le-leb (u .expiry .0) (q .clock) late); holds = λ z. held }
+
+    module _ (lasts : q .clock < u .expiry .0) (code : List ℕ)
+        (made : code ≡ hmacSha512 (u .key) (requestText (q .orders .numbers .mask) (q .orders .extra) (r .n .0) (r .t .0) (r .lt .0) (q .aside) (q .head) (q .path) (q .body))) where
+      compared : first (vouchingPart q) ≡ cond (not (same (r .c) code)) 11 0
+      unfolding tokenPart signaturePart signatureOf codeOf textOf nonceOf timeOf lastTimeOf fieldsOf
+      compared =
+          simp (sym (opens .is) ∙ good, ← (held .expiry), lt-leb (u .expiry .0) (q .clock) lasts, ← (held .key), ← (h .signature), ← (h .nonce), ← (h .time), ← (h .last-time), ← made)
+
+      pub unsigned : same (r .c) code ≡ false → Vouches q (record { number = 11; token = u })
+      unsigned z = record { is = sym (compared ∙ simp z); holds = λ n. held }
+
+      pub vouched : same (r .c) code ≡ true → Vouches q (record { number = 0; token = u })
+      vouched z = record { is = sym (compared ∙ simp z); holds = λ n. held }
+
+module _ (q : Request) (table : List ℕ) where
+  -- the window's answer in a session that is there, and its record after it
+  module _ (place : Place) (held : Record) (s : StandsAt q table place held) (there : nowhere place ≡ false) where
+    held-there : held ≡ heldAt table (placeOf table (ivOf q))
+    held-there = sym (s .holds there) ∙ ap (heldAt table) (sym (s .at))
+
+    pub stepped-held : (n : ℕ) (w : Window) (answer : Stepped) → nonceOf q ≡ n → w ≡ windowOf held → answer ≡ stepOf w n → answer ≡ stepped q table
+    unfolding stepped
+    stepped-held n w answer nonce window step = rw (nonce, ← held-there, ← window) step
+
+    pub next-held : (answer : Stepped) (w : Window) (next : Record) → answer ≡ stepped q table → w ≡ answer .window → next ≡ withWindow held w → next ≡ nextOf q table
+    unfolding nextOf
+    next-held answer w next a b c = rw (← a, ← b, ← held-there) c
+
+  -- a session that is there, neither idle nor asked too late
+  pub record InTime : Type 0 where
+    pub there : nowhere (placeOf table (ivOf q)) ≡ false
+    pub active : exceeds (timeOf q) (lastTimeOf q) (limits q .idle) ≡ false
+    pub young : exceeds (q .clock) (timeOf q) (limits q .«request_life») ≡ false
+
+  pub turned-away : (r : Admitted) (k : ℕ) → r .number ≡ k → 1 ≤ k → first (admittingPart q table) ≡ k → Admits q table r
+  turned-away r k e least f = record { is = e ∙ sym f; next = λ z o. absurd (omega (arith, e)) }
+
+  pub window-first : InTime → ordered q ≡ true → (v : Verdict) → stepped q table .verdict ≡ v → first (admittingPart q table) ≡ numberOf v
+  unfolding sessionPart noncePart
+  window-first i o Accepted e = simp (i .there, i .active, i .young, o, e)
+  window-first i o TooOld e = simp (i .there, i .active, i .young, o, e)
+  window-first i o Seen e = simp (i .there, i .active, i .young, o, e)
+
+  pub unordered-first : InTime → ordered q ≡ false → first (admittingPart q table) ≡ 0
+  unfolding sessionPart noncePart
+  unordered-first i o = simp (i .there, i .active, i .young, o)
+
+tells-nine : (n : ℕ) → tells n ≡ true → n ≡ 9 → ⊥
+tells-nine n t e = true≢false (sym t ∙ ap tells e)
+
+about-token : (token : Token) (u : Unsealed) (number : ℕ) (place : Place) (nonces : Bool) (next : Record) → IsToken token u
+    → About token (decisionOf number place u nonces next)
+about-token token u number place nonces next h = record { key = h .key; id = h .id; id-size = h .id-size; id-fits = h .id-fits }
+
+module _ (q : Request) (table : List ℕ) (place : Place) (held : Record) (s : StandsAt q table place held) (v : Vouched) (h : Vouches q v) (d : Decision) where
+  -- a request that the token or the signature does not vouch for
+  pub settled-away : (v .number ≡ 0 → ⊥) → d ≡ decisionOf (v .number) place (v .token) false held → Settles q table d
+  settled-away z e = subst (Settles q table) (sym e) (record {
+    is = h .is ∙ sym (stopped-by (vouchingPart q) (admittingPart q table) (vouching-numbered q) (λ o. z (h .is ∙ o)));
+    knows = λ t. about-token _ (v .token) (v .number) place false held (h .holds (tells-nine (v .number) t));
+    at = sym (s .at);
+    orders = λ n. absurd (z n);
+    next = λ n o. absurd (z n);
+  })
+
+  -- one that they vouch for is as its session admits it
+  pub settled-here : (a : Admitted) → v .number ≡ 0 → Admits q table a → d ≡ decisionOf (a .number) place (v .token) (ordered q) (a .next)
+      → Settles q table d
+  settled-here a z g e = subst (Settles q table) (sym e) (record {
+    is = g .is ∙ sym (passed-by (vouchingPart q) (admittingPart q table) (vouching-numbered q) (sym (h .is) ∙ z));
+    knows = λ t. about-token _ (v .token) (a .number) place (ordered q) (a .next) (h .holds (λ n. omega arith));
+    at = sym (s .at);
+    orders = λ n. refl;
+    next = g .next;
+  })
