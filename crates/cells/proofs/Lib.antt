@@ -3,5 +3,5 @@ pub mod Runs
 pub mod Laid
 pub mod Spans
 pub mod Numbers
-pub mod Numerals
+pub mod Digits
 pub mod Equality

@@ -9,7 +9,7 @@ use native.Mathlib.Omega.{arith}
 use lib.ListN.{length, getD, take}
 use lib.Seq.{take-suc}
 use Rattle.cells.specs.Decimal.{decimal, valueAfter}
-use Rattle.cells.proofs.Numerals.{value-append, value-decimal}
+use Rattle.cells.proofs.Digits.{value-append, value-decimal}
 
 pub one-more : (digits : List ℕ) (i v : ℕ) → i < length digits → v ≡ valueAfter 0 (take i digits)
     → v * 10 + (getD digits i 0 - 48) ≡ valueAfter 0 (take (i + 1) digits)

@@ -10,7 +10,7 @@ use Rattle.cells.specs.Runs.{spliced}
 use Rattle.cells.proofs.Runs.{joined}
 use Rattle.cells.specs.Decimal.{decimal}
 use Rattle.netstring.specs.Netstring.{netstring, netstrings}
-use Rattle.cells.proofs.Numerals.{decimal-length}
+use Rattle.cells.proofs.Digits.{decimal-length}
 use Rattle.netstring.proofs.Laid.{length-netstring}
 use Rattle.token.specs.Token.{Token, tokenText}
 
