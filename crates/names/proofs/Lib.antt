@@ -1,6 +1,6 @@
 -- The laws that callers' proofs cite, and those of this crate's own functions.
 pub mod Same
 pub mod Walk
-pub mod Extra
+pub mod Sizes
 pub mod Joined
 pub mod Tokens

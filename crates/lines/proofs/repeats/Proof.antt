@@ -16,19 +16,18 @@ use Rattle.lines.proofs.repeats.Tie as tie
 returns : tie.Need-returns
 returns c =
     let first = c .before .before in
-    let args = first .before .before .before .before .before .args in
+    let start = first .before .before .before .before in
+    let args = start .args in
     let ls = linesIn (args .block .now) in
     ap₂ _||_ (first .repeats-in .ensures) (c .repeats-in2 .ensures ∙ ap (λ (ns : List (List ℕ)). repeated ns ls) (c .before .extra-bits .ensures))
     ∙ sym
-    (ap (λ (ns : List (List ℕ)). repeated ns ls) (covered-names (args .mask) (args .extra .now) _ (first .before .before .names .ensures))
+    (ap (λ (ns : List (List ℕ)). repeated ns ls) (covered-names (args .mask) (args .extra .now) _ (start .pre .0))
     ∙ repeated-append _ (extraNames (args .extra .now)) ls)
 
 pub repeats-spec : {M : Type 1} → statement M
 repeats-spec =
     tie.close
     (tie.spec
-    (λ c κs. search needs)
-    (λ c. search needs)
     (λ c κs. search needs)
     (λ c κs. search needs)
     (λ c κs. search needs)

@@ -10,7 +10,7 @@ unfolding checkedOrders ordersGood limitsOf
 returns c =
     let good = c .before .before .before in
     simp (
-      ← (good .before .good-extra .ensures),
+      ← (good .before .before .good-extra .ensures),
       good .if1 .taken,
       c .before .before .or-default .ensures,
       c .before .or-default2 .ensures,
@@ -19,7 +19,7 @@ returns c =
 
 returns-2 : tie.Need-returns-2
 unfolding checkedOrders ordersGood
-returns-2 c = simp (← (c .before .good-extra .ensures), c .if1 .left)
+returns-2 c = simp (← (c .before .before .good-extra .ensures), c .if1 .left)
 
 pub check-spec : {M : Type 1} → statement M
 check-spec =

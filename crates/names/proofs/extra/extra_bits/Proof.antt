@@ -4,7 +4,7 @@ use mathlib.Core.Path.{sym, ap, _∙_}
 use Rattle.names.specs.Extra.{extraNames}
 use Rattle.names.specs.Covered.{chosen}
 use Rattle.names.proofs.Walk.{names-start, chosen-none, chosen-all, extra-none, extra-some}
-use Rattle.names.proofs.Extra.{few-names}
+use Rattle.names.proofs.Sizes.{few-names}
 use Rattle.names.proofs.extra.extra_bits.Statement.{statement}
 use Rattle.names.proofs.extra.extra_bits.Tie as tie
 

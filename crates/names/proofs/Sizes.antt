@@ -1,4 +1,4 @@
--- Laws of good extra names.
+-- Good extra names are short and few.
 -- Assumes nothing.
 use mathlib.Core.Path.{_≡_}
 use mathlib.Core.List.{List}
