@@ -7,7 +7,7 @@ use mathlib.Core.Path.{_≡_, refl, sym, ap, _∙_}
 use mathlib.Core.List.{List, []}
 use Prim.Native.Nat.{ℕ, _+_, _*_, _/_, _%_}
 use native.Mathlib.Omega.{arith}
-use Rattle.cells.proofs.Decimal.{decimal-injective}
+use Rattle.cells.proofs.Digits.{decimal-injective}
 use Rattle.names.specs.Walk.{Known}
 use Rattle.table.specs.declared.place.Place.the-variants as Place
 use Rattle.table.specs.declared.session.Record.{Record}

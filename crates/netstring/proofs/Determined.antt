@@ -8,7 +8,7 @@ use lib.ListN.{length, take, drop}
 use lib.Seq.{take-append-seam, drop-append-seam}
 use Rattle.cells.specs.Decimal.{decimal}
 use Rattle.netstring.specs.Netstring.{colon, comma, netstring, netstrings}
-use Rattle.cells.proofs.Decimal.{Digits, one, _then_, decimal-digits, decimal-injective}
+use Rattle.cells.proofs.Digits.{Digits, one, _then_, decimal-digits, decimal-injective}
 
 heads : {x y : ℕ} {xs ys : List ℕ} → x ∷ xs ≡ y ∷ ys → x ≡ y
 heads e = cc

@@ -12,7 +12,7 @@ use lib.Seq.{take-append-le, take-append-seam, getD-take, getD-drop, getD-append
 use Rattle.cells.specs.Decimal.{decimal, valueAfter}
 use Rattle.netstring.specs.Netstring.{colon}
 use Rattle.netstring.specs.Reading.{ReadSo, LengthAt, NoLength}
-use Rattle.cells.proofs.Decimal.{decimal-small, decimal-more, value-append, value-decimal, decimal-digits, digit-at, decimal-injective, decimal-some, decimal-lead}
+use Rattle.cells.proofs.Digits.{decimal-small, decimal-more, value-append, value-decimal, decimal-digits, digit-at, decimal-injective, decimal-some, decimal-lead}
 
 -- more digits make no smaller number, and one more makes it ten times as large at least
 value-grows : (v : ℕ) (ds : List ℕ) → v ≤ valueAfter v ds

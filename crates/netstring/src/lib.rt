@@ -12,12 +12,12 @@ pub use reading::Part;
 pub use reading::read;
 
 // What stands before the contents, their length in decimal and a colon, at the end of an array: it starts at byte start.
-pub struct Opening {
+pub struct Prefix {
     pub all: [u8; 21],
     pub start: usize,
 }
 
-pub fn opening(size: usize) -> Opening
+pub fn opening(size: usize) -> Prefix
     ensures { λ r. ⌜ Opens size r ⌝ }
 {
     let shown = decimal::digits(size as u64);
@@ -25,7 +25,7 @@ pub fn opening(size: usize) -> Opening
     let start = shown.start;
     let mut all = [58u8; 21];
     cells::put_front(&mut all, &digits);
-    Opening { all, start }
+    Prefix { all, start }
 }
 
 // The netstring of a part, from byte at of the buffer on, and the place after it.

@@ -11,7 +11,7 @@ use lib.ListN.{length}
 use Rattle.hmac.specs.declared.Hmac.{Hmac}
 use Rattle.hmac.specs.Keyed.{Keyed, TookIn}
 use Rattle.netstring.specs.Netstring.{netstring, netstrings}
-use Rattle.cells.proofs.Decimal.{decimal-length}
+use Rattle.cells.proofs.Digits.{decimal-length}
 use Rattle.netstring.proofs.Laid.{length-netstring, took-both}
 use Rattle.armor.specs.Numerals.{numberBytes, maskBytes, hashMask}
 use Rattle.names.specs.Names.{headerNames}

@@ -11,7 +11,7 @@ use Rattle.cells.proofs.Equality.{same-equal, same-self}
 use Rattle.gcm.proofs.Opening.{opened-sealed}
 use Rattle.cells.specs.Decimal.{decimal, valueAfter}
 use Rattle.netstring.specs.Netstring.{netstrings}
-use Rattle.cells.proofs.Decimal.{value-decimal}
+use Rattle.cells.proofs.Digits.{value-decimal}
 use Rattle.token.specs.Token.{Token, fits, tokenText, sealedToken, frontPart, afterPart, candidate, tokenIn, tokenFrom, openedToken}
 use Rattle.token.proofs.Fronts.{front-part, after-part}
 use Rattle.token.proofs.Text.{Sized}

@@ -10,7 +10,7 @@ use lib.ListN.{length, take, drop}
 use lib.Seq.{take-append-seam, drop-append-seam, drop-append-add}
 use Rattle.cells.specs.Decimal.{decimal, valueAfter}
 use Rattle.netstring.specs.Netstring.{colon, comma, netstring}
-use Rattle.cells.proofs.Decimal.{Digits, one, _then_, decimal-digits, value-decimal}
+use Rattle.cells.proofs.Digits.{Digits, one, _then_, decimal-digits, value-decimal}
 use Rattle.netstring.proofs.Determined.{netstring-then}
 use Rattle.token.specs.Token.{beforeColon, frontPart, afterPart}
 

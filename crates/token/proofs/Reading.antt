@@ -17,7 +17,7 @@ use Rattle.netstring.specs.Reading.{PartAt, NoPart}
 use Rattle.netstring.proofs.Determined.{netstrings-determined}
 use Rattle.token.specs.declared.Unsealed.{Unsealed}
 use Rattle.token.specs.Token.{Token, tokenText, tokenIn, tokenFrom, given, theToken}
-use Rattle.token.specs.Held.{Holds, Unseals}
+use Rattle.token.specs.Held.{IsToken, Unseals}
 use Rattle.token.proofs.Text.{Sized}
 use Rattle.token.proofs.Exactly.{fits-means, fits-so, token-found, no-token}
 
@@ -35,8 +35,8 @@ pub unseals-none : {o : Option Token} {r : Unsealed} → o ≡ none → r .good 
 unseals-none e bad = record { is = bad ∙ ap given (sym e); holds = λ good. absurd (false≢true (sym bad ∙ good)) }
 
 -- an answer that holds one
-pub unseals-some : {o : Option Token} {t : Token} {r : Unsealed} → o ≡ some t → r .good ≡ true → Holds t r → Unseals o r
-unseals-some {r = r} e good holds = record { is = good ∙ ap given (sym e); holds = λ _. subst (λ (p : Option Token). Holds (theToken p) r) (sym e) holds }
+pub unseals-some : {o : Option Token} {t : Token} {r : Unsealed} → o ≡ some t → r .good ≡ true → IsToken t r → Unseals o r
+unseals-some {r = r} e good holds = record { is = good ∙ ap given (sym e); holds = λ _. subst (λ (p : Option Token). IsToken (theToken p) r) (sym e) holds }
 
 abbrev parts : Token → List (List ℕ)
 parts t = t .key ∷ t .id ∷ decimal (t .expiry) ∷ []

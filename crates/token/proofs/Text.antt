@@ -1,16 +1,15 @@
--- The three netstrings of a token: how long they are, and how they come to stand in a row.
+-- The three netstrings of a token: how long they are, and where they stand.
 -- Assumes nothing.
-use mathlib.Core.List.{List, [], _∷_, _++_, append-assoc, append-nil}
-use mathlib.Core.Path.{_≡_, sym, ap, _∙_}
+use mathlib.Core.List.{List, [], _∷_, _++_}
+use mathlib.Core.Path.{_≡_, sym}
 use Prim.Native.Nat.{ℕ, _+_, _^_, _≤_, _<_}
 use native.Mathlib.Omega.{arith}
 use lib.ListN.{length, take, drop, length-append}
 use lib.Seq.{take-at}
 use Rattle.cells.specs.Runs.{spliced}
-use Rattle.cells.proofs.Runs.{joined}
 use Rattle.cells.specs.Decimal.{decimal}
 use Rattle.netstring.specs.Netstring.{netstring, netstrings}
-use Rattle.cells.proofs.Decimal.{decimal-length}
+use Rattle.cells.proofs.Digits.{decimal-length}
 use Rattle.netstring.proofs.Laid.{length-netstring}
 use Rattle.token.specs.Token.{Token, tokenText}
 
@@ -21,9 +20,9 @@ pub record Sized (key id : List ℕ) (expiry : ℕ) : Type 0 where
   pub id-fits : length id ≤ 64
   pub in-range : expiry < 2 ^ 32
 
-pub room : (key id : List ℕ) (expiry : ℕ) → Sized key id expiry
+pub short : (key id : List ℕ) (expiry : ℕ) → Sized key id expiry
     → length (netstring key) + length (netstring id) + length (netstring (decimal expiry)) ≤ 118
-room key id expiry s =
+short key id expiry s =
     let digits : length (decimal expiry) ≤ 10 = decimal-length 9 expiry (omega (arith, s .in-range)) in
     omega (
       arith,
@@ -42,7 +41,7 @@ length-three a b c = simp length-append (omega arith)
 pub length-text : (t : Token) → Sized (t .key) (t .id) (t .expiry) → (1 ≤ length (tokenText t)) × (length (tokenText t) ≤ 118)
 unfolding tokenText
 length-text t s =
-    omega (arith, length-three (t .key) (t .id) (decimal (t .expiry)), room (t .key) (t .id) (t .expiry) s, length-netstring (t .key))
+    omega (arith, length-three (t .key) (t .id) (decimal (t .expiry)), short (t .key) (t .id) (t .expiry) s, length-netstring (t .key))
 
 -- what stands at the front of a run
 pub taken-front : (xs ys : List ℕ) (n : ℕ) → n ≡ length ys → take n (spliced xs 0 ys) ≡ ys
@@ -51,14 +50,3 @@ taken-front xs ys n e = take-at ys (drop (length ys) xs) n (sym e)
 
 pub within-front : (xs ys : List ℕ) (n : ℕ) → length xs ≡ n → n ≤ length (xs ++ ys)
 within-front xs ys n e = omega (arith, length-append xs ys)
-
--- written one after the other
-pub laid : (out a b c : List ℕ) (i j : ℕ) → length (netstring a) + length (netstring b) + length (netstring c) ≤ length out
-    → i ≡ 0 + length (netstring a) → j ≡ i + length (netstring b)
-    → spliced (spliced (spliced out 0 (netstring a)) i (netstring b)) j (netstring c) ≡ spliced out 0 (netstrings (a ∷ b ∷ c ∷ []))
-unfolding netstrings
-laid out a b c i j h ei ej =
-    let two : length (netstring a ++ netstring b) ≡ length (netstring a) + length (netstring b) = length-append (netstring a) (netstring b) in
-    ap (λ (l : List ℕ). spliced l j (netstring c)) (joined out (netstring a) (netstring b) 0 i (omega arith) ei)
-    ∙ joined out (netstring a ++ netstring b) (netstring c) 0 j (omega arith) (omega arith)
-    ∙ ap (spliced out 0) (simp (append-assoc, append-nil))

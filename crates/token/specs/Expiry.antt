@@ -9,5 +9,5 @@ use Rattle.token.specs.declared.expiry.Expiry.the-variants as E
 
 -- they are those of a time in decimal, or of none
 abbrev pub ExpiryIs : List ℕ → Expiry → Type 0
-ExpiryIs digits (E.Is n) = (digits ≡ decimal n) × (n < 2 ^ 32)
+ExpiryIs digits (E.Is t) = (digits ≡ decimal (t .0)) × (t .0 < 2 ^ 32)
 ExpiryIs digits E.Bad = (n : ℕ) → n < 2 ^ 32 → digits ≡ decimal n → ⊥

@@ -10,18 +10,19 @@ use Rattle.token.specs.Token.{Token, given, theToken}
 use Rattle.token.specs.declared.Unsealed.{Unsealed}
 use Rattle.token.specs.declared.SealedToken.{SealedToken}
 
-pub record Holds (t : Token) (r : Unsealed) : Type 0 where
+-- the struct is this token
+pub record IsToken (t : Token) (r : Unsealed) : Type 0 where
   pub key : r .key ≡ t .key
   pub id : take (r .«id_len») (r .id) ≡ t .id
   pub id-size : r .«id_len» ≡ length (t .id)
   pub id-some : 1 ≤ r .«id_len»
   pub id-fits : r .«id_len» ≤ 64
-  pub expiry : r .expiry ≡ t .expiry
+  pub expiry : r .expiry .0 ≡ t .expiry
 
 -- what became of opening: whether there is a token, and its parts
 pub record Unseals (o : Option Token) (r : Unsealed) : Type 0 where
   pub is : r .good ≡ given o
-  pub holds : r .good ≡ true → Holds (theToken o) r
+  pub holds : r .good ≡ true → IsToken (theToken o) r
 
 -- a sealed token in its struct
 pub record SealsTo (z : Sealed) (r : SealedToken) : Type 0 where

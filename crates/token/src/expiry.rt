@@ -4,9 +4,11 @@ ghost use Prim.Native.Nat.{_-_, _≤_};
 ghost use lib.ListN.{length};
 ghost use Rattle.cells.specs.Decimal.{valueAfter};
 ghost use Rattle.token.specs.Expiry.{ExpiryIs};
+use cells::decimal;
+use window::time::Time;
 
 pub enum Expiry {
-    Is(u32),
+    Is(Time),
     Bad,
 }
 
@@ -46,11 +48,11 @@ pub fn read(digits: &[u8]) -> Expiry
     if 4294967295 < n {
         return Expiry::Bad;
     }
-    let shown = netstring::digits(n);
+    let shown = decimal::digits(n);
     let all = shown.all;
     let first = shown.start;
     if !cells::same(digits, &all[first..]) {
         return Expiry::Bad;
     }
-    Expiry::Is(n as u32)
+    Expiry::Is(Time(n as u32))
 }

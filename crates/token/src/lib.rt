@@ -4,10 +4,11 @@ ghost use mathlib.Core.Bool.{false};
 ghost use mathlib.Core.List.{[], _∷_};
 ghost use Prim.Native.Nat.{_≤_};
 ghost use lib.ListN.{length};
-ghost use Rattle.cells.specs.Runs.{spliced};
+ghost use Rattle.cells.specs.Laid.{Laid};
 ghost use Rattle.netstring.specs.Netstring.{netstrings};
 ghost use Rattle.token.specs.Token.{tokenText, tokenIn, sealedToken, openedToken};
 ghost use Rattle.token.specs.Held.{Unseals, SealsTo};
+use cells::decimal;
 use netstring::Part;
 use window::time::Time;
 
@@ -21,7 +22,7 @@ pub struct Unsealed {
     pub key: [u8; 32],
     pub id: [u8; 64],
     pub id_len: usize,
-    pub expiry: u32,
+    pub expiry: Time,
 }
 
 pub struct SealedToken {
@@ -31,11 +32,11 @@ pub struct SealedToken {
 }
 
 // The text of a token at the front of out, and its length.
-fn lay(key: &[u8], id: &[u8], expiry: u32, out: &mut [u8]) -> usize
+fn lay(key: &[u8], id: &[u8], expiry: Time, out: &mut [u8]) -> usize
     requires { ⌜ (length (now key) ≡ 32) × (1 ≤ length (now id)) × (length (now id) ≤ 64) × (118 ≤ length (now out)) ⌝ }
-    ensures { λ r. ⌜ (r ≡ length (tokenText (record { key = now (key .entry); id = now (id .entry); expiry = expiry }))) × (now (out .exit) ≡ spliced (now (out .entry)) 0 (tokenText (record { key = now (key .entry); id = now (id .entry); expiry = expiry }))) ⌝ }
+    ensures { λ r. ⌜ Laid (now (out .entry)) (now (out .exit)) 0 r (tokenText (record { key = now (key .entry); id = now (id .entry); expiry = expiry .0 })) ⌝ }
 {
-    let shown = netstring::digits(expiry as u64);
+    let shown = decimal::digits(expiry.0 as u64);
     let all = shown.all;
     let start = shown.start;
     let key_end = netstring::write(key, out, 0);
@@ -49,7 +50,7 @@ pub fn seal(server_key: &[u8], iv: &[u8], key: &[u8], id: &[u8], expiry: Time) -
     ensures { λ r. ⌜ SealsTo (sealedToken (now («server_key» .entry)) (now (iv .entry)) (record { key = now (key .entry); id = now (id .entry); expiry = expiry .0 })) r ⌝ }
 {
     let mut text = [0u8; 118];
-    let s_len = lay(key, id, expiry.0, &mut text);
+    let s_len = lay(key, id, expiry, &mut text);
     let mut s = [0u8; 118];
     let mut tag = [0u8; 16];
     gcm::seal(server_key, iv, &text[..s_len], &mut s[..s_len], &mut tag);
@@ -64,7 +65,7 @@ fn nothing() -> Unsealed
         key: [0; 32],
         id: [0; 64],
         id_len: 0,
-        expiry: 0,
+        expiry: Time(0),
     }
 }
 
@@ -72,13 +73,7 @@ fn nothing() -> Unsealed
 fn token_of(key: &[u8], id: &[u8], digits: &[u8]) -> Unsealed
     ensures { λ r. ⌜ Unseals (tokenIn (netstrings (now (key .entry) ∷ now (id .entry) ∷ now (digits .entry) ∷ []))) r ⌝ }
 {
-    if key.len() != 32 {
-        return nothing();
-    }
-    if id.len() == 0 {
-        return nothing();
-    }
-    if 64 < id.len() {
+    if !((key.len() == 32) & ((1 <= id.len()) & (id.len() <= 64))) {
         return nothing();
     }
     let Expiry::Is(expiry) = expiry::read(digits) else {

@@ -1,70 +1,75 @@
 -- `lay` meets its contract: three netstrings side by side.
 -- Assumes nothing.
-use mathlib.Core.List.{List}
-use mathlib.Core.Path.{ap, _∙_}
-use Prim.Native.Nat.{ℕ, _-_}
+use mathlib.Core.List.{List, _++_, append-assoc, append-nil}
+use mathlib.Core.Path.{ap, subst, _∙_}
+use Prim.Native.Nat.{ℕ, _+_, _-_, _≤_}
 use native.Mathlib.Omega.{arith}
 use borrow.Author.Needs.{needs}
 use lib.ListN.{length, take, drop}
-use Rattle.cells.specs.Runs.{spliced}
-use Rattle.cells.specs.Decimal.{decimal}
-use Rattle.netstring.specs.Netstring.{netstring}
-use Rattle.netstring.proofs.Laid.{shown-piece}
+use Rattle.cells.specs.Laid.{Laid}
+use Rattle.cells.proofs.Laid.{laid-more}
+use Rattle.netstring.specs.Netstring.{netstring, netstrings}
 use Rattle.token.specs.Token.{tokenText}
-use Rattle.token.proofs.Text.{Sized, room, length-three, laid}
+use Rattle.token.proofs.Digits.{shown-piece}
+use Rattle.token.proofs.Text.{short}
 use Rattle.token.proofs.lay.Statement.{statement}
 use Rattle.token.proofs.lay.Tie as tie
 
-sized : (s : tie.Start) → Sized (s .args .key .now) (s .args .id .now) (s .args .expiry)
-sized s = record { key-size = s .pre .0; id-some = s .pre .1; id-fits = s .pre .2; in-range = search needs }
-
-write-requires : tie.Need-write-requires
-write-requires c κs =
-    let s = c .before .before .before .before .before .before in
-    omega (arith, s .pre, room _ _ _ (sized s))
+-- the three have room
+room : (c : tie.After-write-arg)
+    → let args = c .before .before .before .before .before .before .before .args in
+    let shown = c .before .before .digits .result in
+    length (netstring (args .key .now)) + length (netstring (args .id .now)) + length (netstring (take (20 - shown .start) (drop (shown .start) (shown .all)))) ≤ length (args .out .now)
+room c =
+    let start = c .before .before .before .before .before .before .before in
+    let shown = c .before .before .digits in
+    omega (
+      arith,
+      start .pre,
+      short (start .args .key .now) (start .args .id .now) (start .args .expiry .0) (record { key-size = start .pre .0; id-some = start .pre .1; id-fits = start .pre .2; in-range = search needs }),
+      ap (λ (l : List ℕ). length (netstring l)) (shown-piece _ (shown .result) (shown .ensures)),
+    )
 
 write-requires-2 : tie.Need-write-requires-2
 write-requires-2 c κs =
-    let s = c .before .before .before .before .before .before .before .before .before .before in
-    let w = c .before .before .before .write in
-    omega (arith, s .pre, room _ _ _ (sized s), w .ensures .0, w .kept .1 .0)
+    let first = c .before .before .before .write in
+    omega (arith, room (c .before .before .before .before), first .ensures .ends, first .kept .1 .0)
 
 write-requires-3 : tie.Need-write-requires-3
 write-requires-3 c κs =
-    let s = c .before .before .before .before .before .before .before .before .before .before .before .before .before .before .before .before in
-    let r = c .before .before .before .before .before .before .before .before .before .before .before .before .digits in
-    let w = c .before .before .before .before .before .before .before .before .before .write in
-    let x = c .before .before .before .before .before .write2 in
-    let third = ap (λ (l : List ℕ). length (netstring l)) (shown-piece (s .args .expiry) (r .result) (r .ensures)) in
-    omega (arith, s .pre, room _ _ _ (sized s), w .ensures .0, w .kept .1 .0, x .ensures .0, x .kept .1 .0, third)
+    let first = c .before .before .before .before .before .before .before .before .before .write in
+    let second = c .before .before .before .before .before .write2 in
+    omega (
+      arith,
+      room (c .before .before .before .before .before .before .before .before .before .before),
+      first .ensures .ends,
+      first .kept .1 .0,
+      second .ensures .ends,
+      second .kept .1 .0,
+    )
 
 returns : tie.Need-returns
-unfolding tokenText
+unfolding tokenText netstrings
 returns c =
-    let s = c .before .before .before .before .before .before .before .before .before .before .before .before .before .before .before .before .before .before .before in
-    let r = c .before .before .before .before .before .before .before .before .before .before .before .before .before .before .before .digits in
-    let w = c .before .before .before .before .before .before .before .before .before .before .before .before .write in
-    let x = c .before .before .before .before .before .before .before .before .write2 in
-    let y = c .before .before .write3 in
-    let key = s .args .key .now in
-    let id = s .args .id .now in
-    let out = s .args .out .now in
-    let digits = decimal (s .args .expiry) in
-    let shown = shown-piece (s .args .expiry) (r .result) (r .ensures) in
-    let third = ap (λ (l : List ℕ). length (netstring l)) shown in (
-      omega (arith, w .ensures .0, x .ensures .0, y .ensures .0, third, length-three key id digits),
-      y .ensures .1
-          ∙ ap (λ (l : List ℕ). spliced l (x .result) (netstring (take (20 - r .result .start) (drop (r .result .start) (r .result .all))))) (x .ensures .1 ∙ ap (λ (l : List ℕ). spliced l (w .result) (netstring id)) (w .ensures .1))
-          ∙ ap (λ (l : List ℕ). spliced (spliced (spliced out 0 (netstring key)) (w .result) (netstring id)) (x .result) (netstring l)) shown
-          ∙ laid out key id digits (w .result) (x .result) (omega (arith, s .pre, room _ _ _ (sized s))) (w .ensures .0) (x .ensures .0),
-    )
+    let sent = c .before .before .before .before .before .before .before .before .before .before .before .before .before in
+    let args = sent .before .before .before .before .before .before .before .args in
+    let shown = sent .before .before .digits in
+    let first = c .before .before .before .before .before .before .before .before .before .before .before .before .write .ensures in
+    let second = c .before .before .before .before .before .before .before .before .write2 .ensures in
+    let third = c .before .before .write3 .ensures in
+    let h = room sent in
+    subst (Laid _ _ _ _)
+    (ap (λ (l : List ℕ). (netstring (args .key .now) ++ netstring (args .id .now)) ++ netstring l) (shown-piece _ (shown .result) (shown .ensures))
+    ∙ simp (append-assoc, append-nil))
+    (laid-more (laid-more first second (omega (arith, h, first .ends, second .ends))) third (omega (arith, h, first .ends, second .ends, third .ends)))
 
 pub lay-spec : {M : Type 1} → statement M
 lay-spec =
     tie.close
     (tie.spec
+    (λ c. search needs)
     (λ c κs. search needs)
-    write-requires
+    (λ c κs. omega (arith, room c))
     write-requires-2
     (λ c. search needs)
     (λ c. search needs)

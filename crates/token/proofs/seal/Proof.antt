@@ -22,7 +22,7 @@ size s = length-text (token s) (record { key-size = s .pre .2; id-some = s .pre 
 
 -- the text is within its array
 within : (c : tie.After-lay) → (c .lay .result ≤ 118) × (c .lay .result ≤ length (c .lay .last .1 .1 .1 .0))
-within c = omega (arith, size (c .before .before .before .before .before .before), c .lay .ensures .0, c .lay .kept .1 .1 .1 .0)
+within c = omega (arith, size (c .before .before .before .before .before .before), c .lay .ensures .ends, c .lay .kept .1 .1 .1 .0)
 
 seal-requires : tie.Need-seal-requires
 seal-requires c κs =
@@ -41,13 +41,13 @@ returns c =
     let key = s .args .server-key .now in
     let iv = s .args .iv .now in
     let text = tokenText (token s) in
-    let taken : take (l .result) (l .last .1 .1 .1 .0) ≡ text = ap (take (l .result)) (l .ensures .1) ∙ taken-front _ text (l .result) (l .ensures .0) in
+    let taken : take (l .result) (l .last .1 .1 .1 .0) ≡ text = ap (take (l .result)) (l .ensures .is) ∙ taken-front _ text (l .result) (omega (arith, l .ensures .ends)) in
     let cipher : z .last .1 .1 .1 .0 ≡ sealed key iv [] text .cipher = z .ensures .0 ∙ ap (λ (t : List ℕ). sealed key iv [] t .cipher) taken in
-    let count : l .result ≡ length (sealed key iv [] text .cipher) = l .ensures .0 ∙ sym (length-crypted key iv text) in
+    let count : l .result ≡ length (sealed key iv [] text .cipher) = omega (arith, l .ensures .ends, length-crypted key iv text) in
     record {
       text = take-at _ _ (l .result) (ap length cipher ∙ sym count) ∙ cipher;
       size = count;
-      some = omega (arith, size s .0, l .ensures .0);
+      some = omega (arith, size s .0, l .ensures .ends);
       fits = within (c .before .before .before .before .before .before .before) .0;
       tag = z .ensures .1 ∙ ap (λ (t : List ℕ). sealed key iv [] t .tag) taken;
     }

@@ -9,9 +9,8 @@ use lib.ListN.{length}
 use Rattle.cells.specs.Runs.{same}
 use Rattle.cells.proofs.Equality.{same-equal, same-self}
 use Rattle.cells.specs.Decimal.{decimal}
-use Rattle.cells.proofs.Decimal.{decimal-length}
-use Rattle.netstring.proofs.Laid.{shown-piece}
-use Rattle.token.proofs.Digits.{only-number}
+use Rattle.cells.proofs.Digits.{decimal-length}
+use Rattle.token.proofs.Digits.{only-number, shown-piece}
 use Rattle.token.proofs.expiry.read.Statement.{statement}
 use Rattle.token.proofs.expiry.read.Tie as tie
 
