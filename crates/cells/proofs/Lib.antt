@@ -3,5 +3,5 @@ pub mod Runs
 pub mod Laid
 pub mod Spans
 pub mod Numbers
-pub mod Decimal
+pub mod Digits
 pub mod Equality

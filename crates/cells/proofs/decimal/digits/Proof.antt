@@ -6,7 +6,7 @@ use Prim.Native.Nat.{ℕ, suc, _+_, _-_, _/_, _%_, _^_, _≤_, _<_}
 use native.Mathlib.Omega.{arith}
 use lib.ListN.{length, drop, set, length-set}
 use Rattle.cells.specs.Decimal.{decimal}
-use Rattle.cells.proofs.Decimal.{digit-laid, last-laid, fewer}
+use Rattle.cells.proofs.Digits.{digit-laid, last-laid, fewer}
 use Rattle.cells.proofs.decimal.digits.Statement.{statement}
 use Rattle.cells.proofs.decimal.digits.Tie as tie
 
