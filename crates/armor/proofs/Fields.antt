@@ -10,7 +10,7 @@ use lib.Dec.{eqb, leb, lit<, eqb·suc-zero}
 use lib.ListN.{length, getD}
 use borrow.Author.Tests.{eqb-true, eqb-false, eq-eqb, ne-eqb, leb-true, leb-false, le-leb, lt-leb}
 use Rattle.base64.specs.Decoding.{bytes}
-use Rattle.armor.specs.declared.Seen.{Seen}
+use Rattle.armor.specs.declared.scanning.Seen.{Seen}
 use Rattle.armor.specs.Keys.{obeys, keys, placeOf, keyNumber, ruleAt, ruleOf, nameR, nameEah}
 use Rattle.cells.specs.Runs.{same}
 use Rattle.armor.specs.Value.{Field, fieldGood, allGood, goodOnly, grammar, fieldsOf}

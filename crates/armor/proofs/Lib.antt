@@ -10,3 +10,4 @@ pub mod Requests
 pub mod Cases
 pub mod Readings
 pub mod Carried
+pub mod Laying

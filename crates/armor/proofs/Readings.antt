@@ -10,7 +10,7 @@ use lib.ListN.{getD}
 use borrow.Author.Tests.{eq-eqb, ne-eqb, not-true, not-false}
 use Rattle.armor.specs.declared.Answer.{Answer}
 use Rattle.armor.specs.declared.SetupRead.{SetupRead}
-use Rattle.armor.specs.declared.ScanRead.{ScanRead}
+use Rattle.armor.specs.declared.scanning.ScanRead.{ScanRead}
 use Rattle.armor.specs.Numerals.{maskOf}
 use Rattle.armor.specs.Keys.{mask, nameAh, nameN, nameR}
 use Rattle.armor.specs.Value.{allGood, grammar, carried}

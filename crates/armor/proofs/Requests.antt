@@ -14,8 +14,8 @@ use Rattle.cells.proofs.Runs.{fronted-whole}
 use Rattle.base64.specs.Encoding.{encoded}
 use Rattle.base64.specs.Decoding.{bytes, decoded}
 use Rattle.base64.proofs.Exactly.{decoded-exactly, decoded-bytes}
-use Rattle.armor.specs.declared.Seen.{Seen}
-use Rattle.armor.specs.declared.Extra.{Extra}
+use Rattle.armor.specs.declared.scanning.Seen.{Seen}
+use Rattle.armor.specs.declared.contents.Extra.{Extra}
 use Rattle.armor.specs.declared.Answer.{Answer}
 use Rattle.armor.specs.declared.SetupRead.{SetupRead}
 use Rattle.armor.specs.Numerals.{maskOf}

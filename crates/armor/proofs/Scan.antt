@@ -13,8 +13,8 @@ use lib.ListN.{length, getD, take, drop, set, length-append, length-set, length-
 use lib.Seq.{getD-set-same, getD-set-other, drop-drop, take-nil, take-all}
 use borrow.Author.Tests.{eqb-true, eqb-false, eq-eqb, ne-eqb, le-leb, lt-leb}
 use Rattle.base64.specs.Decoding.{Decoding, nothing, bytes, decoded}
-use Rattle.armor.specs.declared.Seen.{Seen}
-use Rattle.armor.specs.declared.Piece.{Piece}
+use Rattle.armor.specs.declared.scanning.Seen.{Seen}
+use Rattle.armor.specs.declared.scanning.Piece.{Piece}
 use Rattle.armor.specs.Pieces.{colon, semicolon, upTo, after, pieces}
 use Rattle.armor.specs.Keys.{Rule, obeys, keyNumber, ruleAt, ruleOf}
 use Rattle.armor.specs.Value.{Field, fieldFrom, fieldOf, withField, fieldsIn, fieldsOf, fieldGood, allGood, goodOnly, grammar, carried}

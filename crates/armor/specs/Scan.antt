@@ -10,11 +10,11 @@ use lib.ListN.{length, getD, set, replicate}
 use Rattle.cells.specs.Runs.{part}
 use Rattle.cells.specs.Numbers.{number}
 use Rattle.base64.specs.Decoding.{Decoding, nothing, bytes, decoded}
-use Rattle.armor.specs.declared.Seen.{Seen}
-use Rattle.armor.specs.declared.ScanRead.{ScanRead}
-use Rattle.armor.specs.declared.Extra.{Extra}
-use Rattle.armor.specs.declared.Numbers.{Numbers}
-use Rattle.armor.specs.declared.Piece.{Piece}
+use Rattle.armor.specs.declared.scanning.Seen.{Seen}
+use Rattle.armor.specs.declared.scanning.ScanRead.{ScanRead}
+use Rattle.armor.specs.declared.contents.Extra.{Extra}
+use Rattle.armor.specs.declared.contents.Numbers.{Numbers}
+use Rattle.armor.specs.declared.scanning.Piece.{Piece}
 use Rattle.armor.specs.Pieces.{colon, upTo, after}
 use Rattle.armor.specs.Keys.{Rule, obeys, keyNumber, ruleOf, nameT, nameLt, nameN, nameH, nameAh}
 use Rattle.armor.specs.Fields.{the, requestFields}

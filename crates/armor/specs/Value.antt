@@ -18,6 +18,9 @@ pub record Field : Type 0 where
   pub key : List ℕ
   pub bytes : List ℕ
 
+abbrev pub field : List ℕ → List ℕ → Field
+field name content = record { key = name; bytes = content }
+
 -- a key has at least one byte, and neither : nor ;. What it holds is not empty
 pub record Formed (f : Field) : Type 0 where
   pub named : 0 < length (f .key)
@@ -43,6 +46,11 @@ joined (p ∷ q ∷ ps) = p ++ semicolon ∷ joined (q ∷ ps)
 unfoldable pub textsOf : List Field → List (List ℕ)
 textsOf [] = []
 textsOf (f ∷ fs) = fieldText f ∷ textsOf fs
+
+-- the text of fields that stand after others
+unfoldable pub following : List Field → List ℕ
+following [] = []
+following (f ∷ fs) = semicolon ∷ (fieldText f ++ following fs)
 
 -- a value has one or more fields; one closing ; is allowed
 pub record ValueOf (v : List ℕ) (fs : List Field) : Type 0 where

@@ -11,11 +11,9 @@ use Rattle.hmac.specs.Hmac.{hmacSha512}
 use Rattle.hmac.proofs.Streaming.{length-hmac}
 use Rattle.cells.specs.Text.{codes}
 use Rattle.armor.specs.Numerals.{shortest, numberBytes, maskBytes, hashMask}
-use Rattle.armor.specs.Keys.{nameEah}
-use Rattle.armor.specs.Value.{Field, fieldText}
+use Rattle.armor.specs.Value.{Field, field, fieldText, following}
 use Rattle.armor.proofs.Numerals.{length-maskBytes}
-use Rattle.reply.specs.Replies.{field, nameI, extraField, setupReply, invalidation}
-use Rattle.reply.specs.Laid.{following}
+use Rattle.reply.specs.Replies.{extraField, setupReply, invalidation}
 use Rattle.reply.proofs.Laying.{setup-fields}
 
 length-field : (name content : List ℕ) → length (fieldText (field name content)) ≡ length name + 1 + 4 * ((length content + 2) / 3)
@@ -33,18 +31,19 @@ length-following name content rest =
     omega (arith, length-field name content, length-append (fieldText (field name content)) (following rest))
 
 length-extra : (extra : List ℕ) → length extra ≤ 128 → length (following (extraField extra)) ≤ 177
-unfolding following
+unfolding following codes
 length-extra [] h = omega arith
-length-extra (b ∷ bs) h = omega (arith, length-following nameEah (b ∷ bs) [])
+length-extra (b ∷ bs) h = omega (arith, length-following (codes "eah") (b ∷ bs) [])
 
 -- a setup's reply is never longer than 459 bytes
 pub setup-short : (s iv tag key : List ℕ) (mask : ℕ) (extra : List ℕ) → length s ≤ 118 → length iv ≡ 12 → length tag ≡ 16 → length key ≡ 32
     → length extra ≤ 128 → length (setupReply s iv tag key mask extra) ≤ 459
+unfolding codes
 setup-short s iv tag key mask extra hs hiv htag hkey hextra =
     rw setup-fields (simp (length-append, length-field, length-following) (omega (arith, length-hash, length-maskBytes mask, length-extra extra hextra)))
 
 -- an invalidation has 90 bytes
 pub length-invalidation : (key : List ℕ) → length (invalidation key) ≡ 90
-unfolding invalidation
+unfolding invalidation codes
 length-invalidation key =
-    omega (arith, length-field nameI (hmacSha512 key (codes "Session Expired")), length-hmac key (codes "Session Expired"))
+    omega (arith, length-field (codes "i") (hmacSha512 key (codes "Session Expired")), length-hmac key (codes "Session Expired"))

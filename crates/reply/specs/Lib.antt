@@ -1,3 +1,2 @@
 -- What the gate writes into a reply buffer.
 pub mod Replies
-pub mod Laid

@@ -5,9 +5,11 @@ use mathlib.Core.Path.{sym, subst}
 use mathlib.Core.List.{List}
 use Prim.Native.Nat.{ℕ}
 use native.Mathlib.Omega.{arith}
-use Rattle.armor.specs.Value.{Field}
-use Rattle.reply.specs.Laid.{Laid, following}
-use Rattle.reply.proofs.Laying.{laid-none, no-extra, some-extra}
+use Rattle.cells.specs.Laid.{Laid}
+use Rattle.cells.specs.Text.{codes}
+use Rattle.cells.proofs.Laid.{laid-none}
+use Rattle.armor.specs.Value.{Field, following}
+use Rattle.reply.proofs.Laying.{no-extra, some-extra}
 use Rattle.reply.proofs.put_extra.Statement.{statement}
 use Rattle.reply.proofs.put_extra.Tie as tie
 
@@ -19,6 +21,7 @@ returns c =
     )
 
 returns-2 : tie.Need-returns-2
+unfolding codes
 returns-2 c =
     let start = c .before .before .before .before .before .before .before .before in
     let a = start .args in

@@ -3,22 +3,24 @@
 use borrow.Author.Needs.{needs}
 use mathlib.Core.List.{[], _∷_}
 use native.Mathlib.Omega.{arith}
+use Rattle.cells.specs.Text.{codes}
 use Rattle.armor.specs.Numerals.{maskBytes, hashMask}
-use Rattle.armor.specs.Keys.{nameH, nameAh}
-use Rattle.reply.specs.Replies.{field, extraField}
-use Rattle.reply.proofs.Laying.{laid-following}
+use Rattle.armor.specs.Value.{field}
+use Rattle.armor.proofs.Laying.{laid-following}
+use Rattle.reply.specs.Replies.{extraField}
 use Rattle.reply.proofs.put_orders.Statement.{statement}
 use Rattle.reply.proofs.put_orders.Tie as tie
 
 returns : tie.Need-returns
+unfolding codes
 returns c =
     let start = c .before .before .before .before .before .before .before .before .before .before .before .before .before .before .before .before in
     let a = start .args in
     let h = c .before .before .before .before .before .before .before .before .before .before .before .put-mask in
     let ah = c .before .before .before .before .before .before .put-mask2 in
     let eah = c .before .before .put-extra in
-    let hash = field nameH (maskBytes hashMask) in
-    let mask = field nameAh (maskBytes (a .mask)) in (
+    let hash = field (codes "h") (maskBytes hashMask) in
+    let mask = field (codes "ah") (maskBytes (a .mask)) in (
       omega (arith, h .ensures .0, ah .ensures .0, eah .ensures .0),
       laid-following (hash ∷ mask ∷ []) (extraField (a .extra .now))
           (laid-following (hash ∷ []) (mask ∷ []) (h .ensures .1) (ah .ensures .1) (omega (arith, start .pre, h .ensures .0, ah .ensures .0)))

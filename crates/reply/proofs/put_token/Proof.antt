@@ -4,13 +4,15 @@ use borrow.Author.Needs.{needs}
 use mathlib.Core.List.{[], _∷_}
 use Prim.Native.Nat.{_≤_}
 use native.Mathlib.Omega.{arith}
-use Rattle.armor.specs.Keys.{nameIv, nameTag}
-use Rattle.reply.specs.Replies.{field, nameKh}
-use Rattle.reply.proofs.Laying.{laid-more, laid-following}
+use Rattle.cells.proofs.Laid.{laid-more}
+use Rattle.cells.specs.Text.{codes}
+use Rattle.armor.specs.Value.{field}
+use Rattle.armor.proofs.Laying.{laid-following}
 use Rattle.reply.proofs.put_token.Statement.{statement}
 use Rattle.reply.proofs.put_token.Tie as tie
 
 returns : tie.Need-returns
+unfolding codes
 returns c =
     let start = c .before .before .before .before .before .before .before .before .before .before .before .before .before .before .before .before .before .before .before .before .before .before .before .before .before in
     let a = start .args in
@@ -22,8 +24,8 @@ returns c =
     let four : kh .result ≤ 259 = omega (arith, start .pre, three, kh .ensures .0) in (
       four,
       laid-more (s .ensures .1)
-          (laid-following (field nameIv (a .iv .now) ∷ field nameTag (a .tag .now) ∷ []) (field nameKh (a .key .now) ∷ [])
-          (laid-following (field nameIv (a .iv .now) ∷ []) (field nameTag (a .tag .now) ∷ []) (iv .ensures .1) (tag .ensures .1)
+          (laid-following (field (codes "iv") (a .iv .now) ∷ field (codes "tag") (a .tag .now) ∷ []) (field (codes "kh") (a .key .now) ∷ [])
+          (laid-following (field (codes "iv") (a .iv .now) ∷ []) (field (codes "tag") (a .tag .now) ∷ []) (iv .ensures .1) (tag .ensures .1)
           (omega (arith, start .pre, three, s .kept .0)))
           (kh .ensures .1)
           (omega (arith, start .pre, four, s .kept .0)))

@@ -1,0 +1,46 @@
+-- `two_letters` meets its contract.
+-- Assumes nothing.
+use mathlib.Core.Path.{sym, _∙_}
+use borrow.Author.Needs.{needs}
+use Rattle.armor.specs.Keys.{keys, placeOf, keyNumber}
+use Rattle.cells.specs.Runs.{same}
+use Rattle.armor.proofs.key.two_letters.Statement.{statement}
+use Rattle.armor.proofs.key.two_letters.Tie as tie
+
+returns : tie.Need-returns
+unfolding keys same placeOf keyNumber
+returns c = simp (sym (c .before .is-two .ensures) ∙ c .if1 .taken)
+
+returns-2 : tie.Need-returns-2
+unfolding keys same placeOf keyNumber
+returns-2 c = simp (sym (c .before .is-two2 .ensures) ∙ c .if2 .taken, sym (c .before .before .before .is-two .ensures) ∙ c .before .before .if1 .left)
+
+returns-3 : tie.Need-returns-3
+unfolding keys same placeOf keyNumber
+returns-3 c =
+    simp (
+      sym (c .before .is-two3 .ensures) ∙ c .if3 .taken,
+      sym (c .before .before .before .is-two2 .ensures) ∙ c .before .before .if2 .left,
+      sym (c .before .before .before .before .before .is-two .ensures) ∙ c .before .before .before .before .if1 .left,
+    )
+
+returns-4 : tie.Need-returns-4
+unfolding keys same placeOf keyNumber
+returns-4 c =
+    simp (
+      sym (c .before .is-two3 .ensures) ∙ c .if3 .left,
+      sym (c .before .before .before .is-two2 .ensures) ∙ c .before .before .if2 .left,
+      sym (c .before .before .before .before .before .is-two .ensures) ∙ c .before .before .before .before .if1 .left,
+    )
+
+pub two-letters-spec : {M : Type 1} → statement M
+two-letters-spec =
+    tie.close
+    (tie.spec
+    (λ c κs. search needs)
+    returns
+    (λ c κs. search needs)
+    returns-2
+    (λ c κs. search needs)
+    returns-3
+    returns-4)

@@ -1,0 +1,180 @@
+// The keys that have a meaning, and the rule for what each holds.
+ghost use mathlib.Core.Path.{_≡_};
+ghost use mathlib.Core.List.{[], _∷_};
+ghost use Prim.Native.Nat.{_≤_};
+ghost use Rattle.cells.specs.Runs.{same};
+ghost use Rattle.armor.specs.Keys.{keyNumber, number, mask, sized, free, ruleAt};
+ghost use Rattle.armor.specs.Scan.{textObeys};
+use super::numeral;
+use base64::Decoded;
+use base64::Measured;
+
+// The keys by their place, and the place of every other key.
+pub const T: usize = 0;
+
+pub const LT: usize = 1;
+
+pub const N: usize = 2;
+
+pub const H: usize = 3;
+
+pub const AH: usize = 4;
+
+pub const R: usize = 5;
+
+pub const S: usize = 6;
+
+pub const C: usize = 7;
+
+pub const IV: usize = 8;
+
+pub const TAG: usize = 9;
+
+pub const EAH: usize = 10;
+
+pub const OTHER: usize = 11;
+
+// The place of a name among the keys.
+pub fn key_number(name: &[u8]) -> usize
+    ensures { λ r. ⌜ r ≡ keyNumber (now (name .entry)) ⌝ }
+{
+    let len = name.len();
+    if len == 1 {
+        return one_letter(name[0]);
+    }
+    if len == 2 {
+        return two_letters(name[0], name[1]);
+    }
+    if len == 3 {
+        return three_letters(name[0], name[1], name[2]);
+    }
+    OTHER
+}
+
+fn one_letter(a: u8) -> usize
+    ensures { λ r. ⌜ r ≡ keyNumber (a ∷ []) ⌝ }
+{
+    match a {
+        b't' => T,
+        b'n' => N,
+        b'h' => H,
+        b'r' => R,
+        b's' => S,
+        b'c' => C,
+        _ => OTHER,
+    }
+}
+
+fn two_letters(a: u8, b: u8) -> usize
+    ensures { λ r. ⌜ r ≡ keyNumber (a ∷ b ∷ []) ⌝ }
+{
+    if is_two(a, b, b'l', b't') {
+        return LT;
+    }
+    if is_two(a, b, b'a', b'h') {
+        return AH;
+    }
+    if is_two(a, b, b'i', b'v') {
+        return IV;
+    }
+    OTHER
+}
+
+fn is_two(a: u8, b: u8, x: u8, y: u8) -> bool
+    ensures { λ r. ⌜ r ≡ same (a ∷ b ∷ []) (x ∷ y ∷ []) ⌝ }
+{
+    (b == y) & (a == x)
+}
+
+fn three_letters(a: u8, b: u8, c: u8) -> usize
+    ensures { λ r. ⌜ r ≡ keyNumber (a ∷ b ∷ c ∷ []) ⌝ }
+{
+    if is_three(a, b, c, b't', b'a', b'g') {
+        return TAG;
+    }
+    if is_three(a, b, c, b'e', b'a', b'h') {
+        return EAH;
+    }
+    OTHER
+}
+
+fn is_three(a: u8, b: u8, c: u8, x: u8, y: u8, z: u8) -> bool
+    ensures { λ r. ⌜ r ≡ same (a ∷ b ∷ c ∷ []) (x ∷ y ∷ z ∷ []) ⌝ }
+{
+    is_two(b, c, y, z) & (a == x)
+}
+
+// Whether a text encodes from low to high bytes.
+fn is_sized(text: &[u8], low: usize, high: usize) -> bool
+    requires { ⌜ 1 ≤ low ⌝ }
+    ensures { λ r. ⌜ r ≡ textObeys (sized low high) (now (text .entry)) ⌝ }
+{
+    let Measured::Bytes(n) = base64::measure(text) else {
+        return false;
+    };
+    if n < low {
+        return false;
+    }
+    n <= high
+}
+
+// Whether a text encodes any bytes.
+fn is_some(text: &[u8]) -> bool
+    ensures { λ r. ⌜ r ≡ textObeys free (now (text .entry)) ⌝ }
+{
+    let Measured::Bytes(n) = base64::measure(text) else {
+        return false;
+    };
+    1 <= n
+}
+
+// Whether a text encodes a number.
+fn is_number(text: &[u8]) -> bool
+    ensures { λ r. ⌜ r ≡ textObeys number (now (text .entry)) ⌝ }
+{
+    let mut out = [0u8; 4];
+    let Decoded::Bytes(n) = base64::decode(text, &mut out) else {
+        return false;
+    };
+    if n == 0 {
+        return false;
+    }
+    numeral::is_plain(&out[..n])
+}
+
+// Whether a text encodes a mask.
+fn is_mask(text: &[u8]) -> bool
+    ensures { λ r. ⌜ r ≡ textObeys mask (now (text .entry)) ⌝ }
+{
+    let mut out = [0u8; 9];
+    let Decoded::Bytes(n) = base64::decode(text, &mut out) else {
+        return false;
+    };
+    if n < 2 {
+        return false;
+    }
+    if numeral::wide(out[0]) != (n - 1) as u64 {
+        return false;
+    }
+    numeral::is_plain(&out[1..n])
+}
+
+// Whether a text encodes what the rule of key number key asks.
+pub fn is_good(text: &[u8], key: usize) -> bool
+    requires { ⌜ key ≤ 11 ⌝ }
+    ensures { λ r. ⌜ r ≡ textObeys (ruleAt key) (now (text .entry)) ⌝ }
+{
+    if key < H {
+        return is_number(text);
+    }
+    if key < S {
+        return is_mask(text);
+    }
+    match key {
+        S => is_sized(text, 1, 118),
+        C => is_sized(text, 64, 64),
+        IV => is_sized(text, 12, 12),
+        TAG => is_sized(text, 16, 16),
+        _ => is_some(text),
+    }
+}
