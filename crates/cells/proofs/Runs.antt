@@ -6,7 +6,7 @@ use Prim.Native.Nat.{ℕ, zero, suc, _+_, _-_, _≤_, _<_}
 use native.Mathlib.Nat.{zero-add, add-suc, add-assoc}
 use native.Mathlib.Numerals.{add-one}
 use native.Mathlib.Omega.{arith}
-use lib.ListN.{length, getD, take, drop, set, replicate, length-append, length-take, length-drop, drop-of-length-le}
+use lib.ListN.{length, getD, take, drop, set, length-append, length-take, length-drop, drop-of-length-le}
 use lib.Seq.{paste, paste-suc, take-all, sets, sets-eq, take-at, drop-at, drop-cons, drop-drop}
 use Rattle.cells.specs.Runs.{spliced, fronted, part}
 
@@ -63,10 +63,6 @@ copied-more d s j e p q =
 pub copied-all : (d s : List ℕ) (j : ℕ) → j ≡ length s → paste d 0 s j ≡ fronted s d
 unfolding fronted
 copied-all d s j e = rw (take-all j s (omega arith), zero-add, e)
-
--- a loop that cleared all
-pub cleared-all : (d : List ℕ) (i : ℕ) → i ≡ length d → replicate i 0 ++ drop i d ≡ replicate (length d) 0
-cleared-all d i e = rw (drop-of-length-le d {i = i} (omega arith)) (append-nil (replicate i 0) ∙ ap (λ (k : ℕ). replicate k 0) e)
 
 -- n elements from index at + k on, one by one
 abbrev pub listed : List ℕ → ℕ → ℕ → ℕ → List ℕ

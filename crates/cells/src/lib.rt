@@ -2,7 +2,7 @@
 ghost use mathlib.Core.Path.{_≡_};
 ghost use mathlib.Core.List.{[], _∷_};
 ghost use Prim.Native.Nat.{_+_, _≤_};
-ghost use lib.ListN.{length, replicate};
+ghost use lib.ListN.{length};
 ghost use Rattle.cells.specs.Runs as R;
 ghost use Rattle.cells.specs.Runs.{spliced, fronted, part};
 ghost use Rattle.cells.specs.Laid.{Laid};
@@ -74,17 +74,6 @@ pub fn put64(out: &mut [u8], at: usize, x: u64)
     out[at + 5] = ((x >> 16) % 256) as u8;
     out[at + 6] = ((x >> 8) % 256) as u8;
     out[at + 7] = (x % 256) as u8;
-}
-
-// Every byte of out becomes 0.
-pub fn clear(out: &mut [u8])
-    ensures { λ _. ⌜ now (out .exit) ≡ replicate (length (now (out .entry))) 0 ⌝ }
-{
-    let mut i = 0;
-    while i < out.len() {
-        out[i] = 0;
-        i += 1;
-    }
 }
 
 // src at the front of out; the bytes after it stay.

@@ -17,7 +17,7 @@ use Rattle.gate.specs.Calls.{Setup}
 use Rattle.stages.specs.Request.{Request}
 use Rattle.gate.specs.State.{State, Outcome, untouched, replied}
 use Rattle.stages.specs.Checks.{first}
-use Rattle.stages.specs.Session.{placeOf, with-record, without}
+use Rattle.table.specs.Session.{placeOf, with-record, without}
 use Rattle.gate.specs.Setup.{expiryOf, setupChecks, withSession, setUp}
 use Rattle.stages.specs.Parts.{ivOf, nonceOf, ordered, stepped, nextOf, invalidates}
 use Rattle.gate.specs.Judge.{requestChecks, tableAfter, answered, judged}

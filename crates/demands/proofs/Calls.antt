@@ -19,7 +19,7 @@ use Rattle.signed.specs.SignedText.{ordersNonce}
 use Rattle.gate.specs.Calls.{Setup}
 use Rattle.stages.specs.Request.{Request}
 use Rattle.stages.specs.Checks.{first}
-use Rattle.stages.specs.Session.{without}
+use Rattle.table.specs.Session.{without}
 use Rattle.gate.specs.State.{State}
 use Rattle.gate.specs.Setup.{expiryOf, setupChecks, withSession, setUp}
 use Rattle.stages.specs.Parts.{ivOf, nonceOf, stepped, invalidates}

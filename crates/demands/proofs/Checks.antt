@@ -12,7 +12,7 @@ use Rattle.gate.specs.State.{State}
 use Rattle.stages.specs.Request.{Request}
 use Rattle.stages.specs.Checks.{Check, check, first, nowhere}
 use Rattle.gate.specs.Entry.{stateChecks, entryChecks}
-use Rattle.stages.specs.Session.{placeOf}
+use Rattle.table.specs.Session.{placeOf}
 use Rattle.stages.specs.Parts.{ivOf, timeOf, lastTimeOf, openedOf, tokenOf, limits, readingPart, coveringPart, tokenPart, signaturePart, vouchingPart, sessionPart, noncePart, admittingPart}
 use Rattle.gate.specs.Judge.{entryPart, requestChecks}
 use Rattle.stages.proofs.Checks.{numbered, lacks, comes-later, none-holds, passed-by}

@@ -10,7 +10,7 @@ use lib.Dec.{eqb}
 use Rattle.gate.specs.State.{State, holding, untouched}
 use Rattle.stages.specs.Checks.{first}
 use Rattle.gate.specs.Entry.{stateChecks}
-use Rattle.stages.specs.Session.{without}
+use Rattle.table.specs.Session.{without}
 use Rattle.gate.specs.End.{endChecks, endOutcome, ended}
 use Rattle.stages.proofs.Checks.{Exactly, first-among, first-exactly}
 use Rattle.gate.proofs.Numbers.{end-numbered}

@@ -13,7 +13,7 @@ use Rattle.table.proofs.Records.{length-records, records-at, freed-fits}
 use Rattle.table.proofs.Tests.{holds-used, used-holds}
 use Rattle.table.proofs.Found.{found-at, at-found}
 use Rattle.stages.specs.Checks.{nowhere}
-use Rattle.stages.specs.Session.{placeOf, with-record, without}
+use Rattle.table.specs.Session.{placeOf, with-record, without}
 use Rattle.demands.proofs.Stored.{Replaced, replaced}
 
 -- what it says that a place is somewhere

@@ -15,7 +15,7 @@ use Rattle.table.specs.declared.place.Place.the-variants.{At}
 use Rattle.gate.specs.State.{State}
 use Rattle.stages.specs.Request.{Request}
 use Rattle.stages.specs.Checks.{first}
-use Rattle.stages.specs.Session.{placeOf}
+use Rattle.table.specs.Session.{placeOf}
 use Rattle.stages.specs.Parts.{ivOf, nonceOf, ordered, stepped, readingPart, signaturePart, vouchingPart, sessionPart, noncePart}
 use Rattle.gate.specs.Judge.{entryPart, requestChecks}
 use Rattle.stages.proofs.Checks.{none-holds}

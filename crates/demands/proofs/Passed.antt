@@ -30,7 +30,7 @@ use Rattle.stages.specs.Request.{Request}
 use Rattle.gate.specs.Sizes.{exactly, setupFits, requestFits}
 use Rattle.stages.specs.Checks.{first, missing, nowhere}
 use Rattle.gate.specs.Entry.{stateChecks, entryChecks}
-use Rattle.stages.specs.Session.{placeOf}
+use Rattle.table.specs.Session.{placeOf}
 use Rattle.gate.specs.Setup as S
 use Rattle.gate.specs.Setup.{expiryOf, offerPart, lastingPart, roomPart, setupChecks}
 use Rattle.gate.specs.End.{endChecks}

@@ -13,7 +13,7 @@ use Rattle.reply.specs.Replies.{invalidation}
 use Rattle.stages.specs.Request.{Request}
 use Rattle.gate.specs.State.{State, holding, Outcome, untouched, replied}
 use Rattle.stages.specs.Checks.{first}
-use Rattle.stages.specs.Session.{placeOf}
+use Rattle.table.specs.Session.{placeOf}
 use Rattle.stages.specs.Parts.{ivOf, nonceOf, timeOf, lastTimeOf, signatureOf, tokenOf, limits, textOf, codeOf, ordered, stepped, nextOf, signaturePart, sessionPart, noncePart, admittingPart, invalidates}
 use Rattle.gate.specs.Judge.{requestChecks, tableAfter, answered, outcomeAt, judged}
 use Rattle.demands.specs.Passing.{Reaches}

@@ -18,7 +18,7 @@ use Rattle.stages.specs.Request.{Request}
 use Rattle.gate.specs.State.{State, holding, untouched, replied}
 use Rattle.stages.specs.Checks.{first, nowhere}
 use Rattle.gate.specs.Entry.{stateChecks, entryChecks}
-use Rattle.stages.specs.Session.{placeOf, without}
+use Rattle.table.specs.Session.{placeOf, without}
 use Rattle.stages.specs.Parts.{ivOf, nonceOf, tokenOf, ordered, readingPart, coveringPart, tokenPart, signaturePart, vouchingPart, sessionPart, noncePart, admittingPart, invalidates}
 use Rattle.gate.specs.Judge.{entryPart, requestChecks, tableAfter, answered, outcomeAt, judged}
 use Rattle.stages.proofs.Checks.{Exactly, comes-later, first-among, first-exactly}

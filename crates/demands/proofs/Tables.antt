@@ -14,7 +14,7 @@ use Rattle.table.specs.Record.{size, recordBytes, recordOf, Fits, freed}
 use Rattle.table.specs.Table.{places, recordAt, chunks, records}
 use Rattle.table.proofs.Records.{length-records, records-at, records-stored, freed-fits}
 use Rattle.table.proofs.Found.{found-at}
-use Rattle.stages.specs.Session.{placeOf, with-record, without}
+use Rattle.table.specs.Session.{placeOf, with-record, without}
 use Rattle.demands.specs.History.{empty}
 use Rattle.demands.proofs.Stored.{replaced}
 use Rattle.demands.proofs.Sessions.{Sessions, free-sessions, freed-sessions}

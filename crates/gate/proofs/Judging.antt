@@ -20,7 +20,7 @@ use Rattle.table.specs.Table.{places, holds, Within}
 use Rattle.stages.specs.declared.settling.Decision.{Decision}
 use Rattle.stages.specs.Request.{Request}
 use Rattle.stages.specs.Checks.{Check, first, nowhere}
-use Rattle.stages.specs.Session.{placeOf, heldAt, with-record}
+use Rattle.table.specs.Session.{placeOf, heldAt, with-record}
 use Rattle.stages.specs.Parts.{ivOf, ordered, nextOf, readingPart, vouchingPart, admittingPart, invalidates}
 use Rattle.stages.specs.Stages.{tells, Settles}
 use Rattle.stages.proofs.Checks.{numbered, lacks, first-lacks, first-small, passed-by, stopped-by}

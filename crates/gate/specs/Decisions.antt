@@ -10,7 +10,7 @@ use Rattle.table.specs.Table.{places, Within}
 use Rattle.stages.specs.declared.settling.Decision.{Decision}
 use Rattle.stages.specs.Request.{Request, requestOf}
 use Rattle.stages.specs.Checks.{first}
-use Rattle.stages.specs.Session.{placeOf}
+use Rattle.table.specs.Session.{placeOf}
 use Rattle.stages.specs.Parts.{ivOf, tokenOf, ordered, nextOf}
 use Rattle.stages.specs.Stages.{tells, About}
 use Rattle.gate.specs.declared.entry.Entry.{Entry}

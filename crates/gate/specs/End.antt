@@ -5,7 +5,7 @@ use mathlib.Core.List.{List, [], _∷_, _++_}
 use Prim.Native.Nat.{ℕ}
 use lib.Dec.{eqb}
 use Rattle.stages.specs.Checks.{Check, check, first, nowhere}
-use Rattle.stages.specs.Session.{placeOf, without}
+use Rattle.table.specs.Session.{placeOf, without}
 use Rattle.gate.specs.State.{State, holding, Outcome, untouched}
 use Rattle.gate.specs.Sizes.{endFits}
 use Rattle.gate.specs.Entry.{stateChecks}

@@ -10,7 +10,7 @@ use Rattle.table.specs.declared.place.Place.{Place}
 use Rattle.table.specs.Record.{freed}
 use Rattle.stages.specs.Request.{Request}
 use Rattle.stages.specs.Checks.{Check, first}
-use Rattle.stages.specs.Session.{placeOf, with-record}
+use Rattle.table.specs.Session.{placeOf, with-record}
 use Rattle.stages.specs.Parts.{ivOf, tokenOf, ordered, readingPart, vouchingPart, admittingPart, nextOf, invalidates}
 use Rattle.gate.specs.State.{State, Outcome, untouched, replied, holding}
 use Rattle.gate.specs.Sizes.{requestFits}

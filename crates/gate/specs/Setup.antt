@@ -16,7 +16,7 @@ use Rattle.table.specs.Table.{records, taken}
 use Rattle.token.specs.Token.{Token, sealedToken}
 use Rattle.window.specs.Window.{bit}
 use Rattle.stages.specs.Checks.{Check, check, first, missing, nowhere}
-use Rattle.stages.specs.Session.{placeOf, with-record}
+use Rattle.table.specs.Session.{placeOf, with-record}
 use Rattle.gate.specs.Calls.{Setup}
 use Rattle.gate.specs.State.{State, holding, Outcome, untouched, replied}
 use Rattle.gate.specs.Sizes.{setupFits}

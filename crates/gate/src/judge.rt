@@ -7,7 +7,6 @@ ghost use Rattle.names.specs.Walk.{Known};
 ghost use Rattle.orders.specs.Orders.{orders};
 ghost use Rattle.table.specs.Table.{places, Within};
 ghost use Rattle.stages.specs.Request.{requestOf};
-ghost use Rattle.stages.specs.Session.{heldAt, with-record};
 ghost use Rattle.stages.specs.Parts.{invalidates};
 ghost use Rattle.stages.specs.Stages.{tells};
 ghost use Rattle.gate.specs.State.{holding};
@@ -19,9 +18,7 @@ use stages::reading;
 use stages::settling;
 use stages::settling::Decision;
 use table::place;
-use table::place::Place;
 use table::session;
-use table::session::Record;
 use window::time::Time;
 
 pub fn decide<'a>(
@@ -54,7 +51,7 @@ pub fn decide<'a>(
     let request = read.request;
     let iv = request.iv;
     let place = place::find(table, &iv);
-    let held = held_at(table, place);
+    let held = session::held_at(table, place);
     settling::settle(
         known,
         numbers,
@@ -72,17 +69,6 @@ pub fn decide<'a>(
     )
 }
 
-// What the session's record holds; a free one where there is none.
-fn held_at(table: &[u8], place: Place) -> Record
-    requires { ⌜ Within (places (now table)) place ⌝ }
-    ensures { λ r. ⌜ r ≡ heldAt (now (table .entry)) place ⌝ }
-{
-    match place {
-        Place::At(at) => session::read(table, at),
-        Place::Nowhere => session::freed(),
-    }
-}
-
 // Whether a number frees the session's record and tells the client.
 pub fn invalidates(number: u32) -> bool
     ensures { λ r. ⌜ r ≡ invalidates number ⌝ }
@@ -98,24 +84,13 @@ pub fn apply(decision: Decision, table: &mut [u8])
     let place = decision.place;
     if (decision.number == 0) & decision.nonces {
         let next = decision.next;
-        put(table, place, next);
+        session::put(table, place, next);
         return;
     }
     if invalidates(decision.number) {
         let next = session::freed();
-        put(table, place, next);
+        session::put(table, place, next);
     }
-}
-
-// The record takes its place in the table, if it has one.
-fn put(table: &mut [u8], place: Place, record: Record)
-    requires { ⌜ Within (places (now table)) place ⌝ }
-    ensures { λ _. ⌜ now (table .exit) ≡ with-record (now (table .entry)) place «record» ⌝ }
-{
-    let Place::At(at) = place else {
-        return;
-    };
-    session::store(table, at, record);
 }
 
 // The reply of a decision, and its answer.

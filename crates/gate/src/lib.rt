@@ -178,9 +178,10 @@ pub extern "C" fn gate_end(iv: &[u8], table: &mut [u8]) -> u32
     if !rule::well_formed(table) {
         return 3;
     }
-    let Place::At(at) = place::find(table, iv) else {
+    let place = place::find(table, iv);
+    let Place::At(_) = place else {
         return 12;
     };
-    session::free(table, at);
+    session::put(table, place, session::freed());
     0
 }

@@ -6,7 +6,7 @@ ghost use Rattle.table.specs.Record.{recordBytes};
 ghost use Rattle.table.specs.Table.{Within};
 ghost use Rattle.stages.specs.Request.{requestOf};
 ghost use Rattle.stages.specs.Checks.{first};
-ghost use Rattle.stages.specs.Session.{placeOf};
+ghost use Rattle.table.specs.Session.{placeOf};
 ghost use Rattle.gate.specs.State.{holding, outcome};
 ghost use Rattle.gate.specs.Entry.{stateChecks};
 ghost use Rattle.gate.specs.Judge.{tableAfter, judged};

@@ -33,7 +33,7 @@ use Rattle.stages.specs.declared.admitting.Admitted.{Admitted}
 use Rattle.stages.specs.declared.settling.Decision.{Decision}
 use Rattle.stages.specs.Request.{Request}
 use Rattle.stages.specs.Checks.{first, missing, nowhere}
-use Rattle.stages.specs.Session.{placeOf, heldAt}
+use Rattle.table.specs.Session.{placeOf, heldAt}
 use Rattle.stages.specs.Parts.{fieldsOf, ivOf, nonceOf, timeOf, lastTimeOf, signatureOf, openedOf, tokenOf, limits, textOf, codeOf, ordered, stepped, nextOf, tokenPart, signaturePart, vouchingPart, sessionPart, noncePart, admittingPart}
 use Rattle.stages.specs.Stages.{tells, decisionOf, About, Vouches, StandsAt, Admits, Settles}
 use Rattle.stages.proofs.Checks.{passed-by, stopped-by}

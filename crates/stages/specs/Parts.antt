@@ -27,7 +27,7 @@ use Rattle.window.specs.Time.{exceeds}
 use Rattle.window.specs.Window.{numberOf, stepOf}
 use Rattle.stages.specs.Request.{Request}
 use Rattle.stages.specs.Checks.{Check, check, missing, nowhere}
-use Rattle.stages.specs.Session.{placeOf, heldAt}
+use Rattle.table.specs.Session.{placeOf, heldAt}
 
 -- what the value carries
 unfoldable pub fieldsOf : Request → List Field

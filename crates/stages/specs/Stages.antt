@@ -23,7 +23,7 @@ use Rattle.stages.specs.declared.admitting.Admitted.{Admitted}
 use Rattle.stages.specs.declared.settling.Decision.{Decision}
 use Rattle.stages.specs.Request.{Request, requestOf}
 use Rattle.stages.specs.Checks.{first, nowhere}
-use Rattle.stages.specs.Session.{placeOf, heldAt}
+use Rattle.table.specs.Session.{placeOf, heldAt}
 use Rattle.stages.specs.Parts.{ivOf, nonceOf, timeOf, lastTimeOf, tokenOf, limits, ordered, nextOf, coveringPart, readingPart, vouchingPart, admittingPart, invalidates}
 
 -- 6 to 8

@@ -5,7 +5,9 @@ ghost use Prim.Native.Nat.{_*_, _<_};
 ghost use lib.ListN.{length};
 ghost use Rattle.cells.specs.Runs.{spliced};
 ghost use Rattle.table.specs.Record.{size, recordOf, recordBytes, freed, begun, mark, windowOf, withWindow};
-ghost use Rattle.table.specs.Table.{places, recordAt, holds};
+ghost use Rattle.table.specs.Session.{heldAt, with-record};
+ghost use Rattle.table.specs.Table.{places, recordAt, holds, Within};
+use super::place::Place;
 use window::Nonce;
 use window::Window;
 use window::time::Time;
@@ -88,13 +90,26 @@ fn put_mark(out: &mut [u8], at: usize, x: u8)
     out[at] = x;
 }
 
-// The record at a place becomes free: it holds zeros, and every other byte stays.
-pub fn free(table: &mut [u8], place: usize)
-    requires { ⌜ place < places (now table) ⌝ }
-    ensures { λ _. ⌜ now (table .exit) ≡ spliced (now (table .entry)) (size * place) (recordBytes freed) ⌝ }
+// What the record at a place holds; a free one where there is no place.
+pub fn held_at(table: &[u8], place: Place) -> Record
+    requires { ⌜ Within (places (now table)) place ⌝ }
+    ensures { λ r. ⌜ r ≡ heldAt (now (table .entry)) place ⌝ }
 {
-    let at = SIZE * place;
-    cells::clear(&mut table[at..at + SIZE]);
+    match place {
+        Place::At(at) => read(table, at),
+        Place::Nowhere => freed(),
+    }
+}
+
+// The record takes its place in the table, if it has one.
+pub fn put(table: &mut [u8], place: Place, record: Record)
+    requires { ⌜ Within (places (now table)) place ⌝ }
+    ensures { λ _. ⌜ now (table .exit) ≡ with-record (now (table .entry)) place «record» ⌝ }
+{
+    let Place::At(at) = place else {
+        return;
+    };
+    store(table, at, record);
 }
 
 // The record of a new session.

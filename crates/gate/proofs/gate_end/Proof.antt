@@ -3,7 +3,7 @@ use mathlib.Core.Path.{sym, _∙_}
 use borrow.Author.Needs.{needs}
 use borrow.Author.Tests.{not-true, not-false}
 use Rattle.gate.specs.Entry.{stateChecks}
-use Rattle.stages.specs.Session.{without}
+use Rattle.table.specs.Session.{without}
 use Rattle.gate.specs.End.{endChecks, ended}
 use Rattle.gate.proofs.gate_end.Statement.{statement}
 use Rattle.gate.proofs.gate_end.Tie as tie

@@ -13,7 +13,7 @@ use Rattle.table.specs.Record.{freed, recordBytes}
 use Rattle.table.specs.Table.{Within}
 use Rattle.table.proofs.Single.{single-stored}
 use Rattle.stages.specs.Checks.{nowhere}
-use Rattle.stages.specs.Session.{with-record}
+use Rattle.table.specs.Session.{with-record}
 use Rattle.gate.proofs.Judging.{table-nowhere, table-stepped, table-freed, table-kept}
 use Rattle.gate.proofs.one.after.Statement.{statement}
 use Rattle.gate.proofs.one.after.Tie as tie

@@ -1,8 +1,8 @@
--- `judge::put` meets its contract.
+-- `put` meets its contract.
 -- Assumes nothing.
 use borrow.Author.Needs.{needs}
-use Rattle.gate.proofs.judge.put.Statement.{statement}
-use Rattle.gate.proofs.judge.put.Tie as tie
+use Rattle.table.proofs.session.put.Statement.{statement}
+use Rattle.table.proofs.session.put.Tie as tie
 
 store-requires : tie.Need-store-requires
 store-requires c κs = rw (c .before .before .place .given .1) at (c .before .before .before .before .before .pre)

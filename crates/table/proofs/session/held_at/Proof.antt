@@ -1,8 +1,8 @@
--- `judge::held_at` meets its contract.
+-- `held_at` meets its contract.
 -- Assumes nothing.
 use borrow.Author.Needs.{needs}
-use Rattle.gate.proofs.judge.held_at.Statement.{statement}
-use Rattle.gate.proofs.judge.held_at.Tie as tie
+use Rattle.table.proofs.session.held_at.Statement.{statement}
+use Rattle.table.proofs.session.held_at.Tie as tie
 
 read-requires : tie.Need-read-requires
 read-requires c κs = rw (c .before .place .given .1) at (c .before .before .before .before .pre)
