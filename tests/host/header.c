@@ -38,7 +38,7 @@ static void nulls_everywhere(void) {
     gate_record record = gate_record_at(zeros);
     gate_answer set_up = gate_set_up_session(&no_orders, 0, empty, &session, none, none);
     gate_answer judged = gate_judge_request(&no_orders, 0, empty, &request, none, none);
-    gate_answer single = gate_judge_single(&no_orders, 0, empty, &request, &record, none);
+    gate_answer single = gate_judge_one_request(&no_orders, 0, empty, &request, &record, none);
     expect("a setup of nulls is 1", set_up.number == GATE_BAD_SIZE && set_up.length == 0);
     expect("a request of nulls is 1", judged.number == GATE_BAD_SIZE && judged.length == 0);
     expect("so is one for a record", single.number == GATE_BAD_SIZE && single.length == 0);
@@ -54,7 +54,7 @@ static void nulls_for_empty_runs(void) {
     gate_request request = {gate_string(UNSEALED), empty, empty, gate_string("/"), empty};
     gate_record record = gate_record_at(zeros);
     gate_answer judged = gate_judge_request(&no_orders, 0, key(), &request, in_table(), in_reply());
-    gate_answer single = gate_judge_single(&no_orders, 0, key(), &request, &record, in_reply());
+    gate_answer single = gate_judge_one_request(&no_orders, 0, key(), &request, &record, in_reply());
     expect("extra names, lines and body may be null", judged.number == GATE_BAD_TOKEN);
     expect("for a record too", single.number == GATE_BAD_TOKEN);
     request.value = empty;

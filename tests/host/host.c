@@ -248,7 +248,7 @@ static void perform(void) {
         call.answer = gate_judge_request(&call.orders, call.clock, server_key, &call.request, in_table, in_reply);
         break;
     case ONE:
-        call.answer = gate_judge_single(&call.orders, call.clock, server_key, &call.request, call.record, in_reply);
+        call.answer = gate_judge_one_request(&call.orders, call.clock, server_key, &call.request, call.record, in_reply);
         break;
     default:
         call.answer = gate_end_session(lent(IV), in_table);

@@ -2,6 +2,8 @@
 -- coverage, nonce, both times, every covered header value, path and body; an absent header counts as an empty one. If they also carry the same
 -- signature, token, IV and tag, and meet the same server key, orders, clock and table, they get the same verdict, reply and table after.'
 -- Assumes nothing.
+pub mod SignedText
+pub mod Reading
 use mathlib.Core.Path.{_≡_, sym, ap, _∙_}
 use mathlib.Core.List.{List, [], _++_, append-nil, List·Memᴰ}
 use Prim.Native.Nat.{ℕ, zero, suc, _%_, _<_}
@@ -24,41 +26,12 @@ use Rattle.stages.proofs.Checks.{none-holds}
 use Rattle.gate.proofs.Numbers.{entry-numbered}
 use Rattle.stages.proofs.Parts.{reading-numbered}
 use Rattle.demands.specs.Passing.{Reaches}
-use Rattle.demands.proofs.Checks.{opens}
-use Rattle.demands.proofs.Passed.{Passed, all-passed}
-use Rattle.demands.proofs.Carried.{named, hash-ordered, mask-ordered, names-ordered, names-times, mask-fits, nonce-ordered, time-small, last-time-small, nonce-small}
-use Rattle.demands.proofs.SignedText.{carries, carriesTimes, signedBy, text-carried, time-carried, last-time-carried, nonce-carried}
-use Rattle.demands.proofs.Reading.{Alike, ReadAlike, judged-alike, judged-same}
-
--- the value of a header in the set-aside lines, or else in the head; an absent one is empty
-abbrev pub headerOf : Request → List ℕ → List ℕ
-headerOf q name = coveredValue (linesIn (q .aside)) (linesIn (q .head)) name
-
--- two requests agree in coverage, nonce, both times, every covered header value, path and body
-pub record Agree (p q : Request) : Type 0 where
-  pub h : carries nameH p ≡ carries nameH q
-  pub ah : carries nameAh p ≡ carries nameAh q
-  pub eah : carries nameEah p ≡ carries nameEah q
-  pub eah-or-not : carriesTimes nameEah p ≡ carriesTimes nameEah q
-  pub mask : p .orders .numbers .mask ≡ q .orders .numbers .mask
-  pub extra : p .orders .extra ≡ q .orders .extra
-  pub n : carries nameN p ≡ carries nameN q
-  pub n-or-not : carriesTimes nameN p ≡ carriesTimes nameN q
-  pub t : carries nameT p ≡ carries nameT q
-  pub lt : carries nameLt p ≡ carries nameLt q
-  pub headers : (name : List ℕ) → List·Memᴰ name (coveredNames (p .orders .numbers .mask) (p .orders .extra)) → headerOf p name ≡ headerOf q name
-  pub path : p .path ≡ q .path
-  pub body : p .body ≡ q .body
-
--- they carry the same signature, token, IV and tag, and meet the same server key, orders and clock
-pub record MeetAlike (p q : Request) : Type 0 where
-  pub signature : signatureOf p ≡ signatureOf q
-  pub token : carries nameS p ≡ carries nameS q
-  pub iv : ivOf p ≡ ivOf q
-  pub tag : carries nameTag p ≡ carries nameTag q
-  pub server-key : p .server-key ≡ q .server-key
-  pub orders : p .orders ≡ q .orders
-  pub clock : p .clock ≡ q .clock
+use Rattle.demands.proofs.Shared.Checks.{opens}
+use Rattle.demands.proofs.Shared.Passed.{Passed, all-passed}
+use Rattle.demands.proofs.Shared.Carried.{named, hash-ordered, mask-ordered, names-ordered, names-times, mask-fits, nonce-ordered, time-small, last-time-small, nonce-small}
+use Rattle.demands.specs.Agreement.{carries, carriesTimes, signedBy, Alike, Agree, MeetAlike}
+use Rattle.demands.proofs.Agreement.SignedText.{text-carried, time-carried, last-time-carried, nonce-carried}
+use Rattle.demands.proofs.Agreement.Reading.{ReadAlike, judged-alike, judged-same}
 
 reaching : (q : Request) (state : State) → Reaches q state → Passed q state
 unfolding entryPart

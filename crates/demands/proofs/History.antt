@@ -6,6 +6,10 @@
 -- number of records: where that is not 1 to 64, each call answers 1. A session is known by its IV (document 01).
 -- `well-formed` and `never-malformed`: such a table stays well formed and keeps its length, so 3 is never answered.
 -- Assumes nothing.
+pub mod Sessions
+pub mod Tables
+pub mod Calls
+pub mod Lent
 use mathlib.Core.Path.{_≡_, sym, ap, _∙_}
 use mathlib.Core.Logic.{_↔_}
 use mathlib.Core.Bool.{true}
@@ -32,12 +36,12 @@ use Rattle.gate.specs.Judge.{entryPart, requestChecks, judged}
 use Rattle.gate.specs.End.{endChecks}
 use Rattle.demands.specs.History.{Call, setting-up, judging, ending, answer, empty, after, acceptedIn, setUpIn, lentIn, Apart}
 use Rattle.demands.specs.Passing.{PassesOthers}
-use Rattle.demands.proofs.Checks.{never-given}
-use Rattle.demands.proofs.Tables.{Standing, empty-standing}
-use Rattle.demands.proofs.Answers.{setUp-number, ended-number, judged-number}
-use Rattle.demands.proofs.Others.{accepts-zero, passes-finds, passes-window}
-use Rattle.demands.proofs.Lent.{lent-apart}
-use Rattle.demands.proofs.Calls.{held-step, call-standing}
+use Rattle.demands.proofs.Shared.Checks.{never-given}
+use Rattle.demands.proofs.History.Tables.{Standing, empty-standing}
+use Rattle.demands.proofs.Shared.Answers.{setUp-number, ended-number, judged-number}
+use Rattle.demands.proofs.Shared.Others.{accepts-zero, passes-finds, passes-window}
+use Rattle.demands.proofs.History.Lent.{lent-apart}
+use Rattle.demands.proofs.History.Calls.{held-step, call-standing}
 
 -- after any calls the table's sessions are those of the history
 standing : (n : ℕ) (calls : List Call)

@@ -1,6 +1,9 @@
 -- Demand 1: 'A bad request gets its number from our list, by the order given there. Only the refusals 10 and 13 alter the table, by freeing
 -- that session's record, and only they write a reply; the others touch nothing.' For each of the calls, over everything that can be lent.
 -- Assumes nothing.
+pub mod Setups
+pub mod Requests
+pub mod Endings
 use mathlib.Core.Path.{_≡_, sym, ap, _∙_}
 use mathlib.Core.List.{List, []}
 use Prim.Native.Nat.{ℕ, _≤_}
@@ -14,10 +17,10 @@ use Rattle.gate.specs.Setup.{setUp}
 use Rattle.gate.specs.Judge.{judged}
 use Rattle.gate.specs.End.{ended}
 use Rattle.demands.specs.History.{Call, setting-up, judging, ending, answer}
-use Rattle.demands.proofs.Effects.{TenOrThirteen, Kept, SetupEffects, JudgeEffects, EndEffects}
-use Rattle.demands.proofs.Setups.{setup-effects}
-use Rattle.demands.proofs.Requests.{judge-effects}
-use Rattle.demands.proofs.Endings.{end-effects}
+use Rattle.demands.specs.Effects.{TenOrThirteen, Kept, SetupEffects, JudgeEffects, EndEffects}
+use Rattle.demands.proofs.Untouched.Setups.{setup-effects}
+use Rattle.demands.proofs.Untouched.Requests.{judge-effects}
+use Rattle.demands.proofs.Untouched.Endings.{end-effects}
 
 -- each call's number is one that document 01 gives it, by the order given there, and what it does follows from the number
 pub setup : (s : Setup) (state : State) → SetupEffects s state (setUp s state)

@@ -1,3 +1,7 @@
--- A history of calls, which demand 2 speaks of, and what a request passes, which demands 2 and 3 speak of.
-pub mod Passing
+-- What the demands speak of: of demand 1 Order, Tables and Effects, of demand 2 History and Passing, of demand 3 Passing and Agreement.
+pub mod Order
+pub mod Tables
+pub mod Effects
 pub mod History
+pub mod Passing
+pub mod Agreement

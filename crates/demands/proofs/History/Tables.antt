@@ -16,8 +16,8 @@ use Rattle.table.proofs.Records.{length-records, records-at, records-stored, fr
 use Rattle.table.proofs.Found.{found-at}
 use Rattle.table.specs.Session.{placeOf, with-record, without}
 use Rattle.demands.specs.History.{empty}
-use Rattle.demands.proofs.Stored.{replaced}
-use Rattle.demands.proofs.Sessions.{Sessions, free-sessions, freed-sessions}
+use Rattle.demands.proofs.Shared.Stored.{replaced}
+use Rattle.demands.proofs.History.Sessions.{Sessions, free-sessions, freed-sessions}
 
 -- a table of n records, the IVs set up so far, and the nonces accepted so far under each IV
 pub record Standing (n : ℕ) (table : List ℕ) (ivs : List (List ℕ)) (nonces : List ℕ → List ℕ) : Type 0 where

@@ -22,6 +22,7 @@ use Rattle.gate.specs.Setup.{expiryOf, setupChecks, withSession, setUp}
 use Rattle.stages.specs.Parts.{ivOf, nonceOf, ordered, stepped, nextOf, invalidates}
 use Rattle.gate.specs.Judge.{requestChecks, tableAfter, answered, judged}
 use Rattle.gate.specs.End.{endChecks, ended}
+use Rattle.demands.specs.Effects.{Replied}
 
 -- the number and the table of the outcome that a number picks
 number-by : (n : ℕ) (done refused : Outcome) → done .number ≡ 0 → refused .number ≡ n → (t : Bool) → eqb n 0 ≡ t
@@ -109,3 +110,12 @@ module _ (q : Request) (table : List ℕ) (place : ℕ) (e : placeOf table (ivOf
 
 pub unordered-table : (q : Request) (table : List ℕ) → ordered q ≡ false → steppedFor q table ≡ table
 unordered-table q table o = rw o
+
+-- as the definitions put it
+pub fronted-replied : (n : ℕ) (text buffer : List ℕ) (state : State) → Replied text buffer (replied n text buffer state)
+unfolding fronted
+fronted-replied n text buffer state = record {
+  long = refl;
+  front = take-append-seam text (drop (length text) buffer);
+  rest = drop-append-seam text (drop (length text) buffer);
+}

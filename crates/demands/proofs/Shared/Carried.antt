@@ -27,7 +27,7 @@ use Rattle.coverage.specs.Coverage.{asOrdered, extraAsOrdered}
 use Rattle.gate.specs.State.{State}
 use Rattle.stages.specs.Request.{Request}
 use Rattle.stages.specs.Parts.{fieldsOf, nonceOf, timeOf, lastTimeOf}
-use Rattle.demands.proofs.Passed.{Passed}
+use Rattle.demands.proofs.Shared.Passed.{Passed}
 
 -- a number that a good value carries once
 module _ (v : List ℕ) (good : requestAnswer v ≡ Answer.Good) where

@@ -16,18 +16,7 @@ use Rattle.table.specs.Table.{places, recordAt, records, taken}
 use Rattle.table.proofs.Records.{length-recordBytes, length-records, records-at, records-stored}
 use Rattle.table.proofs.Found.{taken-at}
 use Rattle.table.proofs.Stored.{stored-here, stored-other}
-
--- the byte is none of the record's at a place
-abbrev pub Outside : ℕ → ℕ → Type 0
-Outside place i = (i < size * place) ⊎ (size * place + size ≤ i)
-
--- the table after is the one before with this record at a place
-pub record Replaced (before after : List ℕ) (place : ℕ) (r : Record) : Type 0 where
-  pub within : place < places before
-  pub here : recordAt after place ≡ r
-  pub others : (j : ℕ) → j < places before → (j ≡ place → ⊥) → recordAt after j ≡ recordAt before j
-  pub bytes : (i : ℕ) → Outside place i → getD after i 0 ≡ getD before i 0
-  pub as-long : length after ≡ length before
+use Rattle.demands.specs.Tables.{Outside, Replaced}
 
 spliced-outside : (xs ys : List ℕ) (at i : ℕ) → at + length ys ≤ length xs → (i < at) ⊎ (at + length ys ≤ i)
     → getD (spliced xs at ys) i 0 ≡ getD xs i 0

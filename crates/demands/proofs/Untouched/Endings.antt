@@ -12,11 +12,12 @@ use Rattle.stages.specs.Checks.{first}
 use Rattle.gate.specs.Entry.{stateChecks}
 use Rattle.table.specs.Session.{without}
 use Rattle.gate.specs.End.{endChecks, endOutcome, ended}
-use Rattle.stages.proofs.Checks.{Exactly, first-among, first-exactly}
+use Rattle.demands.specs.Order.{Exactly}
+use Rattle.demands.proofs.Shared.Order.{first-among, first-exactly}
 use Rattle.gate.proofs.Numbers.{end-numbered}
-use Rattle.demands.proofs.Named.{somewhere, freed-there}
-use Rattle.demands.proofs.Passed.{table-passed, session-passed}
-use Rattle.demands.proofs.Effects.{endNumbers, Ended, EndEffects}
+use Rattle.demands.proofs.Shared.Named.{somewhere, freed-there}
+use Rattle.demands.proofs.Shared.Passed.{table-passed, session-passed}
+use Rattle.demands.specs.Effects.{endNumbers, Ended, EndEffects}
 
 ends : (iv : List ℕ) (state : State) → first (endChecks iv state) ≡ 0 → Ended iv state (endOutcome 0 iv state)
 ends iv state none =

@@ -26,12 +26,12 @@ use Rattle.stages.specs.Parts.{ivOf, nonceOf, stepped, invalidates}
 use Rattle.gate.specs.Judge.{requestChecks, judged}
 use Rattle.gate.specs.End.{endChecks, ended}
 use Rattle.demands.specs.History.{Call, setting-up, judging, ending, answer, withAccepted, withSetUp}
-use Rattle.demands.proofs.Checks.{accepted-passes}
-use Rattle.demands.proofs.Answers.{steppedFor, setUp-number, setUp-table, begun-table, ended-table, next, judged-number, judged-table, found-step, ordered-table, unordered-table}
-use Rattle.demands.proofs.Passed.{Takes, setup-takes}
-use Rattle.demands.proofs.Others.{accepts-zero, Finds, passes-finds, passes-window}
-use Rattle.demands.proofs.Sessions.{begun-sessions, stepped-sessions}
-use Rattle.demands.proofs.Tables.{Standing, held, stored-standing, without-standing}
+use Rattle.demands.proofs.Shared.Checks.{accepted-passes}
+use Rattle.demands.proofs.Shared.Answers.{steppedFor, setUp-number, setUp-table, begun-table, ended-table, next, judged-number, judged-table, found-step, ordered-table, unordered-table}
+use Rattle.demands.proofs.Shared.Passed.{Takes, setup-takes}
+use Rattle.demands.proofs.Shared.Others.{accepts-zero, Finds, passes-finds, passes-window}
+use Rattle.demands.proofs.History.Sessions.{begun-sessions, stepped-sessions}
+use Rattle.demands.proofs.History.Tables.{Standing, held, stored-standing, without-standing}
 
 module _ (n : ℕ) (state : State) (ivs : List (List ℕ)) (nonces : List ℕ → List ℕ) (st : Standing n (state .table) ivs nonces) where
   -- a setup that is answered 0

@@ -21,9 +21,8 @@ use Rattle.gate.specs.Setup.{expiryOf, setupChecks, replyOf}
 use Rattle.stages.specs.Parts.{ivOf, nonceOf, tokenOf}
 use Rattle.gate.specs.Judge.{requestChecks}
 use Rattle.gate.specs.End.{endChecks}
-use Rattle.stages.proofs.Checks.{Exactly}
-use Rattle.demands.proofs.Stored.{Replaced}
-use Rattle.demands.proofs.Named.{SessionAt, Session}
+use Rattle.demands.specs.Order.{Exactly}
+use Rattle.demands.specs.Tables.{Replaced, SessionAt, Session}
 
 -- the numbers that document 01 gives each call, in the order of their checks
 abbrev pub setupNumbers : List ℕ
@@ -104,12 +103,3 @@ pub record EndEffects (vector : List ℕ) (before : State) (o : Outcome) : Type 
   pub no-reply : (o .length ≡ 0) × (o .reply ≡ [])
   pub refused : 1 ≤ o .number → o .state ≡ before
   pub passed : o .number ≡ 0 → Ended vector before o
-
--- as the definitions put it
-pub fronted-replied : (n : ℕ) (text buffer : List ℕ) (state : State) → Replied text buffer (replied n text buffer state)
-unfolding fronted
-fronted-replied n text buffer state = record {
-  long = refl;
-  front = take-append-seam text (drop (length text) buffer);
-  rest = drop-append-seam text (drop (length text) buffer);
-}

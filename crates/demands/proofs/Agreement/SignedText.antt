@@ -19,30 +19,9 @@ use Rattle.signed.specs.SignedText.{Signed, signedText, coveredValues, signedOf
 use Rattle.gate.specs.State.{State}
 use Rattle.stages.specs.Request.{Request}
 use Rattle.stages.specs.Parts.{fieldsOf, nonceOf, timeOf, lastTimeOf, textOf}
-use Rattle.demands.proofs.Passed.{Passed}
-use Rattle.demands.proofs.Carried.{hash-ordered, mask-ordered, names-ordered, mask-fits, nonce-ordered}
-
--- what a request carries under a name, as decoded bytes; nothing where the name is absent
-abbrev pub carries : List ℕ → Request → List ℕ
-carries name q = the name (fieldsOf q)
-
--- how often it carries the name
-abbrev pub carriesTimes : List ℕ → Request → ℕ
-carriesTimes name q = times name (fieldsOf q)
-
--- what is signed, as carried
-abbrev pub signedBy : Request → Signed
-signedBy q = record {
-  h = carries nameH q;
-  ah = carries nameAh q;
-  eah = carries nameEah q;
-  n = cond (eqb (carriesTimes nameN q) 1) (some (carries nameN q)) none;
-  t = carries nameT q;
-  lt = carries nameLt q;
-  values = coveredValues (maskOf (carries nameAh q)) (carries nameEah q) (q .aside) (q .head);
-  path = q .path;
-  body = q .body;
-}
+use Rattle.demands.proofs.Shared.Passed.{Passed}
+use Rattle.demands.proofs.Shared.Carried.{hash-ordered, mask-ordered, names-ordered, mask-fits, nonce-ordered}
+use Rattle.demands.specs.Agreement.{carries, carriesTimes, signedBy}
 
 pub time-carried : (q : Request) (state : State) → Passed q state → numberBytes (timeOf q) ≡ carries nameT q
 unfolding timeOf fieldsOf

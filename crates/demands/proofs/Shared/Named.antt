@@ -14,18 +14,13 @@ use Rattle.table.proofs.Tests.{holds-used, used-holds}
 use Rattle.table.proofs.Found.{found-at, at-found}
 use Rattle.stages.specs.Checks.{nowhere}
 use Rattle.table.specs.Session.{placeOf, with-record, without}
-use Rattle.demands.proofs.Stored.{Replaced, replaced}
+use Rattle.demands.specs.Tables.{Replaced, SessionAt, Session}
+use Rattle.demands.proofs.Shared.Stored.{replaced}
 
 -- what it says that a place is somewhere
 pub placed : (p : Place) → nowhere p ≡ false → (i : ℕ) × (p ≡ At i)
 placed (At i) e = (i, refl)
 placed Nowhere e = absurd (true≢false e)
-
--- a used record with the IV stands at a place of the table
-pub record SessionAt (table vector : List ℕ) (place : ℕ) : Type 0 where
-  pub within : place < places table
-  pub used : recordAt table place .used ≡ 1
-  pub iv : recordAt table place .iv ≡ vector
 
 -- the place that is found
 pub found-session : (table iv : List ℕ) (place : ℕ) → placeOf table iv ≡ At place → SessionAt table iv place
@@ -40,10 +35,6 @@ pub session-found : (table iv : List ℕ) (place : ℕ) → WellFormed (records 
 session-found table iv place w s =
     at-found (records table) iv place w (rw length-records (s .within))
     (ap (holds iv) (records-at table place (s .within)) ∙ used-holds iv (recordAt table place) (s .used) (s .iv))
-
-pub record Session (table vector : List ℕ) : Type 0 where
-  pub place : ℕ
-  pub is : SessionAt table vector place
 
 pub somewhere : (table iv : List ℕ) → nowhere (placeOf table iv) ≡ false → Session table iv
 somewhere table iv e =

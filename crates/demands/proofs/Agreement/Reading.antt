@@ -17,7 +17,8 @@ use Rattle.table.specs.Session.{placeOf}
 use Rattle.stages.specs.Parts.{ivOf, nonceOf, timeOf, lastTimeOf, signatureOf, tokenOf, limits, textOf, codeOf, ordered, stepped, nextOf, signaturePart, sessionPart, noncePart, admittingPart, invalidates}
 use Rattle.gate.specs.Judge.{requestChecks, tableAfter, answered, outcomeAt, judged}
 use Rattle.demands.specs.Passing.{Reaches}
-use Rattle.demands.proofs.Checks.{signature-decides}
+use Rattle.demands.proofs.Shared.Checks.{signature-decides}
+use Rattle.demands.specs.Agreement.{Alike}
 
 -- two requests of which judging reads the same
 pub record ReadAlike (p q : Request) : Type 0 where
@@ -30,13 +31,6 @@ pub record ReadAlike (p q : Request) : Type 0 where
   pub signature : signatureOf p ≡ signatureOf q
   pub token : tokenOf p ≡ tokenOf q
   pub text : textOf p ≡ textOf q
-
--- two outcomes with the same number, reply and state
-pub record Alike (a b : Outcome) : Type 0 where
-  pub number : a .number ≡ b .number
-  pub long : a .length ≡ b .length
-  pub reply : take (a .length) (a .reply) ≡ take (b .length) (b .reply)
-  pub state : a .state ≡ b .state
 
 replied-alike : (n : ℕ) {text other : List ℕ} (buffer lent : List ℕ) {after later : State} → text ≡ other → after ≡ later
     → Alike (replied n text buffer after) (replied n other lent later)

@@ -9,7 +9,7 @@ use Rattle.cells.specs.Runs.{same}
 use Rattle.armor.specs.Fields.{among}
 use Rattle.gate.specs.State.{State}
 use Rattle.demands.specs.History.{Call, setting-up, judging, ending, answer, after, setUpIn, lentIn, Apart}
-use Rattle.demands.proofs.Sessions.{neither}
+use Rattle.demands.proofs.History.Sessions.{neither}
 
 -- an IV that was lent to no setup was not set up
 lent-none : (iv : List ℕ) (state : State) (calls : List Call) → among (lentIn calls) iv ≡ false → among (setUpIn state calls) iv ≡ false

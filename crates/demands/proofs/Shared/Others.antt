@@ -22,10 +22,10 @@ use Rattle.stages.proofs.Checks.{none-holds}
 use Rattle.gate.proofs.Numbers.{entry-numbered}
 use Rattle.stages.proofs.Parts.{reading-numbered, vouching-numbered}
 use Rattle.demands.specs.Passing.{PassesOthers}
-use Rattle.demands.proofs.Checks.{nonce-decides, opens, finds}
-use Rattle.demands.proofs.Named.{placed}
-use Rattle.demands.proofs.Passed.{all-passed}
-use Rattle.demands.proofs.Carried.{nonce-small}
+use Rattle.demands.proofs.Shared.Checks.{nonce-decides, opens, finds}
+use Rattle.demands.proofs.Shared.Named.{placed}
+use Rattle.demands.proofs.Shared.Passed.{all-passed}
+use Rattle.demands.proofs.Shared.Carried.{nonce-small}
 
 -- a verdict accepts exactly if its number is 0
 pub accepts-zero : (v : Verdict) → isAccepted v ≡ eqb (numberOf v) 0

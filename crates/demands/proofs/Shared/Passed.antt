@@ -39,8 +39,8 @@ use Rattle.gate.specs.Judge.{entryPart, requestChecks}
 use Rattle.stages.proofs.Checks.{lacks, passed-at}
 use Rattle.gate.proofs.Numbers.{entry-passed, setup-numbered, end-numbered}
 use Rattle.stages.proofs.Parts.{reading-numbered}
-use Rattle.demands.proofs.Checks.{read-through, opens}
-use Rattle.demands.proofs.Named.{placed}
+use Rattle.demands.proofs.Shared.Checks.{read-through, opens}
+use Rattle.demands.proofs.Shared.Named.{placed}
 
 -- none of the checks 1 to 9 holds
 pub record Passed (q : Request) (state : State) : Type 0 where

@@ -21,16 +21,19 @@ use Rattle.gate.specs.Entry.{stateChecks, entryChecks}
 use Rattle.table.specs.Session.{placeOf, without}
 use Rattle.stages.specs.Parts.{ivOf, nonceOf, tokenOf, ordered, readingPart, coveringPart, tokenPart, signaturePart, vouchingPart, sessionPart, noncePart, admittingPart, invalidates}
 use Rattle.gate.specs.Judge.{entryPart, requestChecks, tableAfter, answered, outcomeAt, judged}
-use Rattle.stages.proofs.Checks.{Exactly, comes-later, first-among, first-exactly}
+use Rattle.demands.specs.Order.{Exactly}
+use Rattle.stages.proofs.Checks.{comes-later}
+use Rattle.demands.proofs.Shared.Order.{first-among, first-exactly}
 use Rattle.gate.proofs.Numbers.{request-numbered}
-use Rattle.demands.proofs.Checks.{accepted-passes, read-through, finds}
-use Rattle.demands.proofs.Others.{passes-finds}
-use Rattle.demands.proofs.Answers.{steppedFor, next, ordered-table, unordered-table}
-use Rattle.demands.proofs.Stored.{Replaced, replaced}
-use Rattle.demands.proofs.Named.{SessionAt, session-found, somewhere, freed-there, freed-nowhere}
-use Rattle.demands.proofs.Passed.{Passed, passed, accepted-passed}
-use Rattle.demands.proofs.Carried.{nonce-small}
-use Rattle.demands.proofs.Effects.{judgeNumbers, TenOrThirteen, Invalidated, Moved, Accepted, JudgeEffects, fronted-replied}
+use Rattle.demands.proofs.Shared.Checks.{accepted-passes, read-through, finds}
+use Rattle.demands.proofs.Shared.Others.{passes-finds}
+use Rattle.demands.proofs.Shared.Answers.{steppedFor, next, ordered-table, unordered-table, fronted-replied}
+use Rattle.demands.specs.Tables.{Replaced, SessionAt}
+use Rattle.demands.proofs.Shared.Stored.{replaced}
+use Rattle.demands.proofs.Shared.Named.{session-found, somewhere, freed-there, freed-nowhere}
+use Rattle.demands.proofs.Shared.Passed.{Passed, passed, accepted-passed}
+use Rattle.demands.proofs.Shared.Carried.{nonce-small}
+use Rattle.demands.specs.Effects.{judgeNumbers, TenOrThirteen, Invalidated, Moved, Accepted, JudgeEffects}
 
 -- at 10 and 13 the record is freed, and the reply is the invalidation
 freed-by : (q : Request) (n : ℕ) (state : State) → Passed q state → Invalidated q state (replied n (invalidation (tokenOf q .key)) (q .reply) (holding (without (state .table) (ivOf q))))

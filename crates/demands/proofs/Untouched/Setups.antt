@@ -15,12 +15,13 @@ use Rattle.stages.specs.Checks.{first}
 use Rattle.gate.specs.Entry.{stateChecks, entryChecks}
 use Rattle.gate.specs.Setup as S
 use Rattle.gate.specs.Setup.{expiryOf, offerPart, lastingPart, roomPart, setupChecks, replyOf, setupOutcome, setUp}
-use Rattle.stages.proofs.Checks.{Exactly, first-among, first-exactly}
+use Rattle.demands.specs.Order.{Exactly}
+use Rattle.demands.proofs.Shared.Order.{first-among, first-exactly}
 use Rattle.gate.proofs.Numbers.{setup-numbered}
-use Rattle.demands.proofs.Stored.{replaced, taken-within}
-use Rattle.demands.proofs.Answers.{begun-table}
-use Rattle.demands.proofs.Passed.{Takes, setup-takes}
-use Rattle.demands.proofs.Effects.{setupNumbers, Begun, SetupEffects, fronted-replied}
+use Rattle.demands.proofs.Shared.Stored.{replaced, taken-within}
+use Rattle.demands.proofs.Shared.Answers.{begun-table, fronted-replied}
+use Rattle.demands.proofs.Shared.Passed.{Takes, setup-takes}
+use Rattle.demands.specs.Effects.{setupNumbers, Begun, SetupEffects}
 
 begins : (s : Setup) (state : State) → Takes s state → Begun s state (setupOutcome 0 s state)
 begins s state t = record {

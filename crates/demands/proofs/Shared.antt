@@ -1,0 +1,9 @@
+-- Laws that several theorems cite.
+pub mod Checks
+pub mod Order
+pub mod Answers
+pub mod Stored
+pub mod Named
+pub mod Passed
+pub mod Carried
+pub mod Others
