@@ -11,7 +11,7 @@ use lib.ListN.{length}
 use Rattle.reply.specs.Replies.{invalidation}
 use Rattle.table.proofs.Tests.{both}
 use Rattle.table.proofs.Records.{length-recordBytes}
-use Rattle.table.proofs.Single.{one-place, single-record, single-found}
+use Rattle.table.proofs.One.{one-place, one-record, one-found}
 use Rattle.table.specs.declared.session.Record.{Record}
 use Rattle.table.specs.declared.place.Place.{Place}
 use Rattle.table.specs.declared.place.Place.the-variants.{At, Nowhere}
@@ -134,23 +134,23 @@ table-nowhere n nonces next table = by (eqb n 0) nonces (invalidates n)
 
 -- a table of one record: its size is right, and its session stands at the first place or nowhere
 module _ (r : Record) (f : Fits r) where
-  pub single-sizes : (q : Request) → requestFits q (holding (recordBytes r)) ≡ lentFits q
+  pub one-sizes : (q : Request) → requestFits q (holding (recordBytes r)) ≡ lentFits q
   unfolding requestFits tableFits
-  single-sizes q = rw (length-recordBytes r (f .iv)) (and-true (lentFits q))
+  one-sizes q = rw (length-recordBytes r (f .iv)) (and-true (lentFits q))
 
-  pub single-within : (iv : List ℕ) → Within (places (recordBytes r)) (placeOf (recordBytes r) iv)
-  single-within iv = rw (one-place r f, single-found r f iv) (by (holds iv r))
+  pub one-within : (iv : List ℕ) → Within (places (recordBytes r)) (placeOf (recordBytes r) iv)
+  one-within iv = rw (one-place r f, one-found r f iv) (by (holds iv r))
     where
       by : (t : Bool) → Within 1 (cond t (At 0) Nowhere)
       by true = omega arith
       by false = tt
 
-  pub single-held : (iv : List ℕ) (place : Place) → place ≡ placeOf (recordBytes r) iv → nowhere place ≡ false → heldAt (recordBytes r) place ≡ r
-  single-held iv place e there =
-      ap (heldAt (recordBytes r)) (e ∙ single-found r f iv) ∙ by (holds iv r) (ap nowhere (sym (e ∙ single-found r f iv)) ∙ there)
+  pub one-held : (iv : List ℕ) (place : Place) → place ≡ placeOf (recordBytes r) iv → nowhere place ≡ false → heldAt (recordBytes r) place ≡ r
+  one-held iv place e there =
+      ap (heldAt (recordBytes r)) (e ∙ one-found r f iv) ∙ by (holds iv r) (ap nowhere (sym (e ∙ one-found r f iv)) ∙ there)
     where
       by : (t : Bool) → nowhere (cond t (At 0) Nowhere) ≡ false → heldAt (recordBytes r) (cond t (At 0) Nowhere) ≡ r
-      by true z = single-record r f
+      by true z = one-record r f
       by false z = absurd (true≢false z)
 
 -- the effect, number by number

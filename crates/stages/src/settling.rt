@@ -64,16 +64,19 @@ pub fn settle<'a>(
     if vouched.number != 0 {
         return decided(vouched.number, place, token, false, held);
     }
+    let t = request.t;
+    let lt = request.lt;
+    let n = request.n;
     let ordered = numbers.mask % 2 == 1;
     let admitted = admitting::admit(
         place,
         held,
         clock,
-        request.t,
-        request.lt,
+        t,
+        lt,
         limits,
         ordered,
-        request.n,
+        n,
     );
     decided(admitted.number, place, token, ordered, admitted.next)
 }

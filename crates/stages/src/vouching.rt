@@ -46,14 +46,17 @@ pub fn vouch<'a>(
         return Vouched { number: 10, token };
     }
     let key = token.key;
+    let n = request.n;
+    let t = request.t;
+    let lt = request.lt;
     let code = signed::code(
         known,
         &key,
         numbers.mask,
         extra,
-        request.n,
-        request.t,
-        request.lt,
+        n,
+        t,
+        lt,
         head,
         aside,
         path,

@@ -1,6 +1,6 @@
 -- The laws that callers' proofs cite, and those of this crate's own functions.
 pub mod Records
-pub mod Single
+pub mod One
 pub mod Ivs
 pub mod Scan
 pub mod Tests

@@ -11,7 +11,7 @@ use Rattle.table.specs.declared.place.Place.{Place}
 use Rattle.table.specs.declared.place.Place.the-variants.{At, Nowhere}
 use Rattle.table.specs.Record.{freed, recordBytes}
 use Rattle.table.specs.Table.{Within}
-use Rattle.table.proofs.Single.{single-stored}
+use Rattle.table.proofs.One.{one-stored}
 use Rattle.stages.specs.Checks.{nowhere}
 use Rattle.table.specs.Session.{with-record}
 use Rattle.gate.proofs.Judging.{table-nowhere, table-stepped, table-freed, table-kept}
@@ -20,7 +20,7 @@ use Rattle.gate.proofs.one.after.Tie as tie
 
 stored : (place : Place) (r next : Record) → Within 1 place → nowhere place ≡ false → length (r .iv) ≡ 12 → length (next .iv) ≡ 12
     → recordBytes next ≡ with-record (recordBytes r) place next
-stored (At zero) r next w there f g = sym (single-stored r next f g)
+stored (At zero) r next w there f g = sym (one-stored r next f g)
 stored (At (suc k)) r next w there f g = absurd (omega arith)
 stored Nowhere r next w there f g = absurd (true≢false there)
 

@@ -13,13 +13,13 @@ use Rattle.names.proofs.Extra.{short-extra}
 use Rattle.table.specs.Record.{recordBytes, Fits}
 use Rattle.table.specs.Table.{records}
 use Rattle.table.specs.WellFormed.{wellFormed}
-use Rattle.table.proofs.Single.{single-rule}
+use Rattle.table.proofs.One.{one-rule}
 use Rattle.stages.specs.Request.{Request, requestOf}
 use Rattle.gate.specs.Sizes.{requestFits}
 use Rattle.stages.specs.Parts.{fieldsOf, ivOf}
 use Rattle.stages.specs.Stages.{StandsAt}
 use Rattle.gate.proofs.Numbers.{Entered}
-use Rattle.gate.proofs.Judging.{sized, single-sizes, single-held, single-within, ill-sized, ill-ordered, ill-formed, refused-as, unread, decided-by}
+use Rattle.gate.proofs.Judging.{sized, one-sizes, one-held, one-within, ill-sized, ill-ordered, ill-formed, refused-as, unread, decided-by}
 use Rattle.gate.proofs.one.decide.Statement.{statement}
 use Rattle.gate.proofs.one.decide.Tie as tie
 
@@ -36,10 +36,10 @@ fits c =
     record { used = search needs; iv = search needs; expiry = search needs; any = search needs; highest = search needs; bits = search needs }
 
 sizes : (c : tie.After-lent-fits) → c .lent-fits .result ≡ requestFits (asked (c .before .before .before .before .before .before .before .before .before)) (lent (c .before .before .before .before .before .before .before .before .before))
-sizes c = c .lent-fits .ensures _ _ ∙ sym (single-sizes _ (fits (c .before .before .before .before .before .before .before .before .before)) _)
+sizes c = c .lent-fits .ensures _ _ ∙ sym (one-sizes _ (fits (c .before .before .before .before .before .before .before .before .before)) _)
 
 rule : (c : tie.After-record-sound) → c .record-sound .result ≡ wellFormed (records (lent (c .before .before .before .before .before .before .before .before .before .before .before .before .before .before .before)))
-rule c = c .record-sound .ensures ∙ sym (single-rule _ (fits (c .before .before .before .before .before .before .before .before .before .before .before .before .before .before .before)))
+rule c = c .record-sound .ensures ∙ sym (one-rule _ (fits (c .before .before .before .before .before .before .before .before .before .before .before .before .before .before .before)))
 
 returns : tie.Need-returns
 returns c =
@@ -100,7 +100,7 @@ stands : (c : tie.After-place-of) (life idle session clock : ℕ) (server-key pa
 unfolding ivOf fieldsOf
 stands c life idle session clock server-key path body reply =
     let held = c .before .before .before .before .before .before .read .ensures life idle session clock server-key path body reply .holds (c .before .before .before .before .if3 .left) in
-    record { at = rw (← (held .vector)) (sym (c .place-of .ensures)); holds = single-held _ (fits (entry (c .before .before .before .before .before .before .before))) _ _ (c .place-of .ensures) }
+    record { at = rw (← (held .vector)) (sym (c .place-of .ensures)); holds = one-held _ (fits (entry (c .before .before .before .before .before .before .before))) _ _ (c .place-of .ensures) }
 
 iv-size : (c : tie.After-read) → length (c .read .result .request .iv) ≡ 12
 iv-size c = search needs
@@ -118,7 +118,7 @@ returns-5 c =
     let read = c .before .before .before .before .before .before .before .read .ensures (q .orders .request-life) (q .orders .idle) (q .orders .session-life) (q .clock) (q .server-key) (q .path) (q .body) (q .reply) in
     let held = read .holds (c .before .before .before .before .before .if3 .left) in
     decided-by q _ _ (entered (c .before .before .before .before .before .before .before .before)) (sym (read .is) ∙ c .before .before .before .before .before .if3 .left) (sized q _ (entered (c .before .before .before .before .before .before .before .before) .sizes) .reply)
-    (single-within _ (fits (entry (c .before .before .before .before .before .before .before .before))) _)
+    (one-within _ (fits (entry (c .before .before .before .before .before .before .before .before))) _)
     (c .settle .ensures _ _ _ _ _ _ held (ordered (c .before .before .before .before .before .before .before .before .before .before) .1) (stands (c .before) _ _ _ _ _ _ _ _))
 
 pub decide-spec : {M : Type 1} → statement M

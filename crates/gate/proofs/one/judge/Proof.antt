@@ -3,7 +3,7 @@
 use mathlib.Core.Path.{_∙_}
 use borrow.Author.Needs.{needs}
 use Rattle.table.specs.Record.{Fits}
-use Rattle.table.proofs.Single.{one-place}
+use Rattle.table.proofs.One.{one-place}
 use Rattle.stages.specs.Request.{Request, requestOf}
 use Rattle.orders.specs.Orders.{ordersOf}
 use Rattle.gate.proofs.Judging.{decided-small, applied-judged}

@@ -2,7 +2,7 @@
 -- Assumes nothing.
 use borrow.Author.Needs.{needs}
 use Rattle.table.specs.Record.{Fits}
-use Rattle.table.proofs.Single.{single-found}
+use Rattle.table.proofs.One.{one-found}
 use Rattle.gate.proofs.one.place_of.Statement.{statement}
 use Rattle.gate.proofs.one.place_of.Tie as tie
 
@@ -11,10 +11,10 @@ fits c =
     record { used = search needs; iv = search needs; expiry = search needs; any = search needs; highest = search needs; bits = search needs }
 
 returns : tie.Need-returns
-returns c = rw (single-found _ (fits (c .before .before .before)) _, ← (c .before .is-of .ensures), c .if1 .taken)
+returns c = rw (one-found _ (fits (c .before .before .before)) _, ← (c .before .is-of .ensures), c .if1 .taken)
 
 returns-2 : tie.Need-returns-2
-returns-2 c = rw (single-found _ (fits (c .before .before .before)) _, ← (c .before .is-of .ensures), c .if1 .left)
+returns-2 c = rw (one-found _ (fits (c .before .before .before)) _, ← (c .before .is-of .ensures), c .if1 .left)
 
 pub place-of-spec : {M : Type 1} → statement M
 place-of-spec = tie.close (tie.spec (λ c κs. search needs) returns returns-2)

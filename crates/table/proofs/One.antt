@@ -27,24 +27,24 @@ module _ (r : Record) (f : Fits r) where
   one-place = ap (λ (n : ℕ). n / size) (length-recordBytes r (f .iv))
 
   -- read from its place
-  pub single-record : recordAt (recordBytes r) 0 ≡ r
-  single-record = ap recordOf (take-all size (recordBytes r) (omega (arith, length-recordBytes r (f .iv)))) ∙ recordOf-bytes r f
+  pub one-record : recordAt (recordBytes r) 0 ≡ r
+  one-record = ap recordOf (take-all size (recordBytes r) (omega (arith, length-recordBytes r (f .iv)))) ∙ recordOf-bytes r f
 
   pub records-single : records (recordBytes r) ≡ r ∷ []
   unfolding records
   records-single =
       ap (λ (n : ℕ). chunks n (recordBytes r)) one-place
-      ∙ ap (λ (x : Record). x ∷ []) single-record
+      ∙ ap (λ (x : Record). x ∷ []) one-record
 
-  pub single-rule : wellFormed (records (recordBytes r)) ≡ sound r
+  pub one-rule : wellFormed (records (recordBytes r)) ≡ sound r
   unfolding wellFormed fitting
-  single-rule = rw records-single (alone (sound r) (isUsed r))
+  one-rule = rw records-single (alone (sound r) (isUsed r))
 
-  pub single-found : (iv : List ℕ) → found (records (recordBytes r)) iv ≡ cond (holds iv r) (At 0) Nowhere
+  pub one-found : (iv : List ℕ) → found (records (recordBytes r)) iv ≡ cond (holds iv r) (At 0) Nowhere
   unfolding found
-  single-found iv = rw records-single
+  one-found iv = rw records-single
 
-pub single-stored : (r next : Record) → length (r .iv) ≡ 12 → length (next .iv) ≡ 12 → spliced (recordBytes r) (size * 0) (recordBytes next) ≡ recordBytes next
-single-stored r next f g =
+pub one-stored : (r next : Record) → length (r .iv) ≡ 12 → length (next .iv) ≡ 12 → spliced (recordBytes r) (size * 0) (recordBytes next) ≡ recordBytes next
+one-stored r next f g =
     spliced-front (recordBytes r) (recordBytes next)
     ∙ fronted-whole (recordBytes next) (recordBytes r) (length-recordBytes next g ∙ sym (length-recordBytes r f))
