@@ -1,6 +1,7 @@
 -- `covered` meets its contract: the set-aside lines are asked first, and the head only where the name is missing there.
 -- Assumes nothing.
 use borrow.Author.Needs.{needs}
+use mathlib.Core.Path.{ap}
 use native.Mathlib.Omega.{arith}
 use Rattle.lines.specs.Values.{coveredValue}
 use Rattle.lines.specs.Places.{FirstNamed}
@@ -25,7 +26,7 @@ returns c =
     let aside = c .before .before .before .before .before .before .before .before .args .aside .now in
     let place = c .before .before .start .given .0 in
     let found = apart (c .before .before) in
-    record { is = simp (found .value); within = omega (arith, length-cut aside (place .0) (place .1 .0) (found .within)) }
+    record { is = simp (ap (λ p. p .0) (found .told)); within = omega (arith, length-cut aside (place .0) (place .1 .0) (found .within)) }
 
 returns-2 : tie.Need-returns-2
 unfolding coveredValue
@@ -34,14 +35,14 @@ returns-2 c =
     let place = c .before .before .start2 .given .0 in
     let found = ahead (c .before .before) in
     let none = rw (c .before .before .before .before .before .enum-told .given .1) at (c .before .before .before .before .before .before .before .find .ensures) in
-    record { is = simp (none .value, found .value); within = omega (arith, length-cut head (place .0) (place .1 .0) (found .within)) }
+    record { is = simp (ap (λ p. p .0) none, ap (λ p. p .0) (found .told)); within = omega (arith, length-cut head (place .0) (place .1 .0) (found .within)) }
 
 returns-3 : tie.Need-returns-3
 unfolding coveredValue
 returns-3 c =
     let none = rw (c .before .before .before .before .enum-told .given .1) at (c .before .before .before .before .before .before .find .ensures) in
     let neither = rw (c .before .enum-told2 .given .1) at (c .before .before .before .find2 .ensures) in
-    record { is = simp (none .value, neither .value); within = omega arith }
+    record { is = simp (ap (λ p. p .0) none, ap (λ p. p .0) neither); within = omega arith }
 
 pub covered-spec : {M : Type 1} → statement M
 covered-spec =

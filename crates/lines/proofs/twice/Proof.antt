@@ -2,7 +2,7 @@
 -- Assumes nothing.
 use borrow.Author.Needs.{needs}
 use borrow.Author.Tests.{lt-ltb, le-ltb}
-use mathlib.Core.Path.{sym}
+use mathlib.Core.Path.{sym, ap}
 use native.Mathlib.Omega.{arith}
 use Rattle.lines.specs.Lines.{linesIn}
 use Rattle.lines.specs.Values.{timesNamed}
@@ -19,19 +19,19 @@ returns : tie.Need-returns
 returns c =
     let args = c .before .before .before .before .before .args in
     let none = rw (c .enum-told .given .1) at (c .before .before .find .ensures) in
-    sym (le-ltb 1 (timesNamed (linesIn (args .block .now)) (args .name .now)) (omega (arith, none .times)))
+    sym (le-ltb 1 (timesNamed (linesIn (args .block .now)) (args .name .now)) (omega (arith, ap (λ p. p .1) none)))
 
 returns-2 : tie.Need-returns-2
 returns-2 c =
     let args = c .before .before .before .before .before .before .before .before .before .args in
     let none = rw (c .enum-told3 .given .1) at (c .before .before .find2 .ensures) in
-    sym (le-ltb 1 (timesNamed (linesIn (args .block .now)) (args .name .now)) (omega (arith, first (c .before .before .before .before) .times, none .times)))
+    sym (le-ltb 1 (timesNamed (linesIn (args .block .now)) (args .name .now)) (omega (arith, ap (λ p. p .1) (first (c .before .before .before .before) .told), ap (λ p. p .1) none)))
 
 returns-3 : tie.Need-returns-3
 returns-3 c =
     let args = c .before .before .before .before .before .before .before .before .before .args in
     let second = rw (c .enum-told2 .given .1) at (c .before .before .find2 .ensures) in
-    sym (lt-ltb 1 (timesNamed (linesIn (args .block .now)) (args .name .now)) (omega (arith, first (c .before .before .before .before) .times, second .times)))
+    sym (lt-ltb 1 (timesNamed (linesIn (args .block .now)) (args .name .now)) (omega (arith, ap (λ p. p .1) (first (c .before .before .before .before) .told), ap (λ p. p .1) (second .told))))
 
 pub twice-spec : {M : Type 1} → statement M
 twice-spec =
