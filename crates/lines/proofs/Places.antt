@@ -2,13 +2,14 @@
 -- Assumes nothing.
 use mathlib.Core.Path.{_≡_, sym, ap, _∙_}
 use mathlib.Core.List.{List, _∷_, _++_}
-use mathlib.Core.Bool.{Bool, true, _&&_, and-eq-true-iff}
-use Prim.Native.Nat.{ℕ, suc, _+_, _-_, _<_}
+use mathlib.Core.Bool.{Bool, true, false, _&&_, and-eq-true-iff}
+use Prim.Native.Nat.{ℕ, _+_, _-_, _<_}
+use native.Mathlib.Nat.{add-zero}
 use native.Mathlib.Omega.{arith}
 use borrow.Author.Tests.{ltb-true, lt-ltb, eqb-true}
 use lib.Dec.{ltb, eqb}
 use lib.ListN.{length, getD, drop}
-use lib.Seq.{drop-drop, getD-drop, getD-append-seam, getD-append-add}
+use lib.Seq.{drop-drop, drop-append-seam, getD-drop}
 use Rattle.cells.specs.Spans.{all, leading, Spans}
 use Rattle.cells.specs.Runs.{cut}
 use Rattle.names.specs.Names.{tokenByte}
@@ -16,7 +17,7 @@ use Rattle.cells.proofs.Spans.{leading-append, leading-all}
 use Rattle.lines.specs.Lines.{Line, colon, CR, LF, valueByte, goodLine, lineText}
 use Rattle.lines.specs.Places.{lineBetween, WholeLine}
 use Rattle.lines.proofs.Cuts.{length-cut, cut-split, inside, drop-at}
-use Rattle.lines.proofs.Lines.{good-name, good-value, good-line, colon-ends, return-ends, line-parts, drop-past}
+use Rattle.lines.proofs.Lines.{good-name, good-value, good-line, colon-ends, return-ends, line-parts}
 
 -- the part of a run that a span takes passes
 span-all : (p : ℕ → Bool) (xs : List ℕ) (a e : ℕ) → Spans p xs a e → all p (cut xs a e) ≡ true
@@ -68,50 +69,34 @@ whole block at c e s n t m =
       text = text ∙ sym (line-parts l (drop (e + 2) block));
     }
 
--- where a good line stands, the places are these
+-- a span that is followed by an element that fails ends there
+module _ (block ys : List ℕ) (c y : ℕ) (e : drop c block ≡ y ∷ ys) where
+  stands : getD block c 0 ≡ y
+  stands = ap (λ (k : ℕ). getD block k 0) (sym (add-zero c)) ∙ sym (getD-drop c block 0 0) ∙ ap (λ (l : List ℕ). getD l 0 0) e
+
+  onward : drop (c + 1) block ≡ ys
+  onward = sym (drop-drop 1 c block) ∙ ap (drop 1) e
+
+stops : (p : ℕ → Bool) (block xs ys : List ℕ) (at c y : ℕ) → Spans p block at c → drop at block ≡ xs ++ y ∷ ys → all p xs ≡ true → p y ≡ false
+    → (c ≡ at + length xs) × (drop c block ≡ y ∷ ys)
+stops p block xs ys at c y s h t f =
+    let size = s .is ∙ ap (λ (l : List ℕ). at + leading p l) h ∙ ap (λ (k : ℕ). at + k) (leading-append p xs y ys t f) in (
+      size,
+      ap (λ (k : ℕ). drop k block) size ∙ sym (drop-drop (length xs) at block) ∙ ap (drop (length xs)) h ∙ drop-append-seam xs (y ∷ ys),
+    )
+
+-- where a good line stands the tests hold
 module _ (block : List ℕ) (at : ℕ) (l : Line) (rest : List ℕ) (g : goodLine l ≡ true) (h : drop at block ≡ lineText l ++ rest) (c : ℕ) (s : Spans tokenByte block at c) where
-  parts : drop at block ≡ l .name ++ (colon ∷ (l .value ++ (CR ∷ LF ∷ rest)))
-  parts = h ∙ line-parts l rest
+  abbrev after : List ℕ
+  after = l .value ++ (CR ∷ LF ∷ rest)
 
-  name-size : c ≡ at + length (l .name)
-  name-size =
-      s .is
-      ∙ ap (λ (k : ℕ). at + k) (ap (leading tokenByte) parts ∙ leading-append tokenByte (l .name) colon (l .value ++ (CR ∷ LF ∷ rest)) (good-name l g .1) colon-ends)
-
-  colon-at : getD block c 0 ≡ colon
-  colon-at =
-      ap (λ (k : ℕ). getD block k 0) name-size ∙ sym (getD-drop at block (length (l .name)) 0)
-      ∙ ap (λ (xs : List ℕ). getD xs (length (l .name)) 0) parts
-      ∙ getD-append-seam (l .name) colon (l .value ++ (CR ∷ LF ∷ rest)) 0
+  name-stops : (c ≡ at + length (l .name)) × (drop c block ≡ colon ∷ after)
+  name-stops = stops tokenByte block (l .name) after at c colon s (h ∙ line-parts l rest) (good-name l g .1) colon-ends
 
   pub named-there : named block at c ≡ true
-  named-there = rw (colon-at, lt-ltb at c (omega (arith, name-size, good-name l g .0)))
+  named-there = rw (stands block after c colon (name-stops .1), lt-ltb at c (omega (arith, name-stops .0, good-name l g .0)))
 
-  value-drop : drop (c + 1) block ≡ l .value ++ (CR ∷ LF ∷ rest)
-  value-drop =
-      let end : c + 1 ≡ at + suc (length (l .name)) = omega (arith, name-size) in
-      ap (λ (k : ℕ). drop k block) end ∙ sym (drop-drop (suc (length (l .name))) at block)
-      ∙ ap (drop (suc (length (l .name)))) parts
-      ∙ drop-past (l .name) colon (l .value ++ (CR ∷ LF ∷ rest))
-
-  module _ (e : ℕ) (t : Spans valueByte block (c + 1) e) where
-    value-size : e ≡ c + 1 + length (l .value)
-    value-size =
-        t .is
-        ∙ ap (λ (k : ℕ). c + 1 + k) (ap (leading valueByte) value-drop ∙ leading-append valueByte (l .value) CR (LF ∷ rest) (good-value l g) return-ends)
-
-    return-at : getD block e 0 ≡ CR
-    return-at =
-        ap (λ (k : ℕ). getD block k 0) value-size ∙ sym (getD-drop (c + 1) block (length (l .value)) 0)
-        ∙ ap (λ (xs : List ℕ). getD xs (length (l .value)) 0) value-drop
-        ∙ getD-append-seam (l .value) CR (LF ∷ rest) 0
-
-    feed-at : getD block (e + 1) 0 ≡ LF
-    feed-at =
-        let end : e + 1 ≡ c + 1 + (length (l .value) + 1) = omega (arith, value-size) in
-        ap (λ (k : ℕ). getD block k 0) end ∙ sym (getD-drop (c + 1) block (length (l .value) + 1) 0)
-        ∙ ap (λ (xs : List ℕ). getD xs (length (l .value) + 1) 0) value-drop
-        ∙ getD-append-add (l .value) (CR ∷ LF ∷ rest) 1 0
-
-    pub ended-there : ended block e ≡ true
-    ended-there = rw (return-at, feed-at)
+  pub ended-there : (e : ℕ) → Spans valueByte block (c + 1) e → ended block e ≡ true
+  ended-there e t =
+      let value = stops valueByte block (l .value) (LF ∷ rest) (c + 1) e CR t (onward block after c colon (name-stops .1)) (good-value l g) return-ends .1 in
+      rw (stands block (LF ∷ rest) e CR value, stands block rest (e + 1) LF (onward block (LF ∷ rest) e CR value))

@@ -50,13 +50,16 @@ pub record TrimmedTo (block : List ℕ) (start end : ℕ) (r : Span) : Type 0 wh
 abbrev pub toldOf : List Line → List ℕ → Option (List ℕ) × ℕ
 toldOf ls name = (valueIn ls name, timesNamed ls name)
 
--- of the lines from index at on, the first that bears the name has its trimmed value from start up to end, and the lines after it start at next
-pub record FirstNamed (block : List ℕ) (at : ℕ) (name : List ℕ) (start end next : ℕ) : Type 0 where
-  pub ordered : start ≤ end
-  pub within : end ≤ length block
-  pub after : next ≤ length block
-  pub told : toldOf (linesIn (drop at block)) name ≡ (some (cut block start end), suc (timesNamed (linesIn (drop next block)) name))
+-- the same as an answer tells it: the value from start up to end, the line that bears it, and those of the lines from next on
+abbrev pub toldBy : List ℕ → List ℕ → Found → Option (List ℕ) × ℕ
+toldBy block name (At start end next) = (some (cut block start end), suc (timesNamed (linesIn (drop next block)) name))
+toldBy block name Missing = (none, 0)
 
-abbrev pub FoundIs : List ℕ → ℕ → List ℕ → Found → Type 0
-FoundIs block at name (At start end next) = FirstNamed block at name start end next
-FoundIs block at name Missing = toldOf (linesIn (drop at block)) name ≡ (none, 0)
+abbrev pub Within : List ℕ → Found → Type 0
+Within block (At start end next) = (start ≤ end) × (end ≤ length block) × (next ≤ length block)
+Within block Missing = Unit
+
+-- r tells of the lines from index at on
+pub record FoundIs (block : List ℕ) (at : ℕ) (name : List ℕ) (r : Found) : Type 0 where
+  pub told : toldOf (linesIn (drop at block)) name ≡ toldBy block name r
+  pub within : Within block r

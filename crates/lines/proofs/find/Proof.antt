@@ -33,7 +33,7 @@ unfolding valueIn timesNamed
 returns c =
     let name = c .before .before .before .before .before .before .before .args .name .now in
     let none = lines-stop _ (rw (c .enum-told .given .1) at (c .before .before .line-at .ensures)) in
-    c .before .before .before .before .loop .inv .1 ∙ ap (λ (ls : List Line). toldOf ls name) none
+    record { told = c .before .before .before .before .loop .inv .1 ∙ ap (λ (ls : List Line). toldOf ls name) none; within = tt }
 
 returns-2 : tie.Need-returns-2 Inv-loop μ-loop
 unfolding valueIn timesNamed
@@ -44,12 +44,10 @@ returns-2 c =
     let same = sym (c .before .before .same-name .ensures) ∙ c .before .if1 .taken in
     let trims = c .trim .ensures in
     record {
-      ordered = trims .ordered;
-      within = omega (arith, trims .within, here .within);
-      after = here .within;
       told =
           at .inv .1 ∙ ap (λ (ls : List Line). toldOf ls (args .name .now)) (lines-at (args .block .now) (at .place) _ _ here)
           ∙ simp (same, trims .is, one-add);
+      within = (trims .ordered, omega (arith, trims .within, here .within), here .within);
     }
 
 loop-again : tie.Need-loop-again Inv-loop μ-loop
@@ -67,8 +65,8 @@ returns-3 : tie.Need-returns-3 Inv-loop μ-loop
 unfolding valueIn timesNamed
 returns-3 c =
     let args = c .before .before .before .before .args in
-    c .before .loop .inv .1
-    ∙ ap (λ (ls : List Line). toldOf ls (args .name .now)) (lines-end (args .block .now) (c .before .loop .place) (c .loop-test .left))
+    let none = lines-end (args .block .now) (c .before .loop .place) (c .loop-test .left) in
+    record { told = c .before .loop .inv .1 ∙ ap (λ (ls : List Line). toldOf ls (args .name .now)) none; within = tt }
 
 pub find-spec : {M : Type 1} → statement M
 find-spec =
