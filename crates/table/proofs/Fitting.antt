@@ -2,7 +2,7 @@
 -- Assumes nothing.
 use mathlib.Core.Path.{_≡_, refl, ap}
 use mathlib.Core.List.{List, [], _∷_}
-use mathlib.Core.Bool.{Bool, true, false, not, _||_}
+use mathlib.Core.Bool.{Bool, true, false, not, cond, _||_}
 use Prim.Native.Nat.{ℕ, suc, _%_}
 use native.Mathlib.Nat.{div-one}
 use lib.Dec.{eqb}
@@ -10,7 +10,7 @@ use Rattle.window.specs.Window.{bit}
 use Rattle.table.specs.declared.session.Record.{Record}
 use Rattle.table.specs.declared.place.Place.{Place}
 use Rattle.table.specs.declared.place.Place.the-variants.{At, Nowhere}
-use Rattle.table.specs.Table.{choose, firstFrom}
+use Rattle.table.specs.Table.{firstFrom}
 use Rattle.table.specs.WellFormed.{some}
 
 -- the lowest bit
@@ -28,6 +28,6 @@ scan-some test place [] = refl
 scan-some test place (r ∷ rs) = by (test r) (scan-some test (suc place) rs)
   where
     by : (t : Bool) → isNowhere (firstFrom test (suc place) rs) ≡ not (some test rs)
-        → isNowhere (choose t (At place) (firstFrom test (suc place) rs)) ≡ not (t || some test rs)
+        → isNowhere (cond t (At place) (firstFrom test (suc place) rs)) ≡ not (t || some test rs)
     by true e = refl
     by false e = e

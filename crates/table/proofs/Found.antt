@@ -3,7 +3,7 @@
 use mathlib.Core.Path.{_≡_, refl, sym, ap, _∙_}
 use mathlib.Core.List.{List, [], _∷_}
 use mathlib.Core.Logic.{_⊎_, inl, inr}
-use mathlib.Core.Bool.{Bool, true, false, or-true}
+use mathlib.Core.Bool.{Bool, true, false, cond, or-true}
 use Prim.Native.Nat.{ℕ, zero, suc, _+_, _-_, _≤_, _<_}
 use native.Mathlib.Nat.{zero-add, add-zero}
 use native.Mathlib.Omega.{arith}
@@ -12,7 +12,7 @@ use Rattle.table.specs.declared.session.Record.{Record}
 use Rattle.table.specs.declared.place.Place.{Place}
 use Rattle.table.specs.declared.place.Place.the-variants.{At, Nowhere}
 use Rattle.table.specs.Record.{freed}
-use Rattle.table.specs.Table.{choose, firstFrom, isFree, holds, lapsed, found, orElse, taken}
+use Rattle.table.specs.Table.{firstFrom, isFree, holds, lapsed, found, orElse, taken}
 use Rattle.table.specs.WellFormed.{some, WellFormed}
 use Rattle.table.proofs.Tests.{refuted, holds-used}
 
@@ -40,7 +40,7 @@ module _ (test : Record → Bool) where
   scan-first place i (r ∷ rs) e = by (test r) refl (scan-first (suc place) i rs) e
     where
       by : (t : Bool) → test r ≡ t → (firstFrom test (suc place) rs ≡ At i → First test rs (i - suc place) × (suc place ≤ i))
-          → choose t (At place) (firstFrom test (suc place) rs) ≡ At i → First test (r ∷ rs) (i - place) × (place ≤ i)
+          → cond t (At place) (firstFrom test (suc place) rs) ≡ At i → First test (r ∷ rs) (i - place) × (place ≤ i)
       by true p h f =
           let here : place ≡ i = cc in
           let z : i - place ≡ 0 = omega arith in
@@ -64,7 +64,7 @@ module _ (test : Record → Bool) where
   scan-none place (r ∷ rs) e = by (test r) refl (scan-none (suc place) rs) e
     where
       by : (t : Bool) → test r ≡ t → (firstFrom test (suc place) rs ≡ Nowhere → None test rs)
-          → choose t (At place) (firstFrom test (suc place) rs) ≡ Nowhere → None test (r ∷ rs)
+          → cond t (At place) (firstFrom test (suc place) rs) ≡ Nowhere → None test (r ∷ rs)
       by true p h f j l = let z : _≡_ {A = ℕ} 0 1 = cc in absurd (omega arith)
       by false p h f zero l = p
       by false p h f (suc j) l = h f j (omega arith)
@@ -88,7 +88,7 @@ module _ (test : Record → Bool) where
       → firstFrom test place (set rs i r) ≡ firstFrom test place rs
   scan-set place i r [] e = refl
   scan-set place zero r (x ∷ rs) e = rw e
-  scan-set place (suc i) r (x ∷ rs) e = ap (choose (test x) (At place)) (scan-set (suc place) i r rs e)
+  scan-set place (suc i) r (x ∷ rs) e = ap (cond (test x) (At place)) (scan-set (suc place) i r rs e)
 
 -- the place that is found is within the table, and its record is used and has the IV
 pub found-at : (table : List Record) (iv : List ℕ) (i : ℕ) → found table iv ≡ At i

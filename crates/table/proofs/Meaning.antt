@@ -20,10 +20,10 @@ use Rattle.cells.proofs.Equality.{same-equal}
 use Rattle.table.proofs.Tests.{both, refuted, holds-used, used-holds}
 use Rattle.table.proofs.Found.{some-passes, none-passes}
 
-traceless-is : (r : Record) → traceless r ≡ true → (r .highest ≡ 0) × (r .bits ≡ 0)
+traceless-is : (r : Record) → traceless r ≡ true → (r .highest .0 ≡ 0) × (r .bits ≡ 0)
 traceless-is r e =
     let parts = both _ _ e in
-    (eqb-true (r .highest) 0 (parts .0), eqb-true (r .bits) 0 (parts .1))
+    (eqb-true (r .highest .0) 0 (parts .0), eqb-true (r .bits) 0 (parts .1))
 
 blank-is : (r : Record) → r .used ≡ 0 → blank r ≡ true → r ≡ freed
 blank-is r u e =
@@ -31,7 +31,7 @@ blank-is r u e =
     let any = both _ _ (expiry .1) in
     let rest = both _ _ (any .1) in
     let trace = traceless-is r (rest .0) in
-    alike freed u (same-equal (r .iv) (freed .iv) (rest .1)) (eqb-true (r .expiry) 0 (expiry .0)) (eqb-true (r .any) 0 (any .0)) (trace .0) (trace .1)
+    alike freed u (same-equal (r .iv) (freed .iv) (rest .1)) (eqb-true (r .expiry .0) 0 (expiry .0)) (eqb-true (r .any) 0 (any .0)) (trace .0) (trace .1)
 
 window-is : (r : Record) → r .used ≡ 1 → windowSound r ≡ true → Sound r
 window-is r u e = by (eqb (r .any) 0) refl e
@@ -81,7 +81,7 @@ is-sound r s = ⊎-elim (λ u. ap sound (s .free u)) used (s .used)
   where
     window : (r .any ≡ 0) ⊎ (r .any ≡ 1) → r .used ≡ 1 → windowSound r ≡ true
     window (inl a) u =
-        rw (eq-eqb (r .any) 0 a, eq-eqb (r .highest) 0 (s .new a .0), eq-eqb (r .bits) 0 (s .new a .1))
+        rw (eq-eqb (r .any) 0 a, eq-eqb (r .highest .0) 0 (s .new a .0), eq-eqb (r .bits) 0 (s .new a .1))
     window (inr a) u =
         rw (ne-eqb (r .any) 0 (λ z. omega arith), eq-eqb (r .any) 1 a) (s .lowest u a)
 

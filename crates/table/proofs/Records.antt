@@ -26,25 +26,25 @@ next xs ys zs at n p q h e = q ∙ ap (λ (l : List ℕ). spliced l n zs) p ∙ 
 pub written : (r : Record) (out c f : List ℕ) {a b d e : List ℕ} → length out ≡ size → length (r .iv) ≡ 12
     → a ≡ spliced out 0 (r .used ∷ [])
     → b ≡ spliced a 1 (r .iv)
-    → c ≡ spliced b 13 (bytesOf 4 (r .expiry))
+    → c ≡ spliced b 13 (bytesOf 4 (r .expiry .0))
     → d ≡ spliced c 17 (r .any ∷ [])
-    → e ≡ spliced d 18 (bytesOf 4 (r .highest))
+    → e ≡ spliced d 18 (bytesOf 4 (r .highest .0))
     → f ≡ spliced e 22 (bytesOf 8 (r .bits))
     → f ≡ recordBytes r
 unfolding recordBytes
 written r out c f long iv ea eb ec ed ee ef =
-    let x = length-bytesOf 4 (r .expiry) in
-    let h = length-bytesOf 4 (r .highest) in
+    let x = length-bytesOf 4 (r .expiry .0) in
+    let h = length-bytesOf 4 (r .highest .0) in
     let w = length-bytesOf 8 (r .bits) in
-    let front = r .used ∷ r .iv ++ bytesOf 4 (r .expiry) in
-    let rest = r .any ∷ bytesOf 4 (r .highest) ++ bytesOf 8 (r .bits) in
+    let front = r .used ∷ r .iv ++ bytesOf 4 (r .expiry .0) in
+    let rest = r .any ∷ bytesOf 4 (r .highest .0) ++ bytesOf 8 (r .bits) in
     let lf : length front ≡ 17 = simp length-append (omega arith) in
     let lr : length rest ≡ 13 = simp length-append (omega arith) in
     let one = next out (r .used ∷ []) (r .iv) 0 1 ea eb (omega arith) refl in
-    let two = next out (r .used ∷ r .iv) (bytesOf 4 (r .expiry)) 0 13 one ec (omega arith) (omega arith) in
+    let two = next out (r .used ∷ r .iv) (bytesOf 4 (r .expiry .0)) 0 13 one ec (omega arith) (omega arith) in
     let same = ap length two ∙ length-spliced out front 0 (omega arith) in
-    let three = next c (r .any ∷ []) (bytesOf 4 (r .highest)) 17 18 ed ee (omega arith) refl in
-    let four = next c (r .any ∷ bytesOf 4 (r .highest)) (bytesOf 8 (r .bits)) 17 22 three ef (omega arith) (omega arith) in
+    let three = next c (r .any ∷ []) (bytesOf 4 (r .highest .0)) 17 18 ed ee (omega arith) refl in
+    let four = next c (r .any ∷ bytesOf 4 (r .highest .0)) (bytesOf 8 (r .bits)) 17 22 three ef (omega arith) (omega arith) in
     next out front rest 0 17 two four (omega arith) (omega arith)
     ∙ spliced-front out (front ++ rest)
     ∙ fronted-whole (front ++ rest) out (length-append front rest ∙ omega arith)
@@ -63,8 +63,8 @@ last front field at n p q = ap (take n) (drop-at front field at p) ∙ take-all 
 
 -- two records with equal fields
 pub alike : (r : Record) {used expiry any highest bits : ℕ} {iv : List ℕ}
-    → used ≡ r .used → iv ≡ r .iv → expiry ≡ r .expiry → any ≡ r .any → highest ≡ r .highest → bits ≡ r .bits
-    → _≡_ {A = Record} (record { used = used; iv = iv; expiry = expiry; any = any; highest = highest; bits = bits }) r
+    → used ≡ r .used → iv ≡ r .iv → expiry ≡ r .expiry .0 → any ≡ r .any → highest ≡ r .highest .0 → bits ≡ r .bits
+    → _≡_ {A = Record} (record { used = used; iv = iv; expiry = record { 0 = expiry }; any = any; highest = record { 0 = highest }; bits = bits }) r
 alike r a b c d e f = rw (a, b, c, d, e, f)
 
 -- what is left of a table of which a record's bytes were cleared
@@ -82,22 +82,22 @@ pub recordOf-bytes : (r : Record) → Fits r → recordOf (recordBytes r) ≡ r
 unfolding recordOf recordBytes
 recordOf-bytes r f =
     let iv = f .iv in
-    let x = length-bytesOf 4 (r .expiry) in
-    let h = length-bytesOf 4 (r .highest) in
+    let x = length-bytesOf 4 (r .expiry .0) in
+    let h = length-bytesOf 4 (r .highest .0) in
     let w = length-bytesOf 8 (r .bits) in
-    let expiry = bytesOf 4 (r .expiry) in
-    let highest = bytesOf 4 (r .highest) in
+    let expiry = bytesOf 4 (r .expiry .0) in
+    let highest = bytesOf 4 (r .highest .0) in
     let bits = bytesOf 8 (r .bits) in
     let to-any : recordBytes r ≡ (r .used ∷ r .iv ++ expiry) ++ r .any ∷ (highest ++ bits) = simp append-assoc in
     let to-highest : recordBytes r ≡ (r .used ∷ r .iv ++ (expiry ++ r .any ∷ [])) ++ (highest ++ bits) = simp append-assoc in
     let to-bits : recordBytes r ≡ (r .used ∷ r .iv ++ (expiry ++ r .any ∷ highest)) ++ bits = simp append-assoc in
     alike r refl
     (middle (r .used ∷ []) (r .iv) (expiry ++ r .any ∷ (highest ++ bits)) 1 12 refl iv)
-    (ap number (middle (r .used ∷ r .iv) expiry (r .any ∷ (highest ++ bits)) 13 4 (omega arith) x) ∙ number-of 4 (r .expiry) (f .expiry))
+    (ap number (middle (r .used ∷ r .iv) expiry (r .any ∷ (highest ++ bits)) 13 4 (omega arith) x) ∙ number-of 4 (r .expiry .0) (f .expiry))
     (ap (λ (l : List ℕ). getD l 17 0) to-any ∙ getD-at (r .used ∷ r .iv ++ expiry) (r .any) (highest ++ bits) 0 17 (simp length-append (omega arith)))
     (ap (λ (l : List ℕ). number (part l 18 4)) to-highest
     ∙ ap number (middle (r .used ∷ r .iv ++ (expiry ++ r .any ∷ [])) highest bits 18 4 (simp length-append (omega arith)) h)
-    ∙ number-of 4 (r .highest) (f .highest))
+    ∙ number-of 4 (r .highest .0) (f .highest))
     (ap (λ (l : List ℕ). number (part l 22 8)) to-bits
     ∙ ap number (last (r .used ∷ r .iv ++ (expiry ++ r .any ∷ highest)) bits 22 8 (simp length-append (omega arith)) w)
     ∙ number-of 8 (r .bits) (f .bits))
@@ -190,7 +190,7 @@ module _ (bytes : List ℕ) (place : ℕ) (h : place < places bytes) where
   unfolding recordOf
   iv-at = part-part bytes (size * place) size 1 12 (omega arith) (omega arith)
 
-  pub expiry-at : recordAt bytes place .expiry ≡ number (part bytes (size * place + 13) 4)
+  pub expiry-at : recordAt bytes place .expiry .0 ≡ number (part bytes (size * place + 13) 4)
   unfolding recordOf
   expiry-at = ap number (part-part bytes (size * place) size 13 4 (omega arith) (omega arith))
 

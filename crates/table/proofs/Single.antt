@@ -1,7 +1,7 @@
 -- A table of one record, as the thin entry has it: its one record, the rule, and where a session stands.
 -- Assumes nothing.
 use mathlib.Core.Path.{_≡_, refl, sym, ap, _∙_}
-use mathlib.Core.Bool.{Bool, true, false, not, _&&_}
+use mathlib.Core.Bool.{Bool, true, false, not, cond, _&&_}
 use mathlib.Core.List.{List, [], _∷_}
 use Prim.Native.Nat.{ℕ, _*_, _/_}
 use native.Mathlib.Omega.{arith}
@@ -12,7 +12,7 @@ use Rattle.cells.proofs.Runs.{spliced-front, fronted-whole}
 use Rattle.table.specs.declared.session.Record.{Record}
 use Rattle.table.specs.declared.place.Place.the-variants.{At, Nowhere}
 use Rattle.table.specs.Record.{size, recordBytes, recordOf, Fits}
-use Rattle.table.specs.Table.{places, recordAt, chunks, records, choose, isUsed, holds, found}
+use Rattle.table.specs.Table.{places, recordAt, chunks, records, isUsed, holds, found}
 use Rattle.table.specs.WellFormed.{sound, fitting, wellFormed}
 use Rattle.table.proofs.Records.{length-recordBytes, recordOf-bytes}
 
@@ -40,7 +40,7 @@ module _ (r : Record) (f : Fits r) where
   unfolding wellFormed fitting
   single-rule = rw records-single (alone (sound r) (isUsed r))
 
-  pub single-found : (iv : List ℕ) → found (records (recordBytes r)) iv ≡ choose (holds iv r) (At 0) Nowhere
+  pub single-found : (iv : List ℕ) → found (records (recordBytes r)) iv ≡ cond (holds iv r) (At 0) Nowhere
   unfolding found
   single-found iv = rw records-single
 

@@ -18,15 +18,15 @@ size = 30
 -- used or free, the IV, the expiry, whether a nonce was accepted yet, the highest one, and the bits; numbers highest byte first
 unfoldable pub recordBytes : Record → List ℕ
 recordBytes r =
-    r .used ∷ (r .iv ++ (bytesOf 4 (r .expiry) ++ (r .any ∷ (bytesOf 4 (r .highest) ++ bytesOf 8 (r .bits)))))
+    r .used ∷ (r .iv ++ (bytesOf 4 (r .expiry .0) ++ (r .any ∷ (bytesOf 4 (r .highest .0) ++ bytesOf 8 (r .bits)))))
 
 unfoldable pub recordOf : List ℕ → Record
 recordOf bytes = record {
   used = getD bytes 0 0;
   iv = part bytes 1 12;
-  expiry = number (part bytes 13 4);
+  expiry = record { 0 = number (part bytes 13 4) };
   any = getD bytes 17 0;
-  highest = number (part bytes 18 4);
+  highest = record { 0 = number (part bytes 18 4) };
   bits = number (part bytes 22 8);
 }
 
@@ -34,18 +34,18 @@ recordOf bytes = record {
 pub record Fits (r : Record) : Type 0 where
   pub used : r .used < 256
   pub iv : length (r .iv) ≡ 12
-  pub expiry : r .expiry < 2 ^ 32
+  pub expiry : r .expiry .0 < 2 ^ 32
   pub any : r .any < 256
-  pub highest : r .highest < 2 ^ 32
+  pub highest : r .highest .0 < 2 ^ 32
   pub bits : r .bits < 2 ^ 64
 
 -- a free record holds zeros
 abbrev pub freed : Record
-freed = record { used = 0; iv = replicate 12 0; expiry = 0; any = 0; highest = 0; bits = 0 }
+freed = record { used = 0; iv = replicate 12 0; expiry = record { 0 = 0 }; any = 0; highest = record { 0 = 0 }; bits = 0 }
 
 -- a new session's record holds the IV, the expiry and no nonce
 abbrev pub begun : List ℕ → ℕ → Record
-begun iv expiry = record { used = 1; iv = iv; expiry = expiry; any = 0; highest = 0; bits = 0 }
+begun iv expiry = record { used = 1; iv = iv; expiry = record { 0 = expiry }; any = 0; highest = record { 0 = 0 }; bits = 0 }
 
 abbrev pub mark : Bool → ℕ
 mark true = 1
@@ -53,7 +53,7 @@ mark false = 0
 
 -- the window that a record holds, and the record with another
 abbrev pub windowOf : Record → Window
-windowOf r = record { any = eqb (r .any) 1; highest = record { 0 = r .highest }; bits = r .bits }
+windowOf r = record { any = eqb (r .any) 1; highest = r .highest; bits = r .bits }
 
 abbrev pub withWindow : Record → Window → Record
 withWindow r w = record {
@@ -61,6 +61,6 @@ withWindow r w = record {
   iv = r .iv;
   expiry = r .expiry;
   any = mark (w .any);
-  highest = w .highest .0;
+  highest = w .highest;
   bits = w .bits;
 }

@@ -4,7 +4,7 @@
 use Prim.Native.Nat.{ℕ, zero, suc, _*_, _/_, _<_}
 use mathlib.Core.Path.{_≡_}
 use mathlib.Core.List.{List, [], _∷_}
-use mathlib.Core.Bool.{Bool, true, false, _&&_}
+use mathlib.Core.Bool.{Bool, cond, _&&_}
 use lib.ListN.{length, take, drop}
 use lib.Dec.{leb, eqb}
 use Rattle.cells.specs.Runs.{part, same}
@@ -29,10 +29,6 @@ chunks (suc n) bytes = recordOf (take size bytes) ∷ chunks n (drop size bytes)
 unfoldable pub records : List ℕ → List Record
 records bytes = chunks (places bytes) bytes
 
-abbrev pub choose : Bool → Place → Place → Place
-choose true a b = a
-choose false a b = b
-
 abbrev pub orElse : Place → Place → Place
 orElse (At place) other = At place
 orElse Nowhere other = other
@@ -40,7 +36,7 @@ orElse Nowhere other = other
 -- the lowest place at which a test holds, where the list's places are counted from `place` on
 abbrev pub firstFrom : (Record → Bool) → ℕ → List Record → Place
 firstFrom test place [] = Nowhere
-firstFrom test place (r ∷ rs) = choose (test r) (At place) (firstFrom test (suc place) rs)
+firstFrom test place (r ∷ rs) = cond (test r) (At place) (firstFrom test (suc place) rs)
 
 abbrev pub isUsed : Record → Bool
 isUsed r = eqb (r .used) 1
@@ -54,7 +50,7 @@ holds iv r = isUsed r && same (r .iv) iv
 
 -- its expiry is at or before now
 abbrev pub lapsed : ℕ → Record → Bool
-lapsed clock r = leb (r .expiry) clock
+lapsed clock r = leb (r .expiry .0) clock
 
 -- the used record with an IV
 unfoldable pub found : List Record → List ℕ → Place

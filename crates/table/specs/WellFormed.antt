@@ -15,11 +15,11 @@ use Rattle.table.specs.Table.{isUsed, isFree, holds}
 
 -- zero nonce and bits
 abbrev pub traceless : Record → Bool
-traceless r = eqb (r .highest) 0 && eqb (r .bits) 0
+traceless r = eqb (r .highest .0) 0 && eqb (r .bits) 0
 
 -- zeros in every field but the first mark
 abbrev pub blank : Record → Bool
-blank r = eqb (r .expiry) 0 && (eqb (r .any) 0 && (traceless r && same (r .iv) (freed .iv)))
+blank r = eqb (r .expiry .0) 0 && (eqb (r .any) 0 && (traceless r && same (r .iv) (freed .iv)))
 
 -- no nonce yet, and no trace of one; or one, and the lowest bit set
 abbrev pub windowSound : Record → Bool
@@ -47,7 +47,7 @@ pub record Sound (r : Record) : Type 0 where
   pub used : (r .used ≡ 0) ⊎ (r .used ≡ 1)
   pub any : (r .any ≡ 0) ⊎ (r .any ≡ 1)
   pub free : r .used ≡ 0 → r ≡ freed
-  pub new : r .any ≡ 0 → (r .highest ≡ 0) × (r .bits ≡ 0)
+  pub new : r .any ≡ 0 → (r .highest .0 ≡ 0) × (r .bits ≡ 0)
   pub lowest : r .used ≡ 1 → r .any ≡ 1 → bit (r .bits) 0 ≡ true
 
 pub record WellFormed (table : List Record) : Type 0 where

@@ -86,16 +86,16 @@ fn first_free(table: &[u8]) -> Place
 }
 
 // Whether the expiry at a place is at or before now.
-fn has_lapsed(table: &[u8], place: usize, clock: u32) -> bool
+fn has_lapsed(table: &[u8], place: usize, clock: Time) -> bool
     requires { ⌜ place < places (now table) ⌝ }
-    ensures { λ r. ⌜ r ≡ lapsed clock (recordAt (now (table .entry)) place) ⌝ }
+    ensures { λ r. ⌜ r ≡ lapsed (clock .0) (recordAt (now (table .entry)) place) ⌝ }
 {
-    cells::load32(table, SIZE * place + 13) <= clock
+    cells::load32(table, SIZE * place + 13) <= clock.0
 }
 
 // The lowest place whose expiry is at or before now.
-fn first_lapsed(table: &[u8], clock: u32) -> Place
-    ensures { λ r. ⌜ Placed (firstFrom (lapsed clock) 0 (records (now (table .entry)))) (places (now (table .entry))) r ⌝ }
+fn first_lapsed(table: &[u8], clock: Time) -> Place
+    ensures { λ r. ⌜ Placed (firstFrom (lapsed (clock .0)) 0 (records (now (table .entry)))) (places (now (table .entry))) r ⌝ }
 {
     let n = table.len() / SIZE;
     let mut i: usize = 0;
@@ -115,5 +115,5 @@ pub fn to_take(table: &[u8], clock: Time) -> Place
     if let Place::At(i) = first_free(table) {
         return Place::At(i);
     }
-    first_lapsed(table, clock.0)
+    first_lapsed(table, clock)
 }

@@ -15,7 +15,7 @@ use super::session::SIZE;
 fn no_trace(session: Record) -> bool
     ensures { λ r. ⌜ r ≡ traceless session ⌝ }
 {
-    (session.highest == 0) & (session.bits == 0)
+    (session.highest.0 == 0) & (session.bits == 0)
 }
 
 // Whether a record holds zeros, its first mark apart.
@@ -24,7 +24,7 @@ fn holds_zeros(session: Record) -> bool
 {
     let iv = session.iv;
     let zeros = [0u8; 12];
-    (session.expiry == 0) & ((session.any == 0) & (no_trace(session) & cells::same(&iv, &zeros)))
+    (session.expiry.0 == 0) & ((session.any == 0) & (no_trace(session) & cells::same(&iv, &zeros)))
 }
 
 // Whether mark, nonce and bits fit each other.

@@ -15,9 +15,9 @@ use window::time::Time;
 pub struct Record {
     pub used: u8,
     pub iv: [u8; 12],
-    pub expiry: u32,
+    pub expiry: Time,
     pub any: u8,
-    pub highest: u32,
+    pub highest: Nonce,
     pub bits: u64,
 }
 
@@ -42,9 +42,9 @@ fn parse(bytes: &[u8]) -> Record
     Record {
         used: bytes[0],
         iv: iv,
-        expiry: cells::load32(bytes, 13),
+        expiry: Time(cells::load32(bytes, 13)),
         any: bytes[17],
-        highest: cells::load32(bytes, 18),
+        highest: Nonce(cells::load32(bytes, 18)),
         bits: cells::load64(bytes, 22),
     }
 }
@@ -75,9 +75,9 @@ fn write(out: &mut [u8], session: Record)
     let iv = session.iv;
     put_mark(out, 0, session.used);
     cells::put_at(out, 1, &iv);
-    cells::put32(out, 13, session.expiry);
+    cells::put32(out, 13, session.expiry.0);
     put_mark(out, 17, session.any);
-    cells::put32(out, 18, session.highest);
+    cells::put32(out, 18, session.highest.0);
     cells::put64(out, 22, session.bits);
 }
 
@@ -106,9 +106,9 @@ pub fn begin(iv: &[u8], expiry: Time) -> Record
     Record {
         used: 1,
         iv: copy,
-        expiry: expiry.0,
+        expiry,
         any: 0,
-        highest: 0,
+        highest: Nonce(0),
         bits: 0,
     }
 }
@@ -121,9 +121,9 @@ pub fn freed() -> Record
     Record {
         used: 0,
         iv: zeros,
-        expiry: 0,
+        expiry: Time(0),
         any: 0,
-        highest: 0,
+        highest: Nonce(0),
         bits: 0,
     }
 }
@@ -140,9 +140,10 @@ impl Record {
     pub fn window(self) -> Window
         ensures { λ r. ⌜ r ≡ windowOf self ⌝ }
     {
+        let highest = self.highest;
         Window {
             any: self.any == 1,
-            highest: Nonce(self.highest),
+            highest,
             bits: self.bits,
         }
     }
@@ -151,13 +152,14 @@ impl Record {
         ensures { λ r. ⌜ r ≡ withWindow self window ⌝ }
     {
         let iv = self.iv;
+        let expiry = self.expiry;
         let highest = window.highest;
         Record {
             used: self.used,
-            iv: iv,
-            expiry: self.expiry,
+            iv,
+            expiry,
             any: mark(window.any),
-            highest: highest.0,
+            highest,
             bits: window.bits,
         }
     }

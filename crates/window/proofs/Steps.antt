@@ -1,7 +1,7 @@
 -- Laws of one step from any window: what a refusal keeps, and what an acceptance leaves.
 -- Assumes nothing.
 use mathlib.Core.Path.{_≡_, refl, sym, ap, _∙_}
-use mathlib.Core.Bool.{Bool, true, false, true≢false, _&&_, _||_, or-true}
+use mathlib.Core.Bool.{Bool, true, false, true≢false, cond, _&&_, _||_, or-true}
 use Prim.Native.Nat.{ℕ, _-_, _*_, _<_, _^_, _%_}
 use native.Mathlib.Nat.{mod-lt}
 use borrow.Author.Tests.{leb-false}
@@ -10,12 +10,12 @@ use lib.Dec.{lit<, ltb, leb, eqb}
 use lib.Pow.{pow-pos, pow-lt}
 use Rattle.window.specs.declared.Window.{Window}
 use Rattle.window.specs.declared.Stepped.{Stepped}
-use Rattle.window.specs.Window.{bit, moved, marked, accepted, refused, choose, stepOf}
+use Rattle.window.specs.Window.{bit, moved, marked, accepted, refused, stepOf}
 use Rattle.window.specs.History.{isAccepted}
 use Rattle.window.proofs.Bits.{bit-moved, bit-marked}
 
 -- what holds of each outcome holds of the one that a test picks
-by-test : (P : Stepped → Type 0) {a b : Stepped} (t : Bool) → (t ≡ true → P a) → (t ≡ false → P b) → P (choose t a b)
+by-test : (P : Stepped → Type 0) {a b : Stepped} (t : Bool) → (t ≡ true → P a) → (t ≡ false → P b) → P (cond t a b)
 by-test P true p q = p refl
 by-test P false p q = q refl
 

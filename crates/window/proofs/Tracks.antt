@@ -3,7 +3,7 @@
 use mathlib.Core.Path.{_≡_, refl, sym, ap, subst, _∙_}
 use mathlib.Core.List.{List, [], _∷_}
 use mathlib.Core.Logic.{_⊎_, inl, inr}
-use mathlib.Core.Bool.{Bool, true, false, not, _&&_, _||_, and-false, or-comm, or-false}
+use mathlib.Core.Bool.{Bool, true, false, not, cond, _&&_, _||_, and-false, or-comm, or-false}
 use Prim.Native.Nat.{ℕ, _+_, _-_, _<_, _≤_, _%_, _^_, max}
 use native.Mathlib.Nat.{zero-div}
 use native.Mathlib.Omega.{arith}
@@ -12,8 +12,8 @@ use lib.Dec.{ltb, leb, eqb}
 use Rattle.window.specs.declared.Window.{Window}
 use Rattle.window.specs.declared.Verdict.the-variants.{Accepted, TooOld, Seen}
 use Rattle.window.specs.declared.Stepped.{Stepped}
-use Rattle.window.specs.Window.{fresh, bit, moved, marked, accepted, refused, choose, above, below, stepOf}
-use Rattle.window.specs.History.{choose as pick, isAccepted, keep, among, highestOf, admits, verdictAfter, acceptedBelow}
+use Rattle.window.specs.Window.{fresh, bit, moved, marked, accepted, refused, above, below, stepOf}
+use Rattle.window.specs.History.{isAccepted, keep, among, highestOf, admits, verdictAfter, acceptedBelow}
 use Rattle.window.proofs.Bits.{bit-power, bit-moved, bit-marked}
 
 abbrev pub some : List ℕ → Bool
@@ -135,7 +135,7 @@ module _ (window : Window) (a : ℕ) (rest : List ℕ) (t : Tracks window (a ∷
       passes = rw (lt-leb (n + 64) (highestOf (a ∷ rest)) (omega arith), none-above (a ∷ rest) n h)
 
       by : (u : Bool) → leb 64 (n - highestOf (a ∷ rest)) ≡ u
-          → Right (a ∷ rest) n (choose u (accepted n 1) (accepted n (moved (window .bits) (n - highestOf (a ∷ rest)))))
+          → Right (a ∷ rest) n (cond u (accepted n 1) (accepted n (moved (window .bits) (n - highestOf (a ∷ rest)))))
       by true e = record {
         verdict = passes;
         next = up window (a ∷ rest) t n 1 h
@@ -157,7 +157,7 @@ module _ (window : Window) (a : ℕ) (rest : List ℕ) (t : Tracks window (a ∷
 
       near : (u : Bool) → highestOf (a ∷ rest) - n < 64 → bit (window .bits) (highestOf (a ∷ rest) - n) ≡ u
           → Right (a ∷ rest) n
-          (choose u (refused window Seen) (accepted (window .highest .0) (marked (window .bits) (highestOf (a ∷ rest) - n))))
+          (cond u (refused window Seen) (accepted (window .highest .0) (marked (window .bits) (highestOf (a ∷ rest) - n))))
       near true l e = record { verdict = rw (lt-leb (n + 64) (highestOf (a ∷ rest)) (omega arith), known true l e); next = t }
       near false l e = record {
         verdict = rw (lt-leb (n + 64) (highestOf (a ∷ rest)) (omega arith), known false l e);
@@ -166,8 +166,8 @@ module _ (window : Window) (a : ℕ) (rest : List ℕ) (t : Tracks window (a ∷
 
       far : (u : Bool) → leb 64 (highestOf (a ∷ rest) - n) ≡ u
           → Right (a ∷ rest) n
-          (choose u (refused window TooOld)
-          (choose (bit (window .bits) (highestOf (a ∷ rest) - n)) (refused window Seen)
+          (cond u (refused window TooOld)
+          (cond (bit (window .bits) (highestOf (a ∷ rest) - n)) (refused window Seen)
           (accepted (window .highest .0) (marked (window .bits) (highestOf (a ∷ rest) - n)))))
       far true e = record {
         verdict = rw (le-leb (n + 64) (highestOf (a ∷ rest)) (omega (arith, leb-true 64 (highestOf (a ∷ rest) - n) e)));
@@ -176,7 +176,7 @@ module _ (window : Window) (a : ℕ) (rest : List ℕ) (t : Tracks window (a ∷
       far false e = near (bit (window .bits) (highestOf (a ∷ rest) - n)) (leb-false 64 (highestOf (a ∷ rest) - n) e) refl
 
   stepped-right : (u : Bool) → ltb (highestOf (a ∷ rest)) n ≡ u
-      → Right (a ∷ rest) n (choose u (above window n (n - highestOf (a ∷ rest))) (below window (highestOf (a ∷ rest) - n)))
+      → Right (a ∷ rest) n (cond u (above window n (n - highestOf (a ∷ rest))) (below window (highestOf (a ∷ rest) - n)))
   stepped-right true e = above-right (ltb-true (highestOf (a ∷ rest)) n e)
   stepped-right false e = below-right (ltb-false (highestOf (a ∷ rest)) n e)
 
@@ -187,10 +187,10 @@ right window [] t n = rw (t .any) (record { verdict = refl; next = first n })
 right window (a ∷ rest) t n =
     let h = window .highest .0 in
     subst
-    (λ (u : Bool). Right (a ∷ rest) n (choose u (choose (ltb h n) (above window n (n - h)) (below window (h - n))) (accepted n 1)))
+    (λ (u : Bool). Right (a ∷ rest) n (cond u (cond (ltb h n) (above window n (n - h)) (below window (h - n))) (accepted n 1)))
     (sym (t .any))
     (subst
-    (λ (k : ℕ). Right (a ∷ rest) n (choose (ltb k n) (above window n (n - k)) (below window (k - n))))
+    (λ (k : ℕ). Right (a ∷ rest) n (cond (ltb k n) (above window n (n - k)) (below window (k - n))))
     (sym (t .highest))
     (stepped-right window a rest t n (ltb (highestOf (a ∷ rest)) n) refl))
 
@@ -199,7 +199,7 @@ pub admitted : (before : List ℕ) (n : ℕ) → isAccepted (verdictAfter before
 admitted [] n = refl
 admitted (a ∷ rest) n = by (order (highestOf (a ∷ rest)) (n + 64))
   where
-    seen : (u : Bool) → isAccepted (pick u Seen Accepted) ≡ (not u && true)
+    seen : (u : Bool) → isAccepted (cond u Seen Accepted) ≡ (not u && true)
     seen true = refl
     seen false = refl
 

@@ -2,7 +2,7 @@
 -- Assumes nothing.
 use Prim.Native.Nat.{ℕ, _+_, _-_, max}
 use mathlib.Core.List.{List, [], _∷_}
-use mathlib.Core.Bool.{Bool, true, false, not, _&&_, _||_}
+use mathlib.Core.Bool.{Bool, true, false, not, cond, _&&_, _||_}
 use lib.Dec.{ltb, leb, eqb}
 use Rattle.window.specs.declared.Window.{Window}
 use Rattle.window.specs.declared.Verdict.{Verdict}
@@ -46,15 +46,11 @@ abbrev pub admits : List ℕ → ℕ → Bool
 admits [] n = true
 admits (a ∷ before) n = not (among (a ∷ before) n) && ltb (highestOf (a ∷ before)) (n + 64)
 
-abbrev pub choose : Bool → Verdict → Verdict → Verdict
-choose true a b = a
-choose false a b = b
-
 -- 64 or more below the highest is too old; accepted before, less than 64 below, is seen
 abbrev pub verdictAfter : List ℕ → ℕ → Verdict
 verdictAfter [] n = Accepted
 verdictAfter (a ∷ before) n =
-    choose (leb (n + 64) (highestOf (a ∷ before))) TooOld (choose (among (a ∷ before) n) Seen Accepted)
+    cond (leb (n + 64) (highestOf (a ∷ before))) TooOld (cond (among (a ∷ before) n) Seen Accepted)
 
 -- the nonce d below the highest was accepted; there is none below 0
 abbrev pub acceptedBelow : List ℕ → ℕ → Bool

@@ -1,7 +1,7 @@
 -- The window of a session's nonces: document 01, "Age, idleness and the window".
 -- Bit d stands for the nonce d below the highest. Assumes nothing.
 use Prim.Native.Nat.{ℕ, _-_, _*_, _/_, _%_, _^_}
-use mathlib.Core.Bool.{Bool, true, false}
+use mathlib.Core.Bool.{Bool, true, false, cond}
 use lib.Bits.{bitOr}
 use lib.Dec.{ltb, leb, eqb}
 use Rattle.window.specs.declared.Window.{Window}
@@ -36,26 +36,22 @@ accepted highest bits = record { window = record { any = true; highest = record 
 abbrev pub refused : Window → Verdict → Stepped
 refused window verdict = record { window = window; verdict = verdict }
 
-abbrev pub choose : Bool → Stepped → Stepped → Stepped
-choose true a b = a
-choose false a b = b
-
 -- the nonce is d above the highest: all bits are gone when d is 64 or more
 abbrev pub above : Window → ℕ → ℕ → Stepped
-above window nonce d = choose (leb 64 d) (accepted nonce 1) (accepted nonce (moved (window .bits) d))
+above window nonce d = cond (leb 64 d) (accepted nonce 1) (accepted nonce (moved (window .bits) d))
 
 -- the nonce is d below it
 abbrev pub below : Window → ℕ → Stepped
 below window d =
-    choose (leb 64 d) (refused window TooOld)
-    (choose (bit (window .bits) d) (refused window Seen)
+    cond (leb 64 d) (refused window TooOld)
+    (cond (bit (window .bits) d) (refused window Seen)
     (accepted (window .highest .0) (marked (window .bits) d)))
 
 -- one nonce
 unfoldable pub stepOf : Window → ℕ → Stepped
 stepOf window nonce =
-    choose (window .any)
-    (choose (ltb (window .highest .0) nonce)
+    cond (window .any)
+    (cond (ltb (window .highest .0) nonce)
     (above window nonce (nonce - window .highest .0))
     (below window (window .highest .0 - nonce)))
     (accepted nonce 1)

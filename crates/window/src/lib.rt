@@ -4,6 +4,8 @@ ghost use Rattle.window.specs.Window.{fresh, accepted, refused, above, b
 
 pub mod time;
 
+// A host lends a record that holds one.
+#[repr(C)]
 pub struct Nonce(pub u32);
 
 pub struct Window {

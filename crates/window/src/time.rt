@@ -2,7 +2,8 @@
 ghost use mathlib.Core.Path.{_≡_};
 ghost use Rattle.window.specs.Time.{difference, exceeds};
 
-// Seconds, as a request or the host tells them.
+// Seconds, as a request or the host tells them; a record that a host lends holds one.
+#[repr(C)]
 pub struct Time(pub u32);
 
 // From `earlier` to `later`, below zero where the clock that told `earlier` runs ahead.

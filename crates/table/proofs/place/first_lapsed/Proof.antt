@@ -8,7 +8,7 @@ use Rattle.table.proofs.place.first_lapsed.Statement.{statement}
 use Rattle.table.proofs.place.first_lapsed.Tie as tie
 
 abbrev Inv-loop : tie.InvT-loop
-Inv-loop table clock n i₀ i = Along (firstFrom (lapsed clock)) table 0 n i
+Inv-loop table clock n i₀ i = Along (firstFrom (lapsed (clock .0))) table 0 n i
 
 abbrev μ-loop : tie.MeasureT-loop
 μ-loop table clock n i₀ i = n - i
