@@ -9,12 +9,7 @@ use native.Mathlib.Omega.{arith}
 use lib.Dec.{eqb, eqb·suc-suc, eqb·zero-suc}
 use lib.ListN.{length, getD, take, drop, drop-of-length-le}
 use lib.Seq.{drop-cons}
-use Rattle.cells.specs.Spans.{all, leading, Spans}
-
--- a loop that looks from index at on for an element that fails has come to index i
-pub record Passed (p : ℕ → Bool) (xs : List ℕ) (at i : ℕ) : Type 0 where
-  pub within : i ≤ length xs
-  pub same : at + leading p (drop at xs) ≡ i + leading p (drop i xs)
+use Rattle.cells.specs.Spans.{all, leading, Spans, Passed}
 
 module _ (p : ℕ → Bool) (xs : List ℕ) where
   pub leading-pass : (i : ℕ) → i < length xs → p (getD xs i 0) ≡ true → leading p (drop i xs) ≡ suc (leading p (drop (suc i) xs))

@@ -20,3 +20,8 @@ leading p (x ∷ xs) = cond (p x) (suc (leading p xs)) 0
 pub record Spans (p : ℕ → Bool) (xs : List ℕ) (at r : ℕ) : Type 0 where
   pub is : r ≡ at + leading p (drop at xs)
   pub within : r ≤ length xs
+
+-- a search from index at on for the first element that fails has come to index i
+pub record Passed (p : ℕ → Bool) (xs : List ℕ) (at i : ℕ) : Type 0 where
+  pub within : i ≤ length xs
+  pub same : at + leading p (drop at xs) ≡ i + leading p (drop i xs)

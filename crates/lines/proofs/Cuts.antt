@@ -6,11 +6,14 @@ use Prim.Native.Nat.{ℕ, zero, suc, _+_, _-_, _≤_, _<_}
 use native.Mathlib.Numerals.{add-one}
 use native.Mathlib.Omega.{arith}
 use lib.ListN.{length, getD, take, drop, take-append-drop, length-drop}
-use lib.Seq.{drop-cons, drop-drop, take-suc, getD-drop, length-take-le}
+use lib.Seq.{drop-cons, drop-drop, drop-at as drop-append, take-suc, take-add, getD-drop, length-take-le}
 use Rattle.cells.specs.Runs.{cut}
 
 pub length-cut : (xs : List ℕ) (a e : ℕ) → e ≤ length xs → length (cut xs a e) ≡ e - a
 length-cut xs a e h = length-take-le (e - a) (drop a xs) (omega (arith, length-drop a xs))
+
+pub cut-below : (xs : List ℕ) (a e n : ℕ) → e ≤ length xs → length xs ≤ n → length (cut xs a e) ≤ n
+cut-below xs a e n h k = omega (arith, length-cut xs a e h)
 
 pub cut-none : (xs : List ℕ) (a e : ℕ) → e ≤ a → cut xs a e ≡ []
 cut-none xs a e h = let z : e - a ≡ 0 = omega arith in rw z
@@ -22,11 +25,10 @@ cut-split xs a e h =
     sym (take-append-drop (e - a) (drop a xs))
     ∙ ap (λ (l : List ℕ). cut xs a e ++ l) (drop-drop (e - a) a xs ∙ ap (λ (n : ℕ). drop n xs) end)
 
-pub cut-first : (xs : List ℕ) (a e : ℕ) → a < e → e ≤ length xs → cut xs a e ≡ getD xs a 0 ∷ cut xs (a + 1) e
-cut-first xs a e h k =
-    let size : e - a ≡ suc (e - (a + 1)) = omega arith in
-    ap₂ (λ (n : ℕ) (l : List ℕ). take n l) size (drop-cons xs a 0 (omega arith))
-    ∙ ap (λ (n : ℕ). getD xs a 0 ∷ take (e - (a + 1)) (drop n xs)) (sym (add-one a))
+pub drop-take : (xs : List ℕ) (a e : ℕ) → a ≤ e → e ≤ length xs → drop a (take e xs) ≡ cut xs a e
+drop-take xs a e h k =
+    let end : e ≡ a + (e - a) = omega arith in
+    ap (λ (n : ℕ). drop a (take n xs)) end ∙ ap (drop a) (take-add a (e - a) xs) ∙ drop-append (take a xs) (cut xs a e) a (length-take-le a xs (omega arith))
 
 pub cut-last : (xs : List ℕ) (a e : ℕ) → a < e → e ≤ length xs → cut xs a e ≡ cut xs a (e - 1) ++ (getD xs (e - 1) 0 ∷ [])
 cut-last xs a e h k =

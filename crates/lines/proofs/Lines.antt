@@ -1,9 +1,8 @@
 -- A block that is lines has one reading, and `linesIn` finds it.
 -- Assumes nothing.
-use mathlib.Core.Path.{_≡_, refl, sym, ap, subst, _∙_}
+use mathlib.Core.Path.{_≡_, refl, sym, ap, _∙_}
 use mathlib.Core.List.{List, [], _∷_, _++_, append-assoc}
 use mathlib.Core.Bool.{Bool, true, false, cond, and-true, and-eq-true-iff}
-use mathlib.Core.Option.{none, some}
 use Prim.Native.Nat.{ℕ, zero, suc, _+_, _-_, _≤_, _<_}
 use native.Mathlib.Omega.{arith}
 use borrow.Author.Tests.{eq-eqb, ltb-true, lt-ltb}
@@ -16,7 +15,7 @@ use Rattle.cells.specs.Runs.{same}
 use Rattle.cells.proofs.Equality.{same-self, same-equal}
 use Rattle.names.specs.Names.{hasByte, tokenByte, isToken}
 use Rattle.cells.proofs.Spans.{leading-append}
-use Rattle.lines.specs.Lines.{Line, colon, CR, LF, valueByte, goodLine, allGood, lineText, textOf, Lines, frontLine, startsLine, linesUpTo, linesIn, goodBlock, linesOf}
+use Rattle.lines.specs.Lines.{Line, colon, CR, LF, valueByte, goodLine, allGood, lineText, textOf, Lines, frontLine, startsLine, linesUpTo, linesIn, goodBlock}
 
 -- runs that begin alike
 same-prefix : (p xs ys : List ℕ) → same (p ++ xs) (p ++ ys) ≡ same xs ys
@@ -55,16 +54,16 @@ pub line-parts : (l : Line) (rest : List ℕ) → lineText l ++ rest ≡ l .name
 unfolding lineText
 line-parts l rest = simp append-assoc
 
-pub length-line : (l : Line) → length (lineText l) ≡ length (l .name) + length (l .value) + 3
+length-line : (l : Line) → length (lineText l) ≡ length (l .name) + length (l .value) + 3
 unfolding lineText
 length-line l = simp length-append (omega (arith, length-append (l .value) (CR ∷ LF ∷ [])))
 
-pub drop-past : (xs : List ℕ) (y : ℕ) (ys : List ℕ) → drop (suc (length xs)) (xs ++ y ∷ ys) ≡ ys
+drop-past : (xs : List ℕ) (y : ℕ) (ys : List ℕ) → drop (suc (length xs)) (xs ++ y ∷ ys) ≡ ys
 drop-past [] y ys = refl
 drop-past (x ∷ xs) y ys = drop-past xs y ys
 
 -- a run that begins with a good line has that line at its front
-pub front-line : (l : Line) (rest : List ℕ) → goodLine l ≡ true → frontLine (lineText l ++ rest) ≡ l
+front-line : (l : Line) (rest : List ℕ) → goodLine l ≡ true → frontLine (lineText l ++ rest) ≡ l
 unfolding frontLine
 front-line l rest h =
     let after = l .value ++ (CR ∷ LF ∷ rest) in
@@ -72,13 +71,13 @@ front-line l rest h =
     let long = leading-append valueByte (l .value) CR (LF ∷ rest) (good-value l h) return-ends in
     rw (line-parts l rest, size, drop-past (l .name) colon after, long, take-append-seam (l .name) (colon ∷ after), take-append-seam (l .value) (CR ∷ LF ∷ rest))
 
-pub starts-line : (l : Line) (rest : List ℕ) → goodLine l ≡ true → startsLine (lineText l ++ rest) ≡ true
+starts-line : (l : Line) (rest : List ℕ) → goodLine l ≡ true → startsLine (lineText l ++ rest) ≡ true
 unfolding startsLine
 starts-line l rest h =
     rw (front-line l rest h, take-append-seam (lineText l) rest, h) (same-self (lineText l))
 
 -- a run that is found to begin with a line does
-pub started : (xs : List ℕ) → startsLine xs ≡ true
+started : (xs : List ℕ) → startsLine xs ≡ true
     → (goodLine (frontLine xs) ≡ true) × (xs ≡ lineText (frontLine xs) ++ drop (length (lineText (frontLine xs))) xs)
 unfolding startsLine
 started xs h =
@@ -150,7 +149,7 @@ unfolding goodBlock textOf same
 good-stop [] k h = absurd (omega arith)
 good-stop (x ∷ xs) k h = rw (lines-stop (x ∷ xs) h)
 
--- `linesOf` gives ls exactly if the block is the lines ls
+-- a block that is found to be lines is the lines found
 all-good : (n : ℕ) (xs : List ℕ) → allGood (linesUpTo n xs) ≡ true
 unfolding linesUpTo allGood
 all-good zero xs = refl
@@ -165,7 +164,7 @@ pub good-lines : (block : List ℕ) → goodBlock block ≡ true → Lines block
 unfolding goodBlock linesIn
 good-lines block h = record { text = sym (same-equal (textOf (linesIn block)) block h); good = all-good (length block) block }
 
-pub lines-text : (ls : List Line) → allGood ls ≡ true → linesIn (textOf ls) ≡ ls
+lines-text : (ls : List Line) → allGood ls ≡ true → linesIn (textOf ls) ≡ ls
 unfolding textOf allGood
 lines-text [] h = lines-none
 lines-text (l ∷ ls) h =
@@ -173,21 +172,8 @@ lines-text (l ∷ ls) h =
     lines-more l (textOf ls) (both .0) ∙ ap (λ (rest : List Line). l ∷ rest) (lines-text ls (both .1))
 
 -- a block that is lines has one reading
-pub lines-unique : (block : List ℕ) (ls : List Line) → Lines block ls → linesIn block ≡ ls
-lines-unique block ls h = ap linesIn (h .text) ∙ lines-text ls (h .good)
-
-pub lines-good : (block : List ℕ) (ls : List Line) → Lines block ls → goodBlock block ≡ true
+pub lines-unique : (block : List ℕ) (ls : List Line) → Lines block ls → (goodBlock block ≡ true) × (linesIn block ≡ ls)
 unfolding goodBlock
-lines-good block ls h = rw (lines-unique block ls h, ← (h .text)) (same-self block)
-
-pub linesOf-lines : (block : List ℕ) (ls : List Line) → linesOf block ≡ some ls → Lines block ls
-unfolding linesOf
-linesOf-lines block ls h = go (goodBlock block) refl h
-  where
-    go : (b : Bool) → goodBlock block ≡ b → cond b (some (linesIn block)) none ≡ some ls → Lines block ls
-    go true e k = let same : linesIn block ≡ ls = cc in subst (λ (found : List Line). Lines block found) same (good-lines block e)
-    go false e k = let z : _≡_ {A = ℕ} 0 1 = cc in absurd (omega arith)
-
-pub lines-linesOf : (block : List ℕ) (ls : List Line) → Lines block ls → linesOf block ≡ some ls
-unfolding linesOf
-lines-linesOf block ls h = rw (lines-good block ls h, lines-unique block ls h)
+lines-unique block ls h =
+    let found = ap linesIn (h .text) ∙ lines-text ls (h .good) in
+    (rw (found, ← (h .text)) (same-self block), found)

@@ -2,11 +2,14 @@
 -- Assumes nothing.
 use mathlib.Core.Path.{_≡_, sym, ap, _∙_}
 use mathlib.Core.List.{List, _∷_, _++_}
-use mathlib.Core.Bool.{Bool, true}
-use Prim.Native.Nat.{ℕ, suc, _+_, _-_, _<_}
+use mathlib.Core.Bool.{Bool, true, false, _&&_, and-eq-true-iff}
+use Prim.Native.Nat.{ℕ, _+_, _-_, _<_}
+use native.Mathlib.Nat.{add-zero}
 use native.Mathlib.Omega.{arith}
+use borrow.Author.Tests.{ltb-true, lt-ltb, eqb-true}
+use lib.Dec.{ltb, eqb}
 use lib.ListN.{length, getD, drop}
-use lib.Seq.{drop-drop, getD-drop, getD-append-seam, getD-append-add}
+use lib.Seq.{drop-drop, drop-append-seam, getD-drop}
 use Rattle.cells.specs.Spans.{all, leading, Spans}
 use Rattle.cells.specs.Runs.{cut}
 use Rattle.names.specs.Names.{tokenByte}
@@ -14,7 +17,7 @@ use Rattle.cells.proofs.Spans.{leading-append, leading-all}
 use Rattle.lines.specs.Lines.{Line, colon, CR, LF, valueByte, goodLine, lineText}
 use Rattle.lines.specs.Places.{lineBetween, WholeLine}
 use Rattle.lines.proofs.Cuts.{length-cut, cut-split, inside, drop-at}
-use Rattle.lines.proofs.Lines.{good-name, good-value, good-line, colon-ends, return-ends, line-parts, drop-past}
+use Rattle.lines.proofs.Lines.{good-name, good-value, good-line, colon-ends, return-ends, line-parts}
 
 -- the part of a run that a span takes passes
 span-all : (p : ℕ → Bool) (xs : List ℕ) (a e : ℕ) → Spans p xs a e → all p (cut xs a e) ≡ true
@@ -22,74 +25,78 @@ span-all p xs a e s =
     let size : e - a ≡ leading p (drop a xs) = omega (arith, s .is) in
     rw size (leading-all p (drop a xs))
 
+-- what the code tests: a name and a colon after it, and what ends a line
+abbrev pub named : List ℕ → ℕ → ℕ → Bool
+named block at c = ltb at c && eqb (getD block c 0) colon
+
+abbrev pub ended : List ℕ → ℕ → Bool
+ended block e = eqb (getD block e 0) CR && eqb (getD block (e + 1) 0) LF
+
+named-parts : (block : List ℕ) (at c : ℕ) → named block at c ≡ true → (at < c) × (getD block c 0 ≡ colon)
+named-parts block at c h =
+    let both = and-eq-true-iff (ltb at c) (eqb (getD block c 0) colon) .0 h in
+    (ltb-true _ _ (both .0), eqb-true _ _ (both .1))
+
+pub colon-within : (block : List ℕ) (at c : ℕ) → named block at c ≡ true → c < length block
+colon-within block at c h = inside block c (λ z. omega (arith, named-parts block at c h .1))
+
 -- a token, a colon, bytes of a value, CR and LF are a line
-pub whole : (block : List ℕ) (at c e : ℕ) → Spans tokenByte block at c → (c ≡ at → ⊥) → getD block c 0 ≡ colon
-    → Spans valueByte block (c + 1) e → getD block e 0 ≡ CR → getD block (e + 1) 0 ≡ LF → WholeLine block at c e
-whole block at c e s n p t q r =
+pub whole : (block : List ℕ) (at c e : ℕ) → Spans tokenByte block at c → named block at c ≡ true → Spans valueByte block (c + 1) e
+    → ended block e ≡ true → WholeLine block at c e
+whole block at c e s n t m =
     let l = lineBetween block at c e in
+    let parts = named-parts block at c n in
+    let ends = and-eq-true-iff (eqb (getD block e 0) CR) (eqb (getD block (e + 1) 0) LF) .0 m in
+    let feed : getD block (e + 1) 0 ≡ LF = eqb-true _ _ (ends .1) in
     let last : e + 1 < length block = inside block (e + 1) (λ z. omega arith) in
-    let more : at < c = omega (arith, s .is) in
     let value : c < e = omega (arith, t .is) in
     let twice : e + 1 + 1 ≡ e + 2 = omega arith in
     let text : drop at block ≡ l .name ++ (colon ∷ (l .value ++ (CR ∷ LF ∷ drop (e + 2) block))) =
-    cut-split block at c (omega arith)
+    cut-split block at c (omega (arith, parts .0))
     ∙ ap (λ (xs : List ℕ). l .name ++ xs)
-    (drop-at block c colon p (λ z. omega arith)
+    (drop-at block c colon (parts .1) (λ z. omega arith)
     ∙ ap (λ (xs : List ℕ). colon ∷ xs)
     (cut-split block (c + 1) e (omega arith)
     ∙ ap (λ (xs : List ℕ). l .value ++ xs)
-    (drop-at block e CR q (λ z. omega arith)
-    ∙ ap (λ (xs : List ℕ). CR ∷ xs) (drop-at block (e + 1) LF r (λ z. omega arith) ∙ ap (λ (k : ℕ). LF ∷ drop k block) twice))))
+    (drop-at block e CR (eqb-true _ _ (ends .0)) (λ z. omega arith)
+    ∙ ap (λ (xs : List ℕ). CR ∷ xs) (drop-at block (e + 1) LF feed (λ z. omega arith) ∙ ap (λ (k : ℕ). LF ∷ drop k block) twice))))
     in
     record {
-      named = more;
+      named = parts .0;
       ordered = value;
       within = omega arith;
-      good = good-line l (omega (arith, length-cut block at c (s .within))) (span-all tokenByte block at c s) (span-all valueByte block (c + 1) e t);
+      good = good-line l (omega (arith, parts .0, length-cut block at c (s .within))) (span-all tokenByte block at c s) (span-all valueByte block (c + 1) e t);
       text = text ∙ sym (line-parts l (drop (e + 2) block));
     }
 
--- where a good line stands, the places are these
+-- a span that is followed by an element that fails ends there
+module _ (block ys : List ℕ) (c y : ℕ) (e : drop c block ≡ y ∷ ys) where
+  stands : getD block c 0 ≡ y
+  stands = ap (λ (k : ℕ). getD block k 0) (sym (add-zero c)) ∙ sym (getD-drop c block 0 0) ∙ ap (λ (l : List ℕ). getD l 0 0) e
+
+  onward : drop (c + 1) block ≡ ys
+  onward = sym (drop-drop 1 c block) ∙ ap (drop 1) e
+
+stops : (p : ℕ → Bool) (block xs ys : List ℕ) (at c y : ℕ) → Spans p block at c → drop at block ≡ xs ++ y ∷ ys → all p xs ≡ true → p y ≡ false
+    → (c ≡ at + length xs) × (drop c block ≡ y ∷ ys)
+stops p block xs ys at c y s h t f =
+    let size = s .is ∙ ap (λ (l : List ℕ). at + leading p l) h ∙ ap (λ (k : ℕ). at + k) (leading-append p xs y ys t f) in (
+      size,
+      ap (λ (k : ℕ). drop k block) size ∙ sym (drop-drop (length xs) at block) ∙ ap (drop (length xs)) h ∙ drop-append-seam xs (y ∷ ys),
+    )
+
+-- where a good line stands the tests hold
 module _ (block : List ℕ) (at : ℕ) (l : Line) (rest : List ℕ) (g : goodLine l ≡ true) (h : drop at block ≡ lineText l ++ rest) (c : ℕ) (s : Spans tokenByte block at c) where
-  parts : drop at block ≡ l .name ++ (colon ∷ (l .value ++ (CR ∷ LF ∷ rest)))
-  parts = h ∙ line-parts l rest
+  abbrev after : List ℕ
+  after = l .value ++ (CR ∷ LF ∷ rest)
 
-  name-size : c ≡ at + length (l .name)
-  name-size =
-      s .is
-      ∙ ap (λ (k : ℕ). at + k) (ap (leading tokenByte) parts ∙ leading-append tokenByte (l .name) colon (l .value ++ (CR ∷ LF ∷ rest)) (good-name l g .1) colon-ends)
+  name-stops : (c ≡ at + length (l .name)) × (drop c block ≡ colon ∷ after)
+  name-stops = stops tokenByte block (l .name) after at c colon s (h ∙ line-parts l rest) (good-name l g .1) colon-ends
 
-  pub named-at : at < c
-  named-at = omega (arith, name-size, good-name l g .0)
+  pub named-there : named block at c ≡ true
+  named-there = rw (stands block after c colon (name-stops .1), lt-ltb at c (omega (arith, name-stops .0, good-name l g .0)))
 
-  pub colon-at : getD block c 0 ≡ colon
-  colon-at =
-      ap (λ (k : ℕ). getD block k 0) name-size ∙ sym (getD-drop at block (length (l .name)) 0)
-      ∙ ap (λ (xs : List ℕ). getD xs (length (l .name)) 0) parts
-      ∙ getD-append-seam (l .name) colon (l .value ++ (CR ∷ LF ∷ rest)) 0
-
-  value-drop : drop (c + 1) block ≡ l .value ++ (CR ∷ LF ∷ rest)
-  value-drop =
-      let end : c + 1 ≡ at + suc (length (l .name)) = omega (arith, name-size) in
-      ap (λ (k : ℕ). drop k block) end ∙ sym (drop-drop (suc (length (l .name))) at block)
-      ∙ ap (drop (suc (length (l .name)))) parts
-      ∙ drop-past (l .name) colon (l .value ++ (CR ∷ LF ∷ rest))
-
-  module _ (e : ℕ) (t : Spans valueByte block (c + 1) e) where
-    value-size : e ≡ c + 1 + length (l .value)
-    value-size =
-        t .is
-        ∙ ap (λ (k : ℕ). c + 1 + k) (ap (leading valueByte) value-drop ∙ leading-append valueByte (l .value) CR (LF ∷ rest) (good-value l g) return-ends)
-
-    pub return-at : getD block e 0 ≡ CR
-    return-at =
-        ap (λ (k : ℕ). getD block k 0) value-size ∙ sym (getD-drop (c + 1) block (length (l .value)) 0)
-        ∙ ap (λ (xs : List ℕ). getD xs (length (l .value)) 0) value-drop
-        ∙ getD-append-seam (l .value) CR (LF ∷ rest) 0
-
-    pub feed-at : getD block (e + 1) 0 ≡ LF
-    feed-at =
-        let end : e + 1 ≡ c + 1 + (length (l .value) + 1) = omega (arith, value-size) in
-        ap (λ (k : ℕ). getD block k 0) end ∙ sym (getD-drop (c + 1) block (length (l .value) + 1) 0)
-        ∙ ap (λ (xs : List ℕ). getD xs (length (l .value) + 1) 0) value-drop
-        ∙ getD-append-add (l .value) (CR ∷ LF ∷ rest) 1 0
+  pub ended-there : (e : ℕ) → Spans valueByte block (c + 1) e → ended block e ≡ true
+  ended-there e t =
+      let value = stops valueByte block (l .value) (LF ∷ rest) (c + 1) e CR t (onward block after c colon (name-stops .1)) (good-value l g) return-ends .1 in
+      rw (stands block (LF ∷ rest) e CR value, stands block rest (e + 1) LF (onward block (LF ∷ rest) e CR value))

@@ -1,22 +1,26 @@
--- Laws of blanks trimmed off, one at a time.
+-- Laws of blanks trimmed off: all those at the front, and those at the end one at a time.
 -- Assumes nothing.
-use mathlib.Core.Path.{_≡_, refl, ap}
+use mathlib.Core.Path.{_≡_, refl, sym, ap, _∙_}
 use mathlib.Core.List.{List, [], _∷_, _++_}
 use mathlib.Core.Bool.{true, false}
-use Prim.Native.Nat.{ℕ}
+use Prim.Native.Nat.{ℕ, _≤_}
+use native.Mathlib.Omega.{arith}
+use lib.ListN.{length, take, drop}
+use lib.Seq.{drop-drop, length-take-le}
+use Rattle.cells.specs.Runs.{cut}
+use Rattle.cells.specs.Spans.{leading, Spans}
 use Rattle.lines.specs.Values.{blank, trimFront, keeping, trimEnd}
+use Rattle.lines.proofs.Cuts.{drop-take}
 
-pub front-none : trimFront [] ≡ []
+-- a part without the blanks at its front begins where they end
+pub front-cut : (xs : List ℕ) (a e r : ℕ) → a ≤ e → e ≤ length xs → Spans blank (take e xs) a r → (r ≤ e) × (trimFront (cut xs a e) ≡ cut xs r e)
 unfolding trimFront
-front-none = refl
-
-pub front-blank : (b : ℕ) (bs : List ℕ) → blank b ≡ true → trimFront (b ∷ bs) ≡ trimFront bs
-unfolding trimFront
-front-blank b bs h = rw h
-
-pub front-kept : (b : ℕ) (bs : List ℕ) → blank b ≡ false → trimFront (b ∷ bs) ≡ b ∷ bs
-unfolding trimFront
-front-kept b bs h = rw h
+front-cut xs a e r h k s =
+    let within : r ≤ e = omega (arith, s .within, length-take-le e xs k) in (
+      within,
+      ap (λ (l : List ℕ). drop (leading blank l) l) (sym (drop-take xs a e h k)) ∙ drop-drop (leading blank (drop a (take e xs))) a (take e xs)
+          ∙ ap (λ (n : ℕ). drop n (take e xs)) (sym (s .is)) ∙ drop-take xs r e within k,
+    )
 
 pub end-none : trimEnd [] ≡ []
 unfolding trimEnd

@@ -4,7 +4,6 @@ use Prim.Native.Nat.{ℕ, zero, suc}
 use mathlib.Core.Path.{_≡_}
 use mathlib.Core.List.{List, [], _∷_, _++_}
 use mathlib.Core.Bool.{Bool, true, cond, _&&_, _||_}
-use mathlib.Core.Option.{Option, none, some}
 use lib.ListN.{length, take, drop}
 use lib.Dec.{eqb}
 use Rattle.cells.specs.Runs.{same}
@@ -73,7 +72,3 @@ linesIn block = linesUpTo (length block) block
 -- the block is lines, and nothing else
 unfoldable pub goodBlock : List ℕ → Bool
 goodBlock block = same (textOf (linesIn block)) block
-
--- the lines of a block, if it is lines
-unfoldable pub linesOf : List ℕ → Option (List Line)
-linesOf block = cond (goodBlock block) (some (linesIn block)) none

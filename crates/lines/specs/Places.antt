@@ -4,11 +4,11 @@ use Prim.Native.Nat.{ℕ, suc, _+_, _≤_, _<_}
 use mathlib.Core.Path.{_≡_}
 use mathlib.Core.List.{List, _++_}
 use mathlib.Core.Bool.{true}
-use mathlib.Core.Option.{none, some}
+use mathlib.Core.Option.{Option, none, some}
 use lib.ListN.{length, drop}
 use Rattle.cells.specs.Runs.{cut}
 use Rattle.lines.specs.Lines.{Line, goodLine, lineText, linesIn}
-use Rattle.lines.specs.Values.{trimFront, trimEnd, trimmed, timesNamed, valueIn}
+use Rattle.lines.specs.Values.{trimEnd, trimmed, timesNamed, valueIn}
 use Rattle.lines.specs.declared.Place.{Place}
 use Rattle.lines.specs.declared.Place.the-variants.{Whole, Broken}
 use Rattle.lines.specs.declared.Span.{Span}
@@ -34,12 +34,7 @@ abbrev pub PlaceIs : List ℕ → ℕ → Place → Type 0
 PlaceIs block at (Whole colon end) = WholeLine block at colon end
 PlaceIs block at Broken = NoLine block at
 
--- where the part of the block from index start up to index end starts without the blanks at its front, and where it ends without those at its end
-pub record FrontAt (block : List ℕ) (start end r : ℕ) : Type 0 where
-  pub from : start ≤ r
-  pub within : r ≤ end
-  pub is : trimFront (cut block start end) ≡ cut block r end
-
+-- where the part of the block from index start up to index end ends without the blanks at its end
 pub record BackAt (block : List ℕ) (start end r : ℕ) : Type 0 where
   pub from : start ≤ r
   pub within : r ≤ end
@@ -51,18 +46,20 @@ pub record TrimmedTo (block : List ℕ) (start end : ℕ) (r : Span) : Type 0 wh
   pub within : r .end ≤ end
   pub is : trimmed (cut block start end) ≡ cut block (r .start) (r .end)
 
--- of the lines from index at on, the first that bears the name has its trimmed value from start up to end, and the lines after it start at next
-pub record FirstNamed (block : List ℕ) (at : ℕ) (name : List ℕ) (start end next : ℕ) : Type 0 where
-  pub ordered : start ≤ end
-  pub within : end ≤ length block
-  pub after : next ≤ length block
-  pub value : valueIn (linesIn (drop at block)) name ≡ some (cut block start end)
-  pub times : timesNamed (linesIn (drop at block)) name ≡ suc (timesNamed (linesIn (drop next block)) name)
+-- the value of the first line that bears the name, and how many bear it
+abbrev pub toldOf : List Line → List ℕ → Option (List ℕ) × ℕ
+toldOf ls name = (valueIn ls name, timesNamed ls name)
 
-pub record NoneNamed (block : List ℕ) (at : ℕ) (name : List ℕ) : Type 0 where
-  pub value : valueIn (linesIn (drop at block)) name ≡ none
-  pub times : timesNamed (linesIn (drop at block)) name ≡ 0
+-- the same as an answer tells it: the value from start up to end, the line that bears it, and those of the lines from next on
+abbrev pub toldBy : List ℕ → List ℕ → Found → Option (List ℕ) × ℕ
+toldBy block name (At start end next) = (some (cut block start end), suc (timesNamed (linesIn (drop next block)) name))
+toldBy block name Missing = (none, 0)
 
-abbrev pub FoundIs : List ℕ → ℕ → List ℕ → Found → Type 0
-FoundIs block at name (At start end next) = FirstNamed block at name start end next
-FoundIs block at name Missing = NoneNamed block at name
+abbrev pub Within : List ℕ → Found → Type 0
+Within block (At start end next) = (start ≤ end) × (end ≤ length block) × (next ≤ length block)
+Within block Missing = Unit
+
+-- r tells of the lines from index at on
+pub record FoundIs (block : List ℕ) (at : ℕ) (name : List ℕ) (r : Found) : Type 0 where
+  pub told : toldOf (linesIn (drop at block)) name ≡ toldBy block name r
+  pub within : Within block r

@@ -5,19 +5,19 @@ use mathlib.Core.Path.{_≡_}
 use mathlib.Core.List.{List, [], _∷_}
 use mathlib.Core.Bool.{Bool, false, cond, _||_}
 use mathlib.Core.Option.{Option, none, some}
-use lib.ListN.{length}
+use lib.ListN.{length, drop}
 use lib.Dec.{eqb, ltb}
+use Rattle.cells.specs.Spans.{leading}
 use Rattle.names.specs.Names.{sameName}
 use Rattle.lines.specs.Lines.{Line, linesIn}
 
 -- a space or a tab
-unfoldable pub blank : ℕ → Bool
+abbrev pub blank : ℕ → Bool
 blank b = eqb b 32 || eqb b 9
 
 -- without the blanks at the front
 unfoldable pub trimFront : List ℕ → List ℕ
-trimFront [] = []
-trimFront (b ∷ bs) = cond (blank b) (trimFront bs) (b ∷ bs)
+trimFront value = drop (leading blank value) value
 
 -- b before what is kept of the bytes after it; a blank that nothing follows is not kept
 abbrev pub keeping : ℕ → List ℕ → List ℕ

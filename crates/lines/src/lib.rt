@@ -4,14 +4,13 @@ ghost use mathlib.Core.Bool.{true};
 ghost use Prim.Native.Nat.{_≤_};
 ghost use lib.ListN.{length, getD};
 ghost use lib.Dec.{ltb};
-ghost use Rattle.cells.specs.Runs.{cut};
-ghost use Rattle.cells.specs.Spans.{all, Spans};
+ghost use Rattle.cells.specs.Spans.{all, Spans, Passed};
 ghost use Rattle.names.specs.Extra.{goodExtra};
 ghost use Rattle.names.specs.Covered.{chosen, coveredNames};
 ghost use Rattle.names.specs.Walk.{Known, namesFrom};
 ghost use Rattle.lines.specs.Lines.{valueByte, linesIn, goodBlock};
 ghost use Rattle.lines.specs.Values.{blank, timesNamed, repeated, CoveredIs};
-ghost use Rattle.lines.specs.Places.{PlaceIs, FrontAt, BackAt, TrimmedTo, FoundIs};
+ghost use Rattle.lines.specs.Places.{PlaceIs, BackAt, TrimmedTo, FoundIs};
 use names::Next;
 use names::extra;
 use names::token;
@@ -117,17 +116,11 @@ fn line_at(block: &[u8], at: usize) -> Place
     ensures { λ r. ⌜ PlaceIs (now (block .entry)) at r ⌝ }
 {
     let colon = token::token_end(block, at);
-    if colon == at {
-        return Place::Broken;
-    }
-    if byte_at(block, colon) != 58 {
+    if !((at < colon) & (byte_at(block, colon) == 58)) {
         return Place::Broken;
     }
     let end = value_end(block, colon + 1);
-    if byte_at(block, end) != 13 {
-        return Place::Broken;
-    }
-    if byte_at(block, end + 1) != 10 {
+    if !((byte_at(block, end) == 13) & (byte_at(block, end + 1) == 10)) {
         return Place::Broken;
     }
     Place::Whole { colon, end }
@@ -161,7 +154,7 @@ fn value_end(block: &[u8], at: usize) -> usize
 // How far from byte at on sixteen bytes after sixteen are all of a value. The compiler looks at the sixteen at once.
 fn past_sixteens(block: &[u8], at: usize) -> usize
     requires { ⌜ at ≤ length (now block) ⌝ }
-    ensures { λ r. ⌜ (at ≤ r) × (r ≤ length (now (block .entry))) × (all valueByte (cut (now (block .entry)) at r) ≡ true) ⌝ }
+    ensures { λ r. ⌜ Passed valueByte (now (block .entry)) at r ⌝ }
 {
     let mut i = at;
     while 16 <= block.len() - i {
@@ -201,20 +194,21 @@ fn trim(block: &[u8], start: usize, end: usize) -> Span
     requires { ⌜ (start ≤ end) × (end ≤ length (now block)) ⌝ }
     ensures { λ r. ⌜ TrimmedTo (now (block .entry)) start end r ⌝ }
 {
-    let first = front(block, start, end);
+    let first = front(&block[..end], start);
     Span {
         start: first,
         end: back(block, first, end),
     }
 }
 
-fn front(block: &[u8], start: usize, end: usize) -> usize
-    requires { ⌜ (start ≤ end) × (end ≤ length (now block)) ⌝ }
-    ensures { λ r. ⌜ FrontAt (now (block .entry)) start end r ⌝ }
+// Where the blanks end that start at byte at.
+fn front(run: &[u8], at: usize) -> usize
+    requires { ⌜ at ≤ length (now run) ⌝ }
+    ensures { λ r. ⌜ Spans blank (now (run .entry)) at r ⌝ }
 {
-    let mut i = start;
-    while i < end {
-        if !is_blank(block[i]) {
+    let mut i = at;
+    while i < run.len() {
+        if !is_blank(run[i]) {
             return i;
         }
         i += 1;
@@ -222,6 +216,7 @@ fn front(block: &[u8], start: usize, end: usize) -> usize
     i
 }
 
+// Where the part of the block ends without the blanks at its end.
 fn back(block: &[u8], start: usize, end: usize) -> usize
     requires { ⌜ (start ≤ end) × (end ≤ length (now block)) ⌝ }
     ensures { λ r. ⌜ BackAt (now (block .entry)) start end r ⌝ }

@@ -63,3 +63,9 @@ netstrings-determined (x ∷ xs) (y ∷ ys) r s h e =
     (sym (append-assoc (netstring x) (netstrings xs) r) ∙ e ∙ append-assoc (netstring y) (netstrings ys) s) in
     let rest = netstrings-determined xs ys r s (omega arith) (first .1) in
     (ap₂ _∷_ (first .0) (rest .0), rest .1)
+
+-- a row after a row
+pub netstrings-append : (xs ys : List (List ℕ)) → netstrings (xs ++ ys) ≡ netstrings xs ++ netstrings ys
+unfolding netstrings
+netstrings-append [] ys = refl
+netstrings-append (x ∷ xs) ys = ap (λ (l : List ℕ). netstring x ++ l) (netstrings-append xs ys) ∙ sym (append-assoc (netstring x) (netstrings xs) (netstrings ys))

@@ -2,3 +2,4 @@
 pub mod SameText
 pub mod Case12
 pub mod Streaming
+pub mod Short

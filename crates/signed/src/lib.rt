@@ -2,12 +2,10 @@
 ghost use mathlib.Core.Path.{_≡_};
 ghost use mathlib.Core.Bool.{true};
 ghost use mathlib.Core.List.{[], _∷_};
-ghost use Prim.Native.Nat.{_+_, _^_, _<_, _≤_};
+ghost use Prim.Native.Nat.{_^_, _<_, _≤_};
 ghost use lib.ListN.{length};
 ghost use Rattle.cells.specs.Runs.{same};
 ghost use Rattle.hmac.specs.Hmac.{hmacSha512};
-ghost use Rattle.hmac.specs.Keyed.{TookIn};
-ghost use Rattle.netstring.specs.Netstring.{netstring};
 ghost use Rattle.armor.specs.Numerals.{numberBytes, maskBytes};
 ghost use Rattle.names.specs.Extra.{goodExtra};
 ghost use Rattle.names.specs.Walk.{Known};
@@ -132,8 +130,8 @@ fn ending(state: Hmac, path: &[u8], body: &[u8]) -> Hmac
 
 // The state that has taken in the netstring of a part too.
 fn absorb(state: Hmac, part: &[u8]) -> Hmac
-    requires { ⌜ state .inner .length + length (netstring (now part)) < 2 ^ 61 ⌝ }
-    ensures { λ r. ⌜ TookIn state (netstring (now (part .entry))) r ⌝ }
+    requires { ⌜ Room state (now part ∷ []) ⌝ }
+    ensures { λ r. ⌜ TookParts state (now (part .entry) ∷ []) r ⌝ }
 {
     let open = netstring::opening(part.len());
     let all = open.all;

@@ -12,9 +12,9 @@ use Rattle.cells.specs.Runs.{part}
 use Rattle.gcm.specs.declared.Opened.the-variants as O
 use Rattle.gcm.specs.Code.{answer, left}
 use Rattle.cells.specs.Decimal.{decimal}
-use Rattle.netstring.specs.Netstring.{netstring, netstrings}
+use Rattle.netstring.specs.Netstring.{netstrings}
 use Rattle.netstring.specs.Reading.{PartAt, NoPart}
-use Rattle.netstring.proofs.Determined.{netstrings-determined}
+use Rattle.netstring.proofs.Determined.{netstrings-determined, netstrings-append}
 use Rattle.token.specs.declared.Unsealed.{Unsealed}
 use Rattle.token.specs.Token.{Token, tokenText, tokenIn, tokenFrom, given, theToken}
 use Rattle.token.specs.Held.{IsToken, Unseals}
@@ -65,11 +65,6 @@ module _ (key id digits : List ℕ) where
       let two : id ≡ t .id = cc in
       let s = fits-means t fit in
       never (t .expiry) (record { key-size = ap length one ∙ s .key-size; id-some = rw two (s .id-some); id-fits = rw two (s .id-fits); in-range = s .in-range }) (cc)))
-
-netstrings-append : (xs ys : List (List ℕ)) → netstrings (xs ++ ys) ≡ netstrings xs ++ netstrings ys
-unfolding netstrings
-netstrings-append [] ys = refl
-netstrings-append (x ∷ xs) ys = ap (λ (l : List ℕ). netstring x ++ l) (netstrings-append xs ys) ∙ sym (append-assoc (netstring x) (netstrings xs) (netstrings ys))
 
 -- these parts stand before byte at
 pub record Passed (text : List ℕ) (xs : List (List ℕ)) (at : ℕ) : Type 0 where

@@ -1,32 +1,27 @@
--- `all_of_value` meets its contract: good tells of the bytes up to i.
+-- `all_of_value` meets its contract: good tells of the bytes up to i, and with those from i on of all.
 -- Assumes nothing.
-use mathlib.Core.Path.{_≡_, refl, ap, ap₂, _∙_}
-use mathlib.Core.Bool.{_&&_}
+use mathlib.Core.Path.{_≡_, refl, sym, ap, ap₂, _∙_}
+use mathlib.Core.Bool.{Bool, _&&_, and-assoc}
 use Prim.Native.Nat.{_-_, _≤_}
 use native.Mathlib.Omega.{arith}
 use borrow.Author.Needs.{needs}
-use lib.ListN.{length, take}
-use lib.Seq.{take-all}
+use lib.ListN.{length, drop}
 use Rattle.cells.specs.Spans.{all}
 use Rattle.lines.specs.Lines.{valueByte}
-use Rattle.lines.proofs.Passing.{all-more}
+use Rattle.lines.proofs.Passing.{all-from, all-past}
 use Rattle.lines.proofs.all_of_value.Statement.{statement}
 use Rattle.lines.proofs.all_of_value.Tie as tie
 
 abbrev Inv-loop : tie.InvT-loop
-Inv-loop run good₀ i₀ good i = (i ≤ length run) × (good ≡ all valueByte (take i run))
+Inv-loop run good₀ i₀ good i = all valueByte run ≡ (good && all valueByte (drop i run))
 
 abbrev μ-loop : tie.MeasureT-loop
 μ-loop run good₀ i₀ good i = length run - i
 
-loop-holds : tie.Need-loop-holds Inv-loop μ-loop
-unfolding all
-loop-holds c = (omega arith, refl)
-
 loop-again : tie.Need-loop-again Inv-loop μ-loop
 loop-again c =
-    let turn = c .before .before .before in
-    (omega arith, ap₂ _&&_ (turn .loop .inv .1) (c .value-byte .ensures) ∙ all-more valueByte _ (turn .loop .i) (c .before .before .loop-test .taken))
+    let turn = c .before .before .before .loop in
+    turn .inv ∙ rw (all-from valueByte _ (turn .i) (c .before .before .loop-test .taken), c .value-byte .ensures) (sym (and-assoc (turn .good) _ _))
 
 pub all-of-value-spec : {M : Type 1} → statement M
 all-of-value-spec =
@@ -34,10 +29,10 @@ all-of-value-spec =
     (tie.spec
     Inv-loop
     μ-loop
-    loop-holds
+    (λ c. refl)
     (λ c. search needs)
     (λ c κs. search needs)
     (λ c. search needs)
     (λ c. search needs)
     loop-again
-    (λ c. c .before .loop .inv .1 ∙ ap (all valueByte) (take-all (c .before .loop .i) _ (c .loop-test .left))))
+    (λ c. sym (c .before .loop .inv ∙ all-past valueByte _ (c .before .loop .good) (c .before .loop .i) (c .loop-test .left))))

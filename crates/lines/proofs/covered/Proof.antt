@@ -1,47 +1,53 @@
 -- `covered` meets its contract: the set-aside lines are asked first, and the head only where the name is missing there.
 -- Assumes nothing.
 use borrow.Author.Needs.{needs}
+use mathlib.Core.Path.{ap}
 use native.Mathlib.Omega.{arith}
 use Rattle.lines.specs.Values.{coveredValue}
-use Rattle.lines.specs.Places.{FirstNamed}
-use Rattle.lines.proofs.Cuts.{length-cut}
+use Rattle.lines.specs.Places.{Within}
+use Rattle.lines.specs.declared.Found.the-variants.{At}
+use Rattle.lines.proofs.Cuts.{cut-below}
 use Rattle.lines.proofs.covered.Statement.{statement}
 use Rattle.lines.proofs.covered.Tie as tie
 
 apart : (c : tie.After-start)
-    → FirstNamed (c .before .before .before .before .before .before .args .aside .now) 0 (c .before .before .before .before .before .before .args .name .now)
-    (c .start .given .0 .0) (c .start .given .0 .1 .0) (c .start .given .0 .1 .1 .0)
-apart c = rw (c .start .given .1) at (c .before .before .find .ensures)
+    → Within (c .before .before .before .before .before .before .args .aside .now) (At (c .start .given .0 .0) (c .start .given .0 .1 .0) (c .start .given .0 .1 .1 .0))
+apart c = rw (c .start .given .1) at (c .before .before .find .ensures .within)
 
 ahead : (c : tie.After-start2)
-    → FirstNamed (c .before .before .before .before .before .before .before .before .before .args .head .now) 0
-    (c .before .before .before .before .before .before .before .before .before .args .name .now)
-    (c .start2 .given .0 .0) (c .start2 .given .0 .1 .0) (c .start2 .given .0 .1 .1 .0)
-ahead c = rw (c .start2 .given .1) at (c .before .before .find2 .ensures)
+    → Within (c .before .before .before .before .before .before .before .before .before .args .head .now)
+    (At (c .start2 .given .0 .0) (c .start2 .given .0 .1 .0) (c .start2 .given .0 .1 .1 .0))
+ahead c = rw (c .start2 .given .1) at (c .before .before .find2 .ensures .within)
 
 returns : tie.Need-returns
 unfolding coveredValue
 returns c =
-    let aside = c .before .before .before .before .before .before .before .before .args .aside .now in
-    let place = c .before .before .start .given .0 in
-    let found = apart (c .before .before) in
-    record { is = simp (found .value); within = omega (arith, length-cut aside (place .0) (place .1 .0) (found .within)) }
+    let found = c .before .before in
+    record {
+      is = simp (ap (λ p. p .0) (found .before .before .find .ensures .told), found .start .given .1);
+      within = cut-below _ (found .start .given .0 .0) _ _ (apart found .1) (omega arith);
+    }
 
 returns-2 : tie.Need-returns-2
 unfolding coveredValue
 returns-2 c =
-    let head = c .before .before .before .before .before .before .before .before .before .before .before .args .head .now in
-    let place = c .before .before .start2 .given .0 in
-    let found = ahead (c .before .before) in
-    let none = rw (c .before .before .before .before .before .enum-told .given .1) at (c .before .before .before .before .before .before .before .find .ensures) in
-    record { is = simp (none .value, found .value); within = omega (arith, length-cut head (place .0) (place .1 .0) (found .within)) }
+    let found = c .before .before in
+    let none = found .before .before .before in
+    let told = ap (λ p. p .0) (found .before .before .find2 .ensures .told) in
+    record {
+      is = simp (ap (λ p. p .0) (none .before .before .find .ensures .told), none .enum-told .given .1, told, found .start2 .given .1);
+      within = cut-below _ (found .start2 .given .0 .0) _ _ (ahead found .1) (omega arith);
+    }
 
 returns-3 : tie.Need-returns-3
 unfolding coveredValue
 returns-3 c =
-    let none = rw (c .before .before .before .before .enum-told .given .1) at (c .before .before .before .before .before .before .find .ensures) in
-    let neither = rw (c .before .enum-told2 .given .1) at (c .before .before .before .find2 .ensures) in
-    record { is = simp (none .value, neither .value); within = omega arith }
+    let none = c .before .before .before .before in
+    let told = ap (λ p. p .0) (c .before .before .before .find2 .ensures .told) in
+    record {
+      is = simp (ap (λ p. p .0) (none .before .before .find .ensures .told), none .enum-told .given .1, told, c .before .enum-told2 .given .1);
+      within = omega arith;
+    }
 
 pub covered-spec : {M : Type 1} → statement M
 covered-spec =

@@ -4,11 +4,13 @@ use borrow.Author.Needs.{needs}
 use mathlib.Core.Path.{_≡_, refl, sym, ap, _∙_}
 use mathlib.Core.List.{List}
 use Prim.Native.Nat.{_≤_, _-_}
+use native.Mathlib.Nat.{zero-add}
+use native.Mathlib.Numerals.{one-add}
 use native.Mathlib.Omega.{arith}
 use lib.ListN.{length, drop}
 use Rattle.lines.specs.Lines.{Line, linesIn}
 use Rattle.lines.specs.Values.{timesNamed, valueIn}
-use Rattle.lines.specs.Places.{WholeLine}
+use Rattle.lines.specs.Places.{toldOf, WholeLine}
 use Rattle.lines.proofs.Lines.{lines-stop}
 use Rattle.lines.proofs.Named.{lines-at, lines-end}
 use Rattle.lines.proofs.find.Statement.{statement}
@@ -16,8 +18,7 @@ use Rattle.lines.proofs.find.Tie as tie
 
 abbrev Inv-loop : tie.InvT-loop
 Inv-loop block at name place₀ place =
-    (place ≤ length block) × (valueIn (linesIn (drop at block)) name ≡ valueIn (linesIn (drop place block)) name)
-    × (timesNamed (linesIn (drop at block)) name ≡ timesNamed (linesIn (drop place block)) name)
+    (place ≤ length block) × (toldOf (linesIn (drop at block)) name ≡ toldOf (linesIn (drop place block)) name)
 
 abbrev μ-loop : tie.MeasureT-loop
 μ-loop block at name place₀ place = length block - place
@@ -30,13 +31,9 @@ line c = rw (c .colon .given .1) at (c .before .before .line-at .ensures)
 returns : tie.Need-returns Inv-loop μ-loop
 unfolding valueIn timesNamed
 returns c =
-    let at = c .before .before .before .before .loop in
     let name = c .before .before .before .before .before .before .before .args .name .now in
     let none = lines-stop _ (rw (c .enum-told .given .1) at (c .before .before .line-at .ensures)) in
-    record {
-      value = at .inv .1 ∙ ap (λ (ls : List Line). valueIn ls name) none;
-      times = at .inv .2 ∙ ap (λ (ls : List Line). timesNamed ls name) none;
-    }
+    record { told = c .before .before .before .before .loop .inv .1 ∙ ap (λ (ls : List Line). toldOf ls name) none; within = tt }
 
 returns-2 : tie.Need-returns-2 Inv-loop μ-loop
 unfolding valueIn timesNamed
@@ -44,15 +41,13 @@ returns-2 c =
     let at = c .before .before .before .before .before .before .before .before .before .loop in
     let args = c .before .before .before .before .before .before .before .before .before .before .before .before .args in
     let here = line (c .before .before .before .before .before) in
-    let lines = lines-at (args .block .now) (at .place) _ _ here in
     let same = sym (c .before .before .same-name .ensures) ∙ c .before .if1 .taken in
     let trims = c .trim .ensures in
     record {
-      ordered = trims .ordered;
-      within = omega (arith, trims .within, here .within);
-      after = here .within;
-      value = at .inv .1 ∙ ap (λ (ls : List Line). valueIn ls (args .name .now)) lines ∙ simp (same, trims .is);
-      times = at .inv .2 ∙ ap (λ (ls : List Line). timesNamed ls (args .name .now)) lines ∙ simp same (omega arith);
+      told =
+          at .inv .1 ∙ ap (λ (ls : List Line). toldOf ls (args .name .now)) (lines-at (args .block .now) (at .place) _ _ here)
+          ∙ simp (same, trims .is, one-add);
+      within = (trims .ordered, omega (arith, trims .within, here .within), here .within);
     }
 
 loop-again : tie.Need-loop-again Inv-loop μ-loop
@@ -61,23 +56,17 @@ loop-again c =
     let at = c .before .before .before .before .before .before .before .before .loop in
     let args = c .before .before .before .before .before .before .before .before .before .before .before .args in
     let here = line (c .before .before .before .before) in
-    let lines = lines-at (args .block .now) (at .place) _ _ here in
     let other = sym (c .before .same-name .ensures) ∙ c .if1 .left in (
       here .within,
-      at .inv .1 ∙ ap (λ (ls : List Line). valueIn ls (args .name .now)) lines ∙ simp other,
-      at .inv .2 ∙ ap (λ (ls : List Line). timesNamed ls (args .name .now)) lines ∙ simp other (omega arith),
+      at .inv .1 ∙ ap (λ (ls : List Line). toldOf ls (args .name .now)) (lines-at (args .block .now) (at .place) _ _ here) ∙ simp (other, zero-add),
     )
 
 returns-3 : tie.Need-returns-3 Inv-loop μ-loop
 unfolding valueIn timesNamed
 returns-3 c =
-    let at = c .before .loop in
     let args = c .before .before .before .before .args in
-    let none = lines-end (args .block .now) (at .place) (c .loop-test .left) in
-    record {
-      value = at .inv .1 ∙ ap (λ (ls : List Line). valueIn ls (args .name .now)) none;
-      times = at .inv .2 ∙ ap (λ (ls : List Line). timesNamed ls (args .name .now)) none;
-    }
+    let none = lines-end (args .block .now) (c .before .loop .place) (c .loop-test .left) in
+    record { told = c .before .loop .inv .1 ∙ ap (λ (ls : List Line). toldOf ls (args .name .now)) none; within = tt }
 
 pub find-spec : {M : Type 1} → statement M
 find-spec =
@@ -85,7 +74,7 @@ find-spec =
     (tie.spec
     Inv-loop
     μ-loop
-    (λ c. (search needs, refl, refl))
+    (λ c. (search needs, refl))
     (λ c κs. search needs)
     (λ c. search needs)
     (λ c. search needs)

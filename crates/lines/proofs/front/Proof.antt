@@ -1,50 +1,21 @@
--- `front` meets its contract: the bytes from start up to i are blanks.
+-- `front` meets its contract: the bytes from at up to i are blanks.
 -- Assumes nothing.
 use borrow.Author.Needs.{needs}
 use borrow.Author.Tests.{not-true, not-false}
-use mathlib.Core.Path.{_≡_, refl, sym, ap, _∙_}
-use Prim.Native.Nat.{_≤_, _-_}
-use native.Mathlib.Omega.{arith}
-use Rattle.cells.specs.Runs.{cut}
-use Rattle.lines.specs.Values.{trimFront}
-use Rattle.lines.proofs.Cuts.{cut-none, cut-first}
-use Rattle.lines.proofs.Trims.{front-none, front-blank, front-kept}
+use mathlib.Core.Path.{sym, _∙_}
+use Prim.Native.Nat.{_-_}
+use lib.ListN.{length}
+use Rattle.cells.specs.Spans.{Passed}
+use Rattle.cells.proofs.Spans.{passed-none, passed-more, passed-stop, passed-end}
+use Rattle.lines.specs.Values.{blank}
 use Rattle.lines.proofs.front.Statement.{statement}
 use Rattle.lines.proofs.front.Tie as tie
 
 abbrev Inv-loop : tie.InvT-loop
-Inv-loop block start end i₀ i = (start ≤ i) × (i ≤ end) × (trimFront (cut block start end) ≡ trimFront (cut block i end))
+Inv-loop run at i₀ i = Passed blank run at i
 
 abbrev μ-loop : tie.MeasureT-loop
-μ-loop block start end i₀ i = end - i
-
-returns : tie.Need-returns Inv-loop μ-loop
-returns c =
-    let at = c .before .before .before .before .loop in
-    let args = c .before .before .before .before .before .before .args in
-    let first = cut-first (args .block .now) (at .i) (args .«end») (search needs) (search needs) in
-    record {
-      from = at .inv .0;
-      within = at .inv .1;
-      is = at .inv .2 ∙ ap trimFront first ∙ front-kept _ _ (sym (c .before .is-blank .ensures) ∙ not-true _ (c .if1 .taken)) ∙ sym first;
-    }
-
-loop-again : tie.Need-loop-again Inv-loop μ-loop
-loop-again c =
-    let at = c .before .before .before .before .loop in
-    let args = c .before .before .before .before .before .before .args in (
-      omega arith,
-      omega arith,
-      at .inv .2 ∙ ap trimFront (cut-first (args .block .now) (at .i) (args .«end») (search needs) (search needs))
-          ∙ front-blank _ _ (sym (c .before .is-blank .ensures) ∙ not-false _ (c .if1 .left)),
-    )
-
-returns-2 : tie.Need-returns-2 Inv-loop μ-loop
-returns-2 c =
-    let at = c .before .loop in
-    let args = c .before .before .before .args in
-    let none = cut-none (args .block .now) (at .i) (args .«end») (search needs) in
-    record { from = at .inv .0; within = at .inv .1; is = at .inv .2 ∙ ap trimFront none ∙ front-none ∙ sym none }
+μ-loop run at i₀ i = length run - i
 
 pub front-spec : {M : Type 1} → statement M
 front-spec =
@@ -52,11 +23,11 @@ front-spec =
     (tie.spec
     Inv-loop
     μ-loop
-    (λ c. (omega arith, search needs, refl))
+    (λ c. passed-none blank _ _ (c .before .pre))
     (λ c. search needs)
     (λ c κs. search needs)
-    returns
+    (λ c. passed-stop blank _ _ _ (c .before .before .before .before .loop .inv) (search needs) (sym (c .before .is-blank .ensures) ∙ not-true _ (c .if1 .taken)))
     (λ c. search needs)
     (λ c. search needs)
-    loop-again
-    returns-2)
+    (λ c. passed-more blank _ _ _ (c .before .before .before .before .loop .inv) (search needs) (sym (c .before .is-blank .ensures) ∙ not-false _ (c .if1 .left)))
+    (λ c. passed-end blank _ _ _ (c .before .loop .inv) (c .loop-test .left)))

@@ -5,9 +5,9 @@ use borrow.Author.Tests.{not-true, not-false}
 use mathlib.Core.Path.{sym, _∙_}
 use Prim.Native.Nat.{_-_}
 use lib.ListN.{length}
+use Rattle.cells.specs.Spans.{Passed}
+use Rattle.cells.proofs.Spans.{passed-more, passed-stop, passed-end}
 use Rattle.lines.specs.Lines.{valueByte}
-use Rattle.cells.proofs.Spans.{Passed, passed-more, passed-stop, passed-end}
-use Rattle.lines.proofs.Passing.{passed-part}
 use Rattle.lines.proofs.value_end.Statement.{statement}
 use Rattle.lines.proofs.value_end.Tie as tie
 
@@ -17,21 +17,6 @@ Inv-loop block at i₀ i = Passed valueByte block at i
 abbrev μ-loop : tie.MeasureT-loop
 μ-loop block at i₀ i = length block - i
 
-loop-holds : tie.Need-loop-holds Inv-loop μ-loop
-loop-holds c =
-    let told = c .past-sixteens .ensures in
-    passed-part valueByte _ _ _ (told .0) (told .1) (told .2)
-
-returns : tie.Need-returns Inv-loop μ-loop
-returns c =
-    passed-stop valueByte _ _ _ (c .before .before .before .before .loop .inv) (search needs)
-    (sym (c .before .value-byte .ensures) ∙ not-true _ (c .if1 .taken))
-
-loop-again : tie.Need-loop-again Inv-loop μ-loop
-loop-again c =
-    passed-more valueByte _ _ _ (c .before .before .before .before .loop .inv) (search needs)
-    (sym (c .before .value-byte .ensures) ∙ not-false _ (c .if1 .left))
-
 pub value-end-spec : {M : Type 1} → statement M
 value-end-spec =
     tie.close
@@ -39,11 +24,11 @@ value-end-spec =
     Inv-loop
     μ-loop
     (λ c κs. search needs)
-    loop-holds
+    (λ c. c .past-sixteens .ensures)
     (λ c. search needs)
     (λ c κs. search needs)
-    returns
+    (λ c. passed-stop valueByte _ _ _ (c .before .before .before .before .loop .inv) (search needs) (sym (c .before .value-byte .ensures) ∙ not-true _ (c .if1 .taken)))
     (λ c. search needs)
     (λ c. search needs)
-    loop-again
+    (λ c. passed-more valueByte _ _ _ (c .before .before .before .before .loop .inv) (search needs) (sym (c .before .value-byte .ensures) ∙ not-false _ (c .if1 .left)))
     (λ c. passed-end valueByte _ _ _ (c .before .loop .inv) (c .loop-test .left)))

@@ -1,50 +1,35 @@
--- `netstring::absorb` meets its contract: the netstring is taken in by its four pieces.
+-- `absorb` meets its contract: the netstring is taken in by its three pieces.
 -- Assumes nothing.
-use mathlib.Core.Path.{ap}
+use mathlib.Core.List.{List, [], _∷_, _++_}
+use mathlib.Core.Path.{_≡_, ap, sym, subst, _∙_}
+use Prim.Native.Nat.{ℕ, _+_, _-_}
 use native.Mathlib.Omega.{arith}
 use borrow.Author.Needs.{needs}
-use lib.ListN.{length}
-use Rattle.netstring.proofs.Laid.{shown-piece, length-netstring, took-netstring}
-use Rattle.netstring.proofs.absorb.Statement.{statement}
-use Rattle.netstring.proofs.absorb.Tie as tie
+use lib.ListN.{length, take, drop}
+use Rattle.hmac.specs.Keyed.{TookIn}
+use Rattle.netstring.specs.Netstring.{comma}
+use Rattle.netstring.proofs.Laid.{netstring-pieces, length-pieces, opening-piece}
+use Rattle.signed.proofs.Streaming.{size, size-one, netstrings-one, took-both}
+use Rattle.signed.proofs.absorb.Statement.{statement}
+use Rattle.signed.proofs.absorb.Tie as tie
 
-absorb-requires : tie.Need-absorb-requires
-absorb-requires c κs =
-    let a = c .before .before .before .before .before in
-    let r = c .before .before .before .digits in
-    let piece = ap length (shown-piece (length (a .args .part .now)) (r .result) (r .ensures)) in
-    omega (arith, a .pre, length-netstring (a .args .part .now), piece)
-
-absorb-requires-2 : tie.Need-absorb-requires-2
-absorb-requires-2 c κs =
-    let a = c .before .before .before .before .before .before .before in
-    let r = c .before .before .before .before .before .digits in
-    let piece = ap length (shown-piece (length (a .args .part .now)) (r .result) (r .ensures)) in
-    omega (arith, a .pre, length-netstring (a .args .part .now), piece, c .before .absorb .ensures .inner-counted)
-
-absorb-requires-3 : tie.Need-absorb-requires-3
-absorb-requires-3 c κs =
-    let a = c .before .before .before .before .before .before .before .before in
-    let r = c .before .before .before .before .before .before .digits in
-    let piece = ap length (shown-piece (length (a .args .part .now)) (r .result) (r .ensures)) in
-    omega (arith, a .pre, length-netstring (a .args .part .now), piece, c .before .before .absorb .ensures .inner-counted, c .absorb2 .ensures .inner-counted)
-
-absorb-requires-4 : tie.Need-absorb-requires-4
-absorb-requires-4 c κs =
-    let a = c .before .before .before .before .before .before .before .before .before .before in
-    let r = c .before .before .before .before .before .before .before .before .digits in
-    let piece = ap length (shown-piece (length (a .args .part .now)) (r .result) (r .ensures)) in
-    omega (arith, a .pre, length-netstring (a .args .part .now), piece, c .before .before .before .before .absorb .ensures .inner-counted, c .before .before .absorb2 .ensures .inner-counted, c .before .absorb3 .ensures .inner-counted)
+-- how long the pieces are
+sizes : (c : tie.After-opening) → let part = c .before .before .args .part .now in
+    let made = c .opening .result in
+    size (part ∷ []) ≡ length (take (21 - made .start) (drop (made .start) (made .all))) + length part + 1
+sizes c =
+    let part = c .before .before .args .part .now in
+    size-one part ∙ length-pieces part (opening-piece _ (c .opening .result) (c .opening .ensures))
 
 returns : tie.Need-returns
 returns c =
-    let a = c .before .before .before .before .before .before .before .before .before .before .before .args in
-    let r = c .before .before .before .before .before .before .before .before .before .digits in
-    took-netstring (a .state) _ _ _ _ (a .part .now) _ (shown-piece (length (a .part .now)) (r .result) (r .ensures))
-    (c .before .before .before .before .before .absorb .ensures)
-    (c .before .before .before .absorb2 .ensures)
-    (c .before .before .absorb3 .ensures)
-    (c .absorb4 .ensures)
+    let made = c .before .before .before .before .before .before .before .opening in
+    let args = c .before .before .before .before .before .before .before .before .before .args in
+    subst (λ (l : List ℕ). TookIn (args .state) l (c .absorb3 .result))
+    (ap (λ (l : List ℕ). (l ++ args .part .now) ++ (comma ∷ [])) (opening-piece _ (made .result) (made .ensures))
+    ∙ netstring-pieces (args .part .now)
+    ∙ sym (netstrings-one (args .part .now)))
+    (took-both (took-both (c .before .before .before .absorb .ensures) (c .before .before .absorb2 .ensures)) (c .absorb3 .ensures))
 
 pub absorb-spec : {M : Type 1} → statement M
 absorb-spec =
@@ -54,10 +39,8 @@ absorb-spec =
     (λ c. search needs)
     (λ c. search needs)
     (λ c. search needs)
-    absorb-requires
+    (λ c κs. omega (arith, sizes (c .before .before .before)))
+    (λ c κs. omega (arith, sizes (c .before .before .before .before)))
     (λ c. search needs)
-    absorb-requires-2
-    absorb-requires-3
-    (λ c. search needs)
-    absorb-requires-4
+    (λ c κs. omega (arith, sizes (c .before .before .before .before .before .before)))
     returns)

@@ -3,50 +3,60 @@
 use borrow.Author.Needs.{needs}
 use mathlib.Core.Path.{subst}
 use mathlib.Core.List.{List, [], _∷_, _++_}
-use Prim.Native.Nat.{ℕ}
+use Prim.Native.Nat.{ℕ, _+_, _≤_}
 use native.Mathlib.Omega.{arith}
 use Rattle.hmac.specs.Keyed.{Keyed}
 use Rattle.signed.specs.SignedText.{coveredValues}
 use Rattle.signed.specs.Streamed.{openingParts}
-use Rattle.signed.proofs.Streaming.{extra-short, took-then, parts-joined}
+use Rattle.signed.proofs.Streaming.{size, took-then, parts-joined}
+use Rattle.signed.proofs.Short.{request-short}
 use Rattle.signed.proofs.code.Statement.{statement}
 use Rattle.signed.proofs.code.Tie as tie
 
-opening-requires : tie.Need-opening-requires
-opening-requires c κs =
-    let start = c .before .before .before .before .before .before .before in
-    (omega (arith, c .new .ensures .inner-counted), extra-short (start .args .extra .now) (start .pre .1))
+abbrev opens : tie.Start → List (List ℕ)
+opens s = openingParts (s .args .mask) (s .args .extra .now) (s .args .n .0) (s .args .t .0) (s .args .lt .0)
 
-ending-requires : tie.Need-ending-requires
-ending-requires c κs =
-    let start = c .before .before .before .before .before .before .before .before .before in (
-      omega (arith, c .values .ensures .within, c .before .opening .ensures .within, c .before .before .new .ensures .inner-counted),
-      start .pre .4,
-      start .pre .5,
+abbrev held : tie.Start → List (List ℕ)
+held s = coveredValues (s .args .mask) (s .args .extra .now) (s .args .aside .now) (s .args .head .now)
+
+abbrev ends : tie.Start → List (List ℕ)
+ends s = s .args .path .now ∷ s .args .body .now ∷ []
+
+short : (s : tie.Start) → size (opens s) + size (held s) + size (ends s) ≤ 2000000
+short s = request-short _ _ _ _ _ _ _ _ _ (s .pre .2) (s .pre .3) (s .pre .4) (s .pre .5) (s .pre .6)
+
+opening-requires : tie.Need-opening-requires
+opening-requires c κs = omega (arith, short (c .before .before .before .before .before .before .before .before), c .new .ensures .inner-counted)
+
+values-requires : tie.Need-values-requires
+values-requires c κs =
+    let s = c .before .before .before .before .before .before .before .before .before in
+    (s .pre .0, s .pre .2, omega (arith, short s, c .before .new .ensures .inner-counted, c .opening .ensures .inner-counted))
+
+-- how much was taken in before the end
+counted : (c : tie.After-values) → let s = c .before .before .before .before .before .before .before .before .before .before in
+    c .values .result .inner .length + size (ends s) ≤ 3000000
+counted c =
+    omega (
+      arith,
+      short (c .before .before .before .before .before .before .before .before .before .before),
+      c .before .before .new .ensures .inner-counted,
+      c .before .opening .ensures .inner-counted,
+      c .values .ensures .inner-counted,
     )
 
 returns : tie.Need-returns
 returns c =
-    let args = c .before .before .before .before .before .before .before .before .before .before .before .args in
-    let made = c .before .before .before .before .new in
-    let opened = c .before .before .before .opening in
-    let valued = c .before .before .values in
-    let ended = c .before .ending in
-    let key = args .key .now in
-    let extra = args .extra .now in
-    let aside = args .aside .now in
-    let head = args .head .now in
-    let path = args .path .now in
-    let body = args .body .now in
-    let first = openingParts (args .mask) extra (args .n .0) (args .t .0) (args .lt .0) in
-    let values = coveredValues (args .mask) extra aside head in
+    let s = c .before .before .before .before .before .before .before .before .before .before .before .before in
+    let made = c .before .before .before .before .new .ensures in
     let took =
-    took-then (made .result) (opened .result) (ended .result) first (values ++ (path ∷ body ∷ [])) (opened .ensures .took)
-    (took-then (opened .result) (valued .result) (ended .result) values (path ∷ body ∷ []) (valued .ensures .took) (ended .ensures .took)) in
-    c .finish .ensures key _
-    (subst (λ (text : List ℕ). Keyed (ended .result) key text)
-    (parts-joined (args .mask) (args .n .0) (args .t .0) (args .lt .0) extra aside head path body)
-    (took .appended key [] (made .ensures .keyed)))
+    took-then (opens s) (held s ++ ends s) (c .before .before .before .opening .ensures)
+    (took-then (held s) (ends s) (c .before .before .values .ensures) (c .before .ending .ensures)) in
+    c .finish .ensures (s .args .key .now) _
+    (subst (λ (text : List ℕ). Keyed (c .before .ending .result) (s .args .key .now) text)
+    (parts-joined (s .args .mask) (s .args .n .0) (s .args .t .0) (s .args .lt .0) (s .args .extra .now) (s .args .aside .now) (s .args .head .now) (s .args .path .now)
+    (s .args .body .now))
+    (took .appended (s .args .key .now) [] (made .keyed)))
 
 pub code-spec : {M : Type 1} → statement M
 code-spec =
@@ -54,7 +64,7 @@ code-spec =
     (tie.spec
     (λ c κs. search needs)
     opening-requires
-    (λ c κs. search needs)
-    ending-requires
-    (λ c κs. search needs)
+    values-requires
+    (λ c κs. omega (arith, counted c))
+    (λ c κs. (omega (arith, counted (c .before), c .ending .ensures .inner-counted), search needs))
     returns)

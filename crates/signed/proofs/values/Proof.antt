@@ -1,45 +1,40 @@
 -- `values` meets its contract: the names of the mask's bits first, and then the extra ones.
 -- Assumes nothing.
 use borrow.Author.Needs.{needs}
-use mathlib.Core.Path.{subst}
-use mathlib.Core.List.{List}
+use mathlib.Core.Path.{_≡_, ap, subst, sym, _∙_}
+use mathlib.Core.List.{List, _++_}
 use Prim.Native.Nat.{ℕ, _+_, _/_}
 use native.Mathlib.Omega.{arith}
-use Rattle.signed.specs.Streamed.{TookParts, mostValues}
-use Rattle.signed.proofs.Streaming.{valuesFrom, extra-short, took-parts, values-joined}
+use Rattle.signed.specs.SignedText.{coveredValues}
+use Rattle.signed.specs.Streamed.{TookParts, valuesFrom}
+use Rattle.signed.proofs.Streaming.{size, size-append, took-then, extraValues, values-joined}
 use Rattle.signed.proofs.values.Statement.{statement}
 use Rattle.signed.proofs.values.Tie as tie
 
+abbrev firsts : tie.Start → List (List ℕ)
+firsts s = valuesFrom (s .args .aside .now) (s .args .head .now) (s .args .known .now) (s .args .mask / 2) 0
+
+abbrev lasts : tie.Start → List (List ℕ)
+lasts s = extraValues (s .args .aside .now) (s .args .head .now) (s .args .extra .now)
+
+both : (s : tie.Start) → firsts s ++ lasts s ≡ coveredValues (s .args .mask) (s .args .extra .now) (s .args .aside .now) (s .args .head .now)
+both s = values-joined (s .args .mask) (s .args .extra .now) (s .args .known .now) (s .args .aside .now) (s .args .head .now) (s .pre .0)
+
+values-in-requires : tie.Need-values-in-requires
+values-in-requires c κs =
+    let s = c .before .before .before .before in
+    omega (arith, s .pre .2, ap size (both s), size-append (firsts s) (lasts s))
+
 values-in-requires-2 : tie.Need-values-in-requires-2
 values-in-requires-2 c κs =
-    let start = c .before .before .before .before .before .before .before in (
-      omega (arith, start .pre .0, c .before .values-in .ensures .within),
-      omega (arith, extra-short (start .args .extra .now) (start .pre .1)),
-      start .pre .2,
-      start .pre .3,
-    )
+    let s = c .before .before .before .before .before .before in
+    rw (c .extra-bits .ensures) (omega (arith, s .pre .2, c .before .values-in .ensures .inner-counted, ap size (both s), size-append (firsts s) (lasts s)))
 
 returns : tie.Need-returns
 returns c =
-    let args = c .before .before .before .before .before .before .before .before .args in
-    let table = c .before .before .before .before .names in
-    let bits = c .before .extra-bits in
-    let first = c .before .before .values-in in
-    let head = args .head .now in
-    let aside = args .aside .now in
-    let extra = args .extra .now in
-    subst (λ (parts : List (List ℕ)). TookParts (args .state) parts (mostValues + mostValues) (c .values-in2 .result))
-    (values-joined (args .mask) (bits .result) extra (table .result) aside head (table .ensures) (bits .ensures))
-    (took-parts (args .state) (first .result) (c .values-in2 .result) (valuesFrom head aside (table .result) (args .mask / 2) 0)
-    (valuesFrom head aside extra (bits .result) 0) mostValues mostValues (first .ensures) (c .values-in2 .ensures))
+    let s = c .before .before .before .before .before .before .before in
+    subst (λ (parts : List (List ℕ)). TookParts (s .args .state) parts (c .values-in2 .result)) (both s)
+    (took-then (firsts s) (lasts s) (c .before .before .values-in .ensures) (rw (c .before .extra-bits .ensures) at (c .values-in2 .ensures)))
 
 pub values-spec : {M : Type 1} → statement M
-values-spec =
-    tie.close
-    (tie.spec
-    (λ c κs. search needs)
-    (λ c. search needs)
-    (λ c κs. search needs)
-    (λ c κs. search needs)
-    values-in-requires-2
-    returns)
+values-spec = tie.close (tie.spec values-in-requires (λ c κs. search needs) values-in-requires-2 returns)

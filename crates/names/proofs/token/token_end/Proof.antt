@@ -5,8 +5,9 @@ use borrow.Author.Tests.{not-true, not-false}
 use mathlib.Core.Path.{sym, _∙_}
 use Prim.Native.Nat.{_-_}
 use lib.ListN.{length}
+use Rattle.cells.specs.Spans.{Passed}
+use Rattle.cells.proofs.Spans.{passed-none, passed-more, passed-stop, passed-end}
 use Rattle.names.specs.Names.{tokenByte}
-use Rattle.cells.proofs.Spans.{Passed, passed-none, passed-more, passed-stop, passed-end}
 use Rattle.names.proofs.token.token_end.Statement.{statement}
 use Rattle.names.proofs.token.token_end.Tie as tie
 
@@ -15,16 +16,6 @@ Inv-loop run at i₀ i = Passed tokenByte run at i
 
 abbrev μ-loop : tie.MeasureT-loop
 μ-loop run at i₀ i = length run - i
-
-returns : tie.Need-returns Inv-loop μ-loop
-returns c =
-    passed-stop tokenByte _ _ _ (c .before .before .before .before .loop .inv) (search needs)
-    (sym (c .before .token-byte .ensures) ∙ not-true _ (c .if1 .taken))
-
-loop-again : tie.Need-loop-again Inv-loop μ-loop
-loop-again c =
-    passed-more tokenByte _ _ _ (c .before .before .before .before .loop .inv) (search needs)
-    (sym (c .before .token-byte .ensures) ∙ not-false _ (c .if1 .left))
 
 pub token-end-spec : {M : Type 1} → statement M
 token-end-spec =
@@ -35,8 +26,8 @@ token-end-spec =
     (λ c. passed-none tokenByte _ _ (c .before .pre))
     (λ c. search needs)
     (λ c κs. search needs)
-    returns
+    (λ c. passed-stop tokenByte _ _ _ (c .before .before .before .before .loop .inv) (search needs) (sym (c .before .token-byte .ensures) ∙ not-true _ (c .if1 .taken)))
     (λ c. search needs)
     (λ c. search needs)
-    loop-again
+    (λ c. passed-more tokenByte _ _ _ (c .before .before .before .before .loop .inv) (search needs) (sym (c .before .token-byte .ensures) ∙ not-false _ (c .if1 .left)))
     (λ c. passed-end tokenByte _ _ _ (c .before .loop .inv) (c .loop-test .left)))
