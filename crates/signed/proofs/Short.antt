@@ -27,31 +27,32 @@ use Rattle.signed.proofs.Streaming.{size, size-one, size-append, openin
 part-short : (part : List ℕ) → length part ≤ 65536 → size (part ∷ []) ≤ length part + 7
 part-short part h = omega (arith, size-one part, length-netstring part, decimal-length 4 (length part) (omega arith))
 
-either-short : (b : Bool) {most : ℕ} (xs ys : List ℕ) → length xs ≤ most → length ys ≤ most → length (cond b xs ys) ≤ most
-either-short true xs ys h g = h
-either-short false xs ys h g = g
-
--- a trimmed value is no longer than it was
-front-short : (xs : List ℕ) → length (trimFront xs) ≤ length xs
-unfolding trimFront
-front-short [] = omega arith
-front-short (b ∷ bs) = either-short (blank b) (trimFront bs) (b ∷ bs) (omega (arith, front-short bs)) (omega arith)
-
+-- the value of a line, trimmed, is no longer than the run that begins with it
 end-short : (xs : List ℕ) → length (trimEnd xs) ≤ length xs
 unfolding trimEnd
 end-short [] = omega arith
 end-short (b ∷ bs) = go (trimEnd bs) (end-short bs)
   where
+    one : (t : Bool) → length (cond t [] (b ∷ [])) ≤ suc (length bs)
+    one true = omega arith
+    one false = omega arith
+
     go : (kept : List ℕ) → length kept ≤ length bs → length (keeping b kept) ≤ suc (length bs)
-    go [] h = either-short (blank b) [] (b ∷ []) (omega arith) (omega arith)
+    go [] h = one (blank b)
     go (c ∷ cs) h = omega arith
 
 line-short : (xs : List ℕ) → length (trimmed (frontLine xs .value)) ≤ length xs
-unfolding trimmed frontLine
+unfolding trimmed trimFront frontLine
 line-short xs =
     let rest = drop (suc (leading tokenByte xs)) xs in
     let value = take (leading valueByte rest) rest in
-    omega (arith, end-short (trimFront value), front-short value, length-take (leading valueByte rest) rest, length-drop (suc (leading tokenByte xs)) xs)
+    omega (
+      arith,
+      end-short (drop (leading blank value) value),
+      length-drop (leading blank value) value,
+      length-take (leading valueByte rest) rest,
+      length-drop (suc (leading tokenByte xs)) xs,
+    )
 
 -- a value that is found in a block is no longer than the block
 found-short : (n : ℕ) {most : ℕ} (xs name other : List ℕ) → length xs ≤ most → length other ≤ most → length (orElse (valueIn (linesUpTo n xs) name) other) ≤ most
