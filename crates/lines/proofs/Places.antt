@@ -13,17 +13,11 @@ use lib.Seq.{drop-drop, drop-append-seam, getD-drop}
 use Rattle.cells.specs.Spans.{all, leading, Spans}
 use Rattle.cells.specs.Runs.{cut}
 use Rattle.names.specs.Names.{tokenByte}
-use Rattle.cells.proofs.Spans.{leading-append, leading-all}
+use Rattle.cells.proofs.Spans.{span-all, stops}
 use Rattle.lines.specs.Lines.{Line, colon, CR, LF, valueByte, goodLine, lineText}
 use Rattle.lines.specs.Places.{lineBetween, WholeLine}
-use Rattle.lines.proofs.Cuts.{length-cut, cut-split, inside, drop-at}
+use Rattle.cells.proofs.Cuts.{length-cut, cut-split, inside, drop-at, stands, onward}
 use Rattle.lines.proofs.Lines.{good-name, good-value, good-line, colon-ends, return-ends, line-parts}
-
--- the part of a run that a span takes passes
-span-all : (p : ℕ → Bool) (xs : List ℕ) (a e : ℕ) → Spans p xs a e → all p (cut xs a e) ≡ true
-span-all p xs a e s =
-    let size : e - a ≡ leading p (drop a xs) = omega (arith, s .is) in
-    rw size (leading-all p (drop a xs))
 
 -- what the code tests: a name and a colon after it, and what ends a line
 abbrev pub named : List ℕ → ℕ → ℕ → Bool
@@ -68,22 +62,6 @@ whole block at c e s n t m =
       good = good-line l (omega (arith, parts .0, length-cut block at c (s .within))) (span-all tokenByte block at c s) (span-all valueByte block (c + 1) e t);
       text = text ∙ sym (line-parts l (drop (e + 2) block));
     }
-
--- a span that is followed by an element that fails ends there
-module _ (block ys : List ℕ) (c y : ℕ) (e : drop c block ≡ y ∷ ys) where
-  stands : getD block c 0 ≡ y
-  stands = ap (λ (k : ℕ). getD block k 0) (sym (add-zero c)) ∙ sym (getD-drop c block 0 0) ∙ ap (λ (l : List ℕ). getD l 0 0) e
-
-  onward : drop (c + 1) block ≡ ys
-  onward = sym (drop-drop 1 c block) ∙ ap (drop 1) e
-
-stops : (p : ℕ → Bool) (block xs ys : List ℕ) (at c y : ℕ) → Spans p block at c → drop at block ≡ xs ++ y ∷ ys → all p xs ≡ true → p y ≡ false
-    → (c ≡ at + length xs) × (drop c block ≡ y ∷ ys)
-stops p block xs ys at c y s h t f =
-    let size = s .is ∙ ap (λ (l : List ℕ). at + leading p l) h ∙ ap (λ (k : ℕ). at + k) (leading-append p xs y ys t f) in (
-      size,
-      ap (λ (k : ℕ). drop k block) size ∙ sym (drop-drop (length xs) at block) ∙ ap (drop (length xs)) h ∙ drop-append-seam xs (y ∷ ys),
-    )
 
 -- where a good line stands the tests hold
 module _ (block : List ℕ) (at : ℕ) (l : Line) (rest : List ℕ) (g : goodLine l ≡ true) (h : drop at block ≡ lineText l ++ rest) (c : ℕ) (s : Spans tokenByte block at c) where

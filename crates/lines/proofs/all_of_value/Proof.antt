@@ -8,7 +8,7 @@ use borrow.Author.Needs.{needs}
 use lib.ListN.{length, drop}
 use Rattle.cells.specs.Spans.{all}
 use Rattle.lines.specs.Lines.{valueByte}
-use Rattle.lines.proofs.Passing.{all-from, all-past}
+use Rattle.cells.proofs.Spans.{all-from, all-past}
 use Rattle.lines.proofs.all_of_value.Statement.{statement}
 use Rattle.lines.proofs.all_of_value.Tie as tie
 
