@@ -2,22 +2,19 @@
 -- Assumes nothing.
 use mathlib.Core.Path.{_≡_, sym, ap, _∙_}
 use mathlib.Core.List.{List, _∷_, _++_}
-use mathlib.Core.Bool.{Bool, true, false, _&&_, and-eq-true-iff}
-use Prim.Native.Nat.{ℕ, _+_, _-_, _<_}
-use native.Mathlib.Nat.{add-zero}
+use mathlib.Core.Bool.{Bool, true, _&&_, and-eq-true-iff}
+use Prim.Native.Nat.{ℕ, _+_, _<_}
 use native.Mathlib.Omega.{arith}
 use borrow.Author.Tests.{ltb-true, lt-ltb, eqb-true}
 use lib.Dec.{ltb, eqb}
 use lib.ListN.{length, getD, drop}
-use lib.Seq.{drop-drop, drop-append-seam, getD-drop}
-use Rattle.cells.specs.Spans.{all, leading, Spans}
-use Rattle.cells.specs.Runs.{cut}
+use Rattle.cells.specs.Spans.{Spans}
 use Rattle.names.specs.Names.{tokenByte}
 use Rattle.cells.proofs.Spans.{span-all, stops}
 use Rattle.lines.specs.Lines.{Line, colon, CR, LF, valueByte, goodLine, lineText}
 use Rattle.lines.specs.Places.{lineBetween, WholeLine}
 use Rattle.cells.proofs.Cuts.{length-cut, cut-split, inside, drop-at, stands, onward}
-use Rattle.lines.proofs.Lines.{good-name, good-value, good-line, colon-ends, return-ends, line-parts}
+use Rattle.lines.proofs.Lines.{good-parts, good-line, colon-ends, return-ends, line-parts}
 
 -- what the code tests: a name and a colon after it, and what ends a line
 abbrev pub named : List ℕ → ℕ → ℕ → Bool
@@ -69,12 +66,12 @@ module _ (block : List ℕ) (at : ℕ) (l : Line) (rest : List ℕ) (g : goodLin
   after = l .value ++ (CR ∷ LF ∷ rest)
 
   name-stops : (c ≡ at + length (l .name)) × (drop c block ≡ colon ∷ after)
-  name-stops = stops tokenByte block (l .name) after at c colon s (h ∙ line-parts l rest) (good-name l g .1) colon-ends
+  name-stops = stops tokenByte block (l .name) after at c colon s (h ∙ line-parts l rest) (good-parts l g .1) colon-ends
 
   pub named-there : named block at c ≡ true
-  named-there = rw (stands block after c colon (name-stops .1), lt-ltb at c (omega (arith, name-stops .0, good-name l g .0)))
+  named-there = rw (stands block after c colon (name-stops .1), lt-ltb at c (omega (arith, name-stops .0, good-parts l g .0)))
 
   pub ended-there : (e : ℕ) → Spans valueByte block (c + 1) e → ended block e ≡ true
   ended-there e t =
-      let value = stops valueByte block (l .value) (LF ∷ rest) (c + 1) e CR t (onward block after c colon (name-stops .1)) (good-value l g) return-ends .1 in
+      let value = stops valueByte block (l .value) (LF ∷ rest) (c + 1) e CR t (onward block after c colon (name-stops .1)) (good-parts l g .2) return-ends .1 in
       rw (stands block (LF ∷ rest) e CR value, stands block rest (e + 1) LF (onward block (LF ∷ rest) e CR value))
