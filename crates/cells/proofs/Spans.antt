@@ -2,14 +2,16 @@
 -- Assumes nothing.
 use mathlib.Core.Path.{_≡_, refl, sym, ap, _∙_}
 use mathlib.Core.List.{List, [], _∷_, _++_}
-use mathlib.Core.Bool.{Bool, true, false, cond, _&&_, and-eq-true-iff}
-use Prim.Native.Nat.{ℕ, suc, _+_, _≤_, _<_}
+use mathlib.Core.Bool.{Bool, true, false, cond, _&&_, and-true, and-eq-true-iff}
+use Prim.Native.Nat.{ℕ, suc, _+_, _-_, _≤_, _<_}
 use native.Mathlib.Numerals.{add-one}
 use native.Mathlib.Omega.{arith}
 use lib.Dec.{eqb, eqb·suc-suc, eqb·zero-suc}
 use lib.ListN.{length, getD, take, drop, drop-of-length-le}
-use lib.Seq.{drop-cons}
+use lib.Seq.{drop-cons, drop-drop, drop-append-seam}
+use Rattle.cells.specs.Runs.{cut}
 use Rattle.cells.specs.Spans.{all, leading, Spans, Passed}
+use Rattle.cells.proofs.Cuts.{length-cut, cut-split}
 
 module _ (p : ℕ → Bool) (xs : List ℕ) where
   pub leading-pass : (i : ℕ) → i < length xs → p (getD xs i 0) ≡ true → leading p (drop i xs) ≡ suc (leading p (drop (suc i) xs))
@@ -37,6 +39,31 @@ module _ (p : ℕ → Bool) (xs : List ℕ) where
 
   pub passed-end : (at i : ℕ) → Passed p xs at i → length xs ≤ i → Spans p xs at i
   passed-end at i g h = record { is = omega (arith, g .same, leading-end i h); within = g .within }
+
+  -- the elements from index i on pass if that one does and those after it, and past the end there are none
+  pub all-from : (i : ℕ) → i < length xs → all p (drop i xs) ≡ (p (getD xs i 0) && all p (drop (i + 1) xs))
+  unfolding all
+  all-from i h = rw (add-one, drop-cons xs i 0 h)
+
+  pub all-past : (t : Bool) (i : ℕ) → length xs ≤ i → (t && all p (drop i xs)) ≡ t
+  unfolding all
+  all-past t i h = rw (drop-of-length-le xs {i = i} h) (and-true t)
+
+  -- a search for an element that fails goes on after a part that passes
+  pub passed-part : (at i e : ℕ) → Passed p xs at i → i ≤ e → e ≤ length xs → all p (cut xs i e) ≡ true → Passed p xs at e
+  unfolding all leading
+  passed-part at i e g h k t = record {
+    within = k;
+    same =
+        g .same ∙ ap (λ (l : List ℕ). i + leading p l) (cut-split xs i e h)
+        ∙ omega (arith, over (cut xs i e) t, length-cut xs i e k);
+  }
+    where
+      over : (ys : List ℕ) → all p ys ≡ true → leading p (ys ++ drop e xs) ≡ length ys + leading p (drop e xs)
+      over [] t = omega arith
+      over (y ∷ ys) t =
+          let both = and-eq-true-iff (p y) (all p ys) .0 t in
+          rw (both .0) (ap suc (over ys (both .1)) ∙ omega arith)
 
 -- all pass exactly if as many pass at the front as there are
 pub all-test : (p : ℕ → Bool) (xs : List ℕ) → all p xs ≡ eqb (leading p xs) (length xs)
@@ -74,3 +101,18 @@ leading-within p (x ∷ xs) = go (p x) (leading-within p xs)
     go : (b : Bool) → leading p xs ≤ length xs → cond b (suc (leading p xs)) 0 ≤ suc (length xs)
     go true h = omega arith
     go false h = omega arith
+
+-- the part of a run that a span takes passes
+pub span-all : (p : ℕ → Bool) (xs : List ℕ) (a e : ℕ) → Spans p xs a e → all p (cut xs a e) ≡ true
+span-all p xs a e s =
+    let size : e - a ≡ leading p (drop a xs) = omega (arith, s .is) in
+    rw size (leading-all p (drop a xs))
+
+-- a span that an element follows that fails ends there
+pub stops : (p : ℕ → Bool) (block xs ys : List ℕ) (at c y : ℕ) → Spans p block at c → drop at block ≡ xs ++ y ∷ ys → all p xs ≡ true → p y ≡ false
+    → (c ≡ at + length xs) × (drop c block ≡ y ∷ ys)
+stops p block xs ys at c y s h t f =
+    let size = s .is ∙ ap (λ (l : List ℕ). at + leading p l) h ∙ ap (λ (k : ℕ). at + k) (leading-append p xs y ys t f) in (
+      size,
+      ap (λ (k : ℕ). drop k block) size ∙ sym (drop-drop (length xs) at block) ∙ ap (drop (length xs)) h ∙ drop-append-seam xs (y ∷ ys),
+    )

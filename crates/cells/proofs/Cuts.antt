@@ -3,11 +3,12 @@
 use mathlib.Core.Path.{_≡_, refl, sym, ap, ap₂, _∙_}
 use mathlib.Core.List.{List, [], _∷_, _++_}
 use Prim.Native.Nat.{ℕ, zero, suc, _+_, _-_, _≤_, _<_}
+use native.Mathlib.Nat.{add-zero}
 use native.Mathlib.Numerals.{add-one}
 use native.Mathlib.Omega.{arith}
 use lib.ListN.{length, getD, take, drop, take-append-drop, length-drop}
 use lib.Seq.{drop-cons, drop-drop, drop-at as drop-append, take-suc, take-add, getD-drop, length-take-le}
 use Rattle.cells.specs.Runs.{cut}
 
 pub length-cut : (xs : List ℕ) (a e : ℕ) → e ≤ length xs → length (cut xs a e) ≡ e - a
 length-cut xs a e h = length-take-le (e - a) (drop a xs) (omega (arith, length-drop a xs))
@@ -47,3 +48,11 @@ inside (x ∷ xs) (suc i) h = omega (arith, inside xs i h)
 pub drop-at : (xs : List ℕ) (i b : ℕ) → getD xs i 0 ≡ b → (b ≡ 0 → ⊥) → drop i xs ≡ b ∷ drop (i + 1) xs
 drop-at xs i b e h =
     drop-cons xs i 0 (inside xs i (λ z. h (sym e ∙ z))) ∙ ap₂ (λ (c n : ℕ). c ∷ drop n xs) e (sym (add-one i))
+
+-- the element at an index, and those after it
+module _ (xs ys : List ℕ) (i y : ℕ) (e : drop i xs ≡ y ∷ ys) where
+  pub stands : getD xs i 0 ≡ y
+  stands = ap (λ (k : ℕ). getD xs k 0) (sym (add-zero i)) ∙ sym (getD-drop i xs 0 0) ∙ ap (λ (l : List ℕ). getD l 0 0) e
+
+  pub onward : drop (i + 1) xs ≡ ys
+  onward = sym (drop-drop 1 i xs) ∙ ap (drop 1) e
