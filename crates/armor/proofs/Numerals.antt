@@ -278,6 +278,11 @@ number-room bs i h few e =
     let more : 8 * length (take i bs) ≤ 64 = omega (arith, length-take i bs) in
     lt-of-lt-of-le (number-below (take i bs) (bytes-take i bs h)) (pow-mono more)
 
+pub number-small : (bs : List ℕ) → Bytes bs → length bs ≤ 4 → number bs < 2 ^ 32
+number-small bs h few =
+    let more : 8 * length bs ≤ 32 = omega arith in
+    lt-of-lt-of-le (number-below bs h) (pow-mono more)
+
 pub length-number : (n : ℕ) → n < 2 ^ 32 → length (numberBytes n) ≤ 4
 length-number n h = numeral-parts 4 (numberBytes n) (numeral 4 3 n refl h) .1
 

@@ -1,95 +1,79 @@
 -- What a scan and the tests after it say of a whole value.
 -- Assumes nothing.
-use mathlib.Core.Path.{_≡_, sym, ap, _∙_}
+use mathlib.Core.Path.{_≡_, refl, sym, ap, ap₂, subst, _∙_}
 use mathlib.Core.Bool.{Bool, true, false, not, _&&_}
 use mathlib.Core.List.{List}
-use Prim.Native.Nat.{ℕ, _%_}
+use mathlib.Core.Option.{Option, none, some}
+use Prim.Native.Nat.{ℕ, _<_, _≤_}
 use native.Mathlib.Omega.{arith}
-use lib.Dec.{eqb}
-use lib.ListN.{getD}
-use borrow.Author.Tests.{eq-eqb, ne-eqb, not-true, not-false}
+use lib.Dec.{eqb, lit<}
+use lib.ListN.{length}
+use borrow.Author.Tests.{eqb-true, not-true}
 use Rattle.armor.specs.declared.Answer.{Answer}
 use Rattle.armor.specs.declared.SetupRead.{SetupRead}
+use Rattle.armor.specs.declared.scanning.Seen.{Seen}
 use Rattle.armor.specs.declared.scanning.ScanRead.{ScanRead}
-use Rattle.armor.specs.Numerals.{maskOf}
-use Rattle.armor.specs.Keys.{mask, nameAh, nameN, nameR}
-use Rattle.armor.specs.Value.{allGood, grammar, carried}
-use Rattle.armor.specs.Fields.{times, the, nonceBit, requestFields, setupFields}
-use Rattle.armor.specs.Answers.{requestAnswer, setupAnswer}
-use Rattle.armor.specs.Scan.{Notes, contentOf, Ready, countsGood, given, Scanned}
-use Rattle.armor.proofs.Fields.{grammar-good, setup-counts, setup-one}
-use Rattle.armor.proofs.Requests.{Slot, Required, unbroken, request-broken, setup-broken, request-by, setup-by, request-fields, counts-required, nonce-test, coverage-slot, client-slot}
+use Rattle.armor.specs.Keys.{Rule, mask, obeys, keys, ruleAt, keyN, keyAh, keyR}
+use Rattle.armor.specs.Value.{Field, grammar, carried}
+use Rattle.armor.specs.Fields.{times, the, rightTimes, nonceBit, requestFields, setupFields}
+use Rattle.armor.specs.Answers.{requestFrom, requestAnswer, setupFrom, setupAnswer}
+use Rattle.armor.specs.Scan.{Sound, Noted, countIn, isSome, Scanned}
+use Rattle.armor.proofs.Numerals.{both}
+use Rattle.armor.proofs.Texts.{mask-room}
+use Rattle.armor.proofs.Fields.{count-bit, counted, counts-are, noted, obeyed-once, grammar-good}
+use Rattle.armor.proofs.Requests.{right-parts}
 
 -- a value that breaks its grammar
+missing : (o : Option (List Field)) → isSome o ≡ false → o ≡ none
+missing none e = refl
+missing (some fs) e = absurd (let z : _≡_ {A = ℕ} 0 1 = cc in omega arith)
+
 module _ (v : List ℕ) (r : ScanRead) (h : Scanned v r) (bad : not (r .good) ≡ true) where
-  broken-is : given (grammar v) ≡ false
-  broken-is = sym (h .good) ∙ not-true (r .good) bad
+  broken : grammar v ≡ none
+  broken = missing (grammar v) (sym (h .good) ∙ not-true (r .good) bad)
 
   pub request-breaks : Answer.Grammar ≡ requestAnswer v
-  request-breaks = sym (request-broken v broken-is)
+  unfolding requestAnswer
+  request-breaks = sym (ap requestFrom broken)
 
   pub setup-breaks : SetupRead.Grammar ≡ setupAnswer v
-  setup-breaks = sym (setup-broken v broken-is)
+  unfolding setupAnswer
+  setup-breaks = sym (ap setupFrom broken)
 
 -- one that keeps it
-module _ (v : List ℕ) (r : ScanRead) (h : Scanned v r) (kept : not (r .good) ≡ false) where
-  given-is : given (grammar v) ≡ true
-  given-is = sym (h .good) ∙ not-false (r .good) kept
+module _ (v : List ℕ) (seen : Seen) (h : Sound v seen) where
+  -- its set of fields by the counts
+  pub request-fields : requestFields (carried v) ≡ (rightTimes (countIn seen) && eqb (countIn seen keyN) (nonceBit (carried v)))
+  unfolding requestFields nonceBit
+  request-fields =
+      ap₂ _&&_ (sym (counts-are v seen (carried v) (h .notes)))
+      (sym (count-bit (countIn seen keyN) (times keyN (carried v)) (nonceBit (carried v)) (counted v seen (carried v) (h .notes) keyN (lit< tt)) (omega arith)))
 
-  noted-is : Notes v (r .seen) (carried v)
-  noted-is = h .notes (not-false (r .good) kept)
+  pub setup-fields : setupFields (carried v) ≡ (eqb (seen .total) 1 && eqb (countIn seen keyR) 1)
+  unfolding setupFields
+  setup-fields =
+      ap₂ _&&_ (sym (count-bit (seen .total) (length (carried v)) 1 (h .notes .total) (lit< tt)))
+      (sym (count-bit (countIn seen keyR) (times keyR (carried v)) 1 (counted v seen (carried v) (h .notes) keyR (lit< tt)) (lit< tt)))
 
-  good-is : allGood (carried v) ≡ true
-  good-is = grammar-good v (carried v) (unbroken v given-is)
+  -- a mask that is carried once can be read
+  mask-there : (k : ℕ) → k < 12 → ruleAt k ≡ mask → times k (carried v) ≡ 1
+      → Noted v seen k × (1 ≤ length (the k (carried v))) × (length (the k (carried v)) ≤ 9)
+  mask-there k small e one =
+      let room = mask-room (the k (carried v)) (rw e at (obeyed-once (carried v) k (grammar-good v (carried v) (h .kept)) one)) in
+      (noted (h .notes) k small (omega arith), room .0, room .1)
 
-  -- a request with other keys
-  pub request-miscounts : countsGood (r .seen .count) ≡ false → Answer.Fields ≡ requestAnswer v
-  request-miscounts wrong =
-      sym (request-by v false given-is (request-fields v (r .seen) (carried v) noted-is ∙ ap (λ (t : Bool). t && eqb (times nameN (carried v)) (nonceBit (carried v))) wrong))
+  pub coverage-there : rightTimes (countIn seen) ≡ true
+      → Noted v seen keyAh × (1 ≤ length (the keyAh (carried v))) × (length (the keyAh (carried v)) ≤ 9)
+  unfolding ruleAt keys
+  coverage-there e =
+      mask-there keyAh (lit< tt) refl (right-parts (λ k. times k (carried v)) (sym (counts-are v seen (carried v) (h .notes)) ∙ e) .ah)
 
-  module _ (counts : countsGood (r .seen .count) ≡ true) where
-    required-is : Required (carried v)
-    required-is = counts-required v (r .seen) (carried v) noted-is counts
-
-    -- its ah can be read
-    pub coverage-there : Slot v (r .seen) 4 9 mask (the nameAh (carried v))
-    coverage-there = coverage-slot v (r .seen) (carried v) noted-is good-is (required-is .ah)
-
-    fields-by : (t : Bool) → eqb (getD (r .seen .count) 2 0) (maskOf (contentOf v (r .seen) 4) % 2) ≡ t → requestFields (carried v) ≡ t
-    fields-by t e =
-        request-fields v (r .seen) (carried v) noted-is
-        ∙ ap (λ (u : Bool). u && eqb (times nameN (carried v)) (nonceBit (carried v))) counts
-        ∙ sym (nonce-test v (r .seen) (carried v) noted-is (required-is .ah))
-        ∙ e
-
-    pub request-misplaces : eqb (getD (r .seen .count) 2 0) (maskOf (contentOf v (r .seen) 4) % 2) ≡ false → Answer.Fields ≡ requestAnswer v
-    request-misplaces e = sym (request-by v false given-is (fields-by false e))
-
-    module _ (nonce : eqb (getD (r .seen .count) 2 0) (maskOf (contentOf v (r .seen) 4) % 2) ≡ true) where
-      pub request-right : Answer.Good ≡ requestAnswer v
-      request-right = sym (request-by v true given-is (fields-by true nonce))
-
-      pub request-ready : Ready v (r .seen)
-      request-ready = record { notes = noted-is; good = good-is; fields = fields-by true nonce }
-
-  -- a setup
-  setup-fields : (t : Bool) → (eqb (r .seen .total) 1 && eqb (getD (r .seen .count) 5 0) 1) ≡ t → setupFields (carried v) ≡ t
-  setup-fields t e = sym (setup-counts v (r .seen) (carried v) noted-is) ∙ e
-
-  pub setup-several : (r .seen .total ≡ 1 → ⊥) → SetupRead.Fields ≡ setupAnswer v
-  setup-several wrong = sym (setup-by v false given-is (setup-fields false (simp (ne-eqb (r .seen .total) 1 wrong))))
-
-  pub setup-other : r .seen .total ≡ 1 → (getD (r .seen .count) 5 0 ≡ 1 → ⊥) → SetupRead.Fields ≡ setupAnswer v
-  setup-other one wrong =
-      sym (setup-by v false given-is (setup-fields false (simp (eq-eqb (r .seen .total) 1 one, ne-eqb (getD (r .seen .count) 5 0) 1 wrong))))
-
-  module _ (one : r .seen .total ≡ 1) (alone : getD (r .seen .count) 5 0 ≡ 1) where
-    pub client-there : Slot v (r .seen) 5 9 mask (the nameR (carried v))
-    client-there = client-slot v (r .seen) (carried v) noted-is good-is (setup-one v (r .seen) (carried v) noted-is alone)
-
-    pub setup-right : SetupRead.Mask (maskOf (the nameR (carried v))) ≡ setupAnswer v
-    setup-right =
-        sym (setup-by v true given-is (setup-fields true (simp (eq-eqb (r .seen .total) 1 one, eq-eqb (getD (r .seen .count) 5 0) 1 alone))))
+  pub client-there : (eqb (seen .total) 1 && eqb (countIn seen keyR) 1) ≡ true
+      → Noted v seen keyR × (1 ≤ length (the keyR (carried v))) × (length (the keyR (carried v)) ≤ 9)
+  unfolding ruleAt keys setupFields
+  client-there e =
+      mask-there keyR (lit< tt) refl
+      (eqb-true (times keyR (carried v)) 1 (both (eqb (length (carried v)) 1) (eqb (times keyR (carried v)) 1) (setup-fields ∙ e) .1))
 
 -- a refusal holds nothing
 pub not-good-grammar : Answer.Grammar ≡ Answer.Good → ⊥

@@ -12,16 +12,22 @@ use lib.Dec.{eqb, leb}
 use lib.ListN.{length, getD, take, drop, set, length-append, length-set, length-take, length-drop, getD-replicate, drop-of-length-le}
 use lib.Seq.{getD-set-same, getD-set-other, drop-drop, take-nil, take-all}
 use borrow.Author.Tests.{eqb-true, eqb-false, eq-eqb, ne-eqb, le-leb, lt-leb}
+use Rattle.cells.specs.Runs.{cut}
 use Rattle.base64.specs.Decoding.{Decoding, nothing, bytes, decoded}
 use Rattle.armor.specs.declared.scanning.Seen.{Seen}
 use Rattle.armor.specs.declared.scanning.Piece.{Piece}
 use Rattle.armor.specs.Pieces.{colon, semicolon, upTo, after, pieces}
 use Rattle.armor.specs.Keys.{Rule, obeys, keyNumber, ruleAt, ruleOf}
 use Rattle.armor.specs.Value.{Field, fieldFrom, fieldOf, withField, fieldsIn, fieldsOf, fieldGood, allGood, goodOnly, grammar, carried}
-use Rattle.armor.specs.Scan.{decodedObeys, textObeys, pieceGood, pieceAnswer, contentsAt, between, Kept, Notes, held, noneSeen, notedIn}
+use Rattle.armor.specs.Fields.{contents}
+use Rattle.armor.specs.Scan.{decodedObeys, textObeys, pieceGood, pieceAnswer, Kept, Notes, noneSeen, notedIn}
 use Rattle.armor.proofs.Numerals.{both}
 use Rattle.armor.proofs.Keys.{keyNumber-within}
 use Rattle.armor.proofs.Pieces.{pieces-cut, taken-upTo, dropped-after, length-upTo, split-at-first}
+
+abbrev pub held : Decoding → List ℕ
+held nothing = []
+held (bytes bs) = bs
 
 -- a field that keeps its rule
 abbrev pub ifGood : Option Field → Option Field
@@ -130,77 +136,72 @@ unfolding goodIn
 good-next fs f p ps e = ap (λ (o : Option Field). before fs (withField o (goodIn ps))) e ∙ before-more fs f (goodIn ps)
 
 -- contents of one field more
-pub contents-more : (k : ℕ) (fs : List Field) (f : Field) → contentsAt k (fs ++ f ∷ []) ≡ contentsAt k fs ++ contentsAt k (f ∷ [])
-unfolding contentsAt
+pub contents-more : (k : ℕ) (fs : List Field) (f : Field) → contents k (fs ++ f ∷ []) ≡ contents k fs ++ contents k (f ∷ [])
+unfolding contents
 contents-more k [] f = refl
 contents-more k (g ∷ fs) f = by (eqb (keyNumber (g .key)) k) (contents-more k fs f)
   where
-    by : (t : Bool) → contentsAt k (fs ++ f ∷ []) ≡ contentsAt k fs ++ contentsAt k (f ∷ [])
-        → cond t (g .bytes ∷ contentsAt k (fs ++ f ∷ [])) (contentsAt k (fs ++ f ∷ []))
-        ≡ cond t (g .bytes ∷ contentsAt k fs) (contentsAt k fs) ++ contentsAt k (f ∷ [])
+    by : (t : Bool) → contents k (fs ++ f ∷ []) ≡ contents k fs ++ contents k (f ∷ [])
+        → cond t (g .bytes ∷ contents k (fs ++ f ∷ [])) (contents k (fs ++ f ∷ []))
+        ≡ cond t (g .bytes ∷ contents k fs) (contents k fs) ++ contents k (f ∷ [])
     by true e = ap (λ (l : List (List ℕ)). g .bytes ∷ l) e
     by false e = e
 
-contents-one : (k : ℕ) (f : Field) → keyNumber (f .key) ≡ k → contentsAt k (f ∷ []) ≡ f .bytes ∷ []
-unfolding contentsAt
+contents-one : (k : ℕ) (f : Field) → keyNumber (f .key) ≡ k → contents k (f ∷ []) ≡ f .bytes ∷ []
+unfolding contents
 contents-one k f e = simp (eq-eqb (keyNumber (f .key)) k e)
 
-contents-none : (k : ℕ) (f : Field) → (keyNumber (f .key) ≡ k → ⊥) → contentsAt k (f ∷ []) ≡ []
-unfolding contentsAt
+contents-none : (k : ℕ) (f : Field) → (keyNumber (f .key) ≡ k → ⊥) → contents k (f ∷ []) ≡ []
+unfolding contents
 contents-none k f e = simp (ne-eqb (keyNumber (f .key)) k e)
 
 -- notes of contents with one more
 kept-more : (v : List ℕ) {count start end : ℕ} (held : List (List ℕ)) (a e : ℕ) (bs : List ℕ) → Kept v count start end held
-    → a ≤ e → e ≤ length v → decoded (between v a e) ≡ bytes bs → Kept v (min 2 (count + 1)) a e (held ++ bs ∷ [])
+    → a ≤ e → e ≤ length v → decoded (cut v a e) ≡ bytes bs → Kept v (min 2 (count + 1)) a e (held ++ bs ∷ [])
 kept-more v [] a e bs h order inside text =
-    record { counted = omega (arith, h .counted); in-order = λ one. order; within = λ one. inside; decodes = λ one. text }
+    record { counted = omega (arith, h .counted); in-order = order; within = inside; decodes = λ few. text }
 kept-more v (x ∷ xs) a e bs h order inside text =
     let more = length-append (x ∷ xs) (bs ∷ []) in
-    record {
-      counted = omega (arith, h .counted);
-      in-order = λ one. order;
-      within = λ one. inside;
-      decodes = λ one. absurd (omega arith);
-    }
+    record { counted = omega (arith, h .counted); in-order = order; within = inside; decodes = λ few. absurd (omega arith) }
 
-module _ (v : List ℕ) (seen : Seen) (fs : List Field) (f : Field) (a e : ℕ) (h : Notes v seen fs) (order : a ≤ e) (inside : e ≤ length v) (text : decoded (between v a e) ≡ bytes (f .bytes)) where
+module _ (v : List ℕ) (seen : Seen) (fs : List Field) (f : Field) (a e : ℕ) (h : Notes v seen fs) (order : a ≤ e) (inside : e ≤ length v) (text : decoded (cut v a e) ≡ bytes (f .bytes)) where
   kept-by : (k : ℕ) → k < 12 → (t : Bool) → eqb (keyNumber (f .key)) k ≡ t
       → Kept v
       (getD (set (seen .count) (keyNumber (f .key)) (min 2 (getD (seen .count) (keyNumber (f .key)) 0 + 1))) k 0)
       (getD (set (seen .start) (keyNumber (f .key)) a) k 0)
       (getD (set (seen .end) (keyNumber (f .key)) e) k 0)
-      (contentsAt k (fs ++ f ∷ []))
+      (contents k (fs ++ f ∷ []))
   kept-by k small true t =
       let j = keyNumber (f .key) in
       let same : j ≡ k = eqb-true j k t in
       let low : j < 12 = omega arith in
-      let contents : contentsAt j (fs ++ f ∷ []) ≡ contentsAt j fs ++ f .bytes ∷ [] =
-      contents-more j fs f ∙ ap (λ (l : List (List ℕ)). contentsAt j fs ++ l) (contents-one j f refl)
+      let grown : contents j (fs ++ f ∷ []) ≡ contents j fs ++ f .bytes ∷ [] =
+      contents-more j fs f ∙ ap (λ (l : List (List ℕ)). contents j fs ++ l) (contents-one j f refl)
       in
       subst
       (λ (i : ℕ). Kept v
       (getD (set (seen .count) j (min 2 (getD (seen .count) j 0 + 1))) i 0)
       (getD (set (seen .start) j a) i 0)
       (getD (set (seen .end) j e) i 0)
-      (contentsAt i (fs ++ f ∷ [])))
+      (contents i (fs ++ f ∷ [])))
       same
       (rw (
         getD-set-same (seen .count) j (min 2 (getD (seen .count) j 0 + 1)) 0 (rw (h .counts) low),
         getD-set-same (seen .start) j a 0 (rw (h .starts) low),
         getD-set-same (seen .end) j e 0 (rw (h .ends) low),
-        contents,
-      ) (kept-more v (contentsAt j fs) a e (f .bytes) (h .kept j low) order inside text))
+        grown,
+      ) (kept-more v (contents j fs) a e (f .bytes) (h .kept j low) order inside text))
   kept-by k small false t =
       let j = keyNumber (f .key) in
       let other : j ≡ k → ⊥ = eqb-false j k t in
-      let contents : contentsAt k (fs ++ f ∷ []) ≡ contentsAt k fs =
-      contents-more k fs f ∙ ap (λ (l : List (List ℕ)). contentsAt k fs ++ l) (contents-none k f other) ∙ append-nil (contentsAt k fs)
+      let grown : contents k (fs ++ f ∷ []) ≡ contents k fs =
+      contents-more k fs f ∙ ap (λ (l : List (List ℕ)). contents k fs ++ l) (contents-none k f other) ∙ append-nil (contents k fs)
       in
       rw (
         getD-set-other (seen .count) j k (min 2 (getD (seen .count) j 0 + 1)) 0 (λ p. other (sym p)),
         getD-set-other (seen .start) j k a 0 (λ p. other (sym p)),
         getD-set-other (seen .end) j k e 0 (λ p. other (sym p)),
-        contents,
+        grown,
       ) (h .kept k small)
 
   -- notes of fields with one more
@@ -220,18 +221,15 @@ pub record Progress (v : List ℕ) (seen : Seen) (at : ℕ) : Type 0 where
   pub rest : goodIn (pieces v) ≡ before fields (goodIn (pieces (drop at v)))
 
 no-notes : (v : List ℕ) → Notes v noneSeen []
-unfolding contentsAt
+unfolding contents decoded
 no-notes v = record {
   counts = refl;
   starts = refl;
   ends = refl;
   total = refl;
-  kept = λ k small. record {
-    counted = getD-replicate 12 k 0 0 small;
-    in-order = λ one. absurd (omega arith);
-    within = λ one. absurd (omega arith);
-    decodes = λ one. absurd (omega arith);
-  };
+  kept = λ k small.
+      let none = getD-replicate {A = ℕ} 12 k 0 0 small in
+      record { counted = none; in-order = omega arith; within = omega (arith, none); decodes = λ few. rw none };
 }
 
 pub progress-none : (v : List ℕ) → Progress v noneSeen 0
@@ -251,7 +249,7 @@ first-piece (x ∷ xs) h =
 
 -- the piece at a byte of a value, and those after it
 pub next-piece : (v : List ℕ) (at size : ℕ) → at < length v → size ≡ length (upTo semicolon (drop at v))
-    → pieces (drop at v) ≡ between v at (at + size) ∷ pieces (drop (at + size + 1) v)
+    → pieces (drop at v) ≡ cut v at (at + size) ∷ pieces (drop (at + size + 1) v)
 next-piece v at size h e =
     let w = drop at v in
     let size-is : length (upTo semicolon w) ≡ at + size - at = omega arith in
@@ -279,16 +277,16 @@ module _ (v : List ℕ) (seen : Seen) (at size : ℕ) (h : Progress v seen at) (
   size-within = omega (arith, length-upTo semicolon (drop at v), length-drop at v)
 
   -- a scan with one piece more
-  pub progress-more : (key start : ℕ) → pieceGood (between v at (at + size)) ≡ true → key ≡ keyNumber (upTo colon (between v at (at + size)))
-      → start ≡ length (upTo colon (between v at (at + size))) + 1 → Progress v (notedIn seen key (at + start) (at + size)) (at + size + 1)
+  pub progress-more : (key start : ℕ) → pieceGood (cut v at (at + size)) ≡ true → key ≡ keyNumber (upTo colon (cut v at (at + size)))
+      → start ≡ length (upTo colon (cut v at (at + size))) + 1 → Progress v (notedIn seen key (at + start) (at + size)) (at + size + 1)
   progress-more key start good k s =
-      let p = between v at (at + size) in
+      let p = cut v at (at + size) in
       let f = pieceField p in
       let is = piece-good p good in
       let long : length p ≤ size = omega (arith, length-take (at + size - at) (drop at v)) in
       let starts : start ≤ size = omega (arith, good-inside p good) in
       let left-is : at + size - (at + start) ≡ at + size - at - start = omega arith in
-      let cut : between v (at + start) (at + size) ≡ after colon p =
+      let text : cut v (at + start) (at + size) ≡ after colon p =
       ap₂ (λ (i : ℕ) (l : List ℕ). take i l) left-is (sym (drop-drop start at v))
       ∙ sym (drop-take start (at + size - at) (drop at v))
       ∙ ap (λ (i : ℕ). drop i p) (s ∙ add-one _)
@@ -298,16 +296,16 @@ module _ (v : List ℕ) (seen : Seen) (at size : ℕ) (h : Progress v seen at) (
         fields = h .fields ++ f ∷ [];
         notes =
             subst (λ (i : ℕ). Notes v (notedIn seen i (at + start) (at + size)) (h .fields ++ f ∷ [])) (sym k)
-            (notes-more v seen (h .fields) f (at + start) (at + size) (h .notes) (omega arith) size-within (ap decoded cut ∙ is .decodes));
+            (notes-more v seen (h .fields) f (at + start) (at + size) (h .notes) (omega arith) size-within (ap decoded text ∙ is .decodes));
         rest = h .rest ∙ ap (λ (ps : List (List ℕ)). before (h .fields) (goodIn ps)) (next-piece v at size inside e)
             ∙ good-next (h .fields) f p (pieces (drop (at + size + 1) v)) (is .is);
       }
 
   -- a piece that is not good
-  pub progress-bad : pieceGood (between v at (at + size)) ≡ false → grammar v ≡ none
+  pub progress-bad : pieceGood (cut v at (at + size)) ≡ false → grammar v ≡ none
   unfolding goodIn
   progress-bad bad =
-      let p = between v at (at + size) in
+      let p = cut v at (at + size) in
       grammar-pieces v (omega arith)
       ∙ h .rest
       ∙ ap (λ (ps : List (List ℕ)). before (h .fields) (goodIn ps)) (next-piece v at size inside e)
@@ -325,6 +323,9 @@ progress-all v seen at h end more =
 pub carried-is : (v : List ℕ) (fs : List Field) → grammar v ≡ some fs → carried v ≡ fs
 unfolding carried
 carried-is v fs e = ap (λ (o : Option (List Field)). Option·getD o []) e
+
+pub kept-is : (v : List ℕ) (fs : List Field) → grammar v ≡ some fs → grammar v ≡ some (carried v)
+kept-is v fs e = e ∙ ap some (sym (carried-is v fs e))
 
 -- what the code answers of a piece
 pub answer-no-key : (p : List ℕ) → length (upTo colon p) ≡ 0 → pieceAnswer p ≡ Piece.Bad
@@ -376,15 +377,15 @@ text-is p start e =
     take-all (length p - start) (drop start p) (omega (arith, length-drop start p)) ∙ ap (λ (i : ℕ). drop i p) next ∙ dropped-after colon p
 
 -- a piece as the code reads it: cut at its first colon, the key by its number
-pub record Cut (p : List ℕ) (at key : ℕ) (good : Bool) : Type 0 where
+pub record PieceRead (p : List ℕ) (at key : ℕ) (good : Bool) : Type 0 where
   pub key-is : key ≡ keyNumber (upTo colon p)
   pub start-is : at + 1 ≡ length (upTo colon p) + 1
   pub good-is : good ≡ textObeys (ruleOf (upTo colon p)) (after colon p)
 
-pub cut : (p : List ℕ) (at key : ℕ) (good : Bool) → at ≡ length (upTo colon p) → key ≡ keyNumber (take at p)
-    → good ≡ textObeys (ruleAt key) (take (length p - (at + 1)) (drop (at + 1) p)) → Cut p at key good
+pub piece-read : (p : List ℕ) (at key : ℕ) (good : Bool) → at ≡ length (upTo colon p) → key ≡ keyNumber (take at p)
+    → good ≡ textObeys (ruleAt key) (take (length p - (at + 1)) (drop (at + 1) p)) → PieceRead p at key good
 unfolding ruleOf
-cut p at key good e k g =
+piece-read p at key good e k g =
     let key-is : key ≡ keyNumber (upTo colon p) = k ∙ ap keyNumber (ap (λ (i : ℕ). take i p) e ∙ taken-upTo colon p) in
     let start-is : at + 1 ≡ length (upTo colon p) + 1 = ap (λ (i : ℕ). i + 1) e in
     record {
@@ -408,9 +409,9 @@ pub end-within : (v : List ℕ) (at size : ℕ) → at < length v → size ≡ l
 end-within v at size inside e = omega (arith, length-upTo semicolon (drop at v), length-drop at v)
 
 -- where a piece's text starts
-pub start-within : (v : List ℕ) (at size key start : ℕ) → pieceAnswer (between v at (at + size)) ≡ Piece.Field key start → start ≤ size
+pub start-within : (v : List ℕ) (at size key start : ℕ) → pieceAnswer (cut v at (at + size)) ≡ Piece.Field key start → start ≤ size
 start-within v at size key start e =
-    let p = between v at (at + size) in
+    let p = cut v at (at + size) in
     let a = answered p key start e in
     omega (arith, a .2, good-inside p (a .0), length-take (at + size - at) (drop at v))
 

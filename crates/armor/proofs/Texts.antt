@@ -6,12 +6,12 @@ use mathlib.Core.List.{List, [], _∷_}
 use Prim.Native.Nat.{ℕ, _-_, _<_, _≤_}
 use native.Mathlib.Omega.{arith}
 use lib.Dec.{eqb, leb}
-use lib.ListN.{length, getD, take, drop}
+use lib.ListN.{length, getD, take, drop, replicate, length-replicate}
 use lib.Seq.{take-at}
 use borrow.Author.Tests.{leb-true, leb-false, le-leb, lt-leb, eq-eqb, ne-eqb}
 use Rattle.cells.specs.Runs.{fronted}
 use Rattle.cells.specs.Numbers
-use Rattle.cells.proofs.Runs.{length-fronted}
+use Rattle.cells.proofs.Runs.{length-fronted, fronted-whole}
 use Rattle.base64.specs.declared.Measured.{Measured}
 use Rattle.base64.specs.declared.Decoded.{Decoded}
 use Rattle.base64.specs.Decoding.{Decoding, nothing, bytes, decoded}
@@ -114,10 +114,10 @@ pub number-room : (b : List ℕ) → obeys number b ≡ true → length b ≤ 4
 unfolding obeys isNumber
 number-room b e = numeral-parts 4 b e .1
 
-pub mask-room : (b : List ℕ) → obeys mask b ≡ true → length b ≤ 9
+pub mask-room : (b : List ℕ) → obeys mask b ≡ true → (1 ≤ length b) × (length b ≤ 9)
 unfolding obeys isMask
-mask-room [] e = omega arith
-mask-room (n ∷ bs) e = omega (arith, numeral-parts 8 bs (mask-parts n bs e .1) .1)
+mask-room [] e = absurd (let z : _≡_ {A = ℕ} 0 1 = cc in omega arith)
+mask-room (n ∷ bs) e = (omega arith, omega (arith, numeral-parts 8 bs (mask-parts n bs e .1) .1))
 
 pub sized-room : (low high : ℕ) (b : List ℕ) → obeys (sized low high) b ≡ true → (low ≤ length b) × (length b ≤ high)
 unfolding obeys
@@ -129,6 +129,9 @@ sized-room low high b e =
 pub front-taken : (run out : List ℕ) (n : ℕ) {left : List ℕ} → left ≡ fronted run out → n ≡ length run → take n left ≡ run
 unfolding fronted
 front-taken run out n e s = ap (take n) e ∙ take-at run (drop (length run) out) n (sym s)
+
+pub filled-whole : (n : ℕ) (bs : List ℕ) {left : List ℕ} → length bs ≡ n → left ≡ fronted bs (replicate n 0) → left ≡ bs
+filled-whole n bs e p = p ∙ fronted-whole bs (replicate n 0) (e ∙ sym (length-replicate {A = ℕ} n 0))
 
 pub obeys-run : (rule : Rule) (text run : List ℕ) → decoded text ≡ bytes run → textObeys rule text ≡ (leb 1 (length run) && obeys rule run)
 unfolding textObeys
@@ -198,11 +201,6 @@ sized-long n low high one h =
     simp (le-leb 1 n more, le-leb low n h)
 
 -- a mask's bytes after its length byte
-pub mask-some : (bs : List ℕ) → isMask bs ≡ true → 2 ≤ length bs
-unfolding isMask
-mask-some [] e = absurd (let z : _≡_ {A = ℕ} 0 1 = cc in omega arith)
-mask-some (b ∷ bs) e = omega (arith, numeral-parts 8 bs (mask-parts b bs e .1) .0)
-
 pub mask-taken : (bs out : List ℕ) (n : ℕ) {left : List ℕ} → 1 ≤ length bs → left ≡ fronted bs out → n ≡ length bs
     → Numbers.number (take (n - 1) (drop 1 left)) ≡ maskOf bs
 unfolding maskOf fronted

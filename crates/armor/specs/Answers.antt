@@ -4,10 +4,10 @@ use mathlib.Core.Path.{_≡_}
 use mathlib.Core.Bool.{cond}
 use mathlib.Core.List.{List}
 use mathlib.Core.Option.{Option, none, some}
-use Prim.Native.Nat.{ℕ, _-_, _≤_}
+use Prim.Native.Nat.{ℕ, _≤_}
 use lib.Dec.{eqb}
 use lib.ListN.{length, take}
-use Rattle.cells.specs.Runs.{part}
+use Rattle.cells.specs.Runs.{cut}
 use Rattle.cells.specs.Numbers.{number}
 use Rattle.base64.specs.Encoding.{encoded}
 use Rattle.armor.specs.declared.Answer.{Answer}
@@ -15,7 +15,7 @@ use Rattle.armor.specs.declared.Request.{Request}
 use Rattle.armor.specs.declared.RequestRead.{RequestRead}
 use Rattle.armor.specs.declared.SetupRead.{SetupRead}
 use Rattle.armor.specs.Numerals.{maskOf}
-use Rattle.armor.specs.Keys.{nameT, nameLt, nameN, nameH, nameAh, nameR, nameS, nameC, nameIv, nameTag, nameEah}
+use Rattle.armor.specs.Keys.{keyT, keyLt, keyN, keyH, keyAh, keyR, keyS, keyC, keyIv, keyTag, keyEah}
 use Rattle.armor.specs.Value.{Field, grammar, carried}
 use Rattle.armor.specs.Fields.{times, the, requestFields, setupFields}
 
@@ -40,7 +40,7 @@ requestAnswer v = requestFrom (grammar v)
 
 abbrev pub setupFrom : Option (List Field) → SetupRead
 setupFrom none = SetupRead.Grammar
-setupFrom (some fs) = cond (setupFields fs) (SetupRead.Mask (maskOf (the nameR fs))) SetupRead.Fields
+setupFrom (some fs) = cond (setupFields fs) (SetupRead.Mask (maskOf (the keyR fs))) SetupRead.Fields
 
 -- a setup: the client's mask, or the same two numbers
 unfoldable pub setupAnswer : List ℕ → SetupRead
@@ -48,22 +48,21 @@ setupAnswer v = setupFrom (grammar v)
 
 -- a request holds what its fields do
 pub record Holds (v : List ℕ) (fs : List Field) (q : Request) : Type 0 where
-  pub token : take (q .«s_len») (q .s) ≡ the nameS fs
-  pub token-size : q .«s_len» ≡ length (the nameS fs)
+  pub token : take (q .«s_len») (q .s) ≡ the keyS fs
+  pub token-size : q .«s_len» ≡ length (the keyS fs)
   pub token-fits : q .«s_len» ≤ 118
-  pub signature : q .c ≡ the nameC fs
-  pub vector : q .iv ≡ the nameIv fs
-  pub tag : q .tag ≡ the nameTag fs
-  pub time : q .t ≡ number (the nameT fs)
-  pub last-time : q .lt ≡ number (the nameLt fs)
-  pub with-nonce : q .«with_n» ≡ eqb (times nameN fs) 1
-  pub nonce : q .n ≡ number (the nameN fs)
-  pub hash : q .h ≡ maskOf (the nameH fs)
-  pub coverage : q .ah ≡ maskOf (the nameAh fs)
-  pub with-extra : q .«with_eah» ≡ eqb (times nameEah fs) 1
+  pub signature : q .c ≡ the keyC fs
+  pub vector : q .iv ≡ the keyIv fs
+  pub tag : q .tag ≡ the keyTag fs
+  pub time : q .t .0 ≡ number (the keyT fs)
+  pub last-time : q .lt .0 ≡ number (the keyLt fs)
+  pub nonce : q .n .0 ≡ number (the keyN fs)
+  pub hash : q .h ≡ maskOf (the keyH fs)
+  pub coverage : q .ah ≡ maskOf (the keyAh fs)
+  pub with-extra : q .«with_eah» ≡ eqb (times keyEah fs) 1
   pub extra-in-order : q .«eah_start» ≤ q .«eah_end»
   pub extra-within : q .«eah_end» ≤ length v
-  pub extra : part v (q .«eah_start») (q .«eah_end» - q .«eah_start») ≡ encoded (the nameEah fs)
+  pub extra : cut v (q .«eah_start») (q .«eah_end») ≡ encoded (the keyEah fs)
 
 pub record ReadsRequest (v : List ℕ) (r : RequestRead) : Type 0 where
   pub is : r .answer ≡ requestAnswer v

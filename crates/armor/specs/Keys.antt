@@ -1,11 +1,14 @@
 -- The keys that have a meaning, and the rule for what each holds: document 01, The X-S-Armor value.
+-- A key goes by its place in the list `keys`; `names-exactly` of proofs/Keys.antt says that a name has a key's number exactly if it is that key's.
 -- Assumes nothing.
 use mathlib.Core.Bool.{Bool, true, cond, _&&_}
 use mathlib.Core.List.{List, [], _∷_}
 use Prim.Native.Nat.{ℕ, suc}
+use Prim.Native.String.{String}
 use lib.Dec.{leb}
 use lib.ListN.{length, getD}
 use Rattle.cells.specs.Runs.{same}
+use Rattle.cells.specs.Text.{codes}
 use Rattle.armor.specs.Numerals.{isNumber, isMask}
 
 pub data Rule : Type 0 where
@@ -25,70 +28,75 @@ pub record Key : Type 0 where
   pub name : List ℕ
   pub rule : Rule
 
-abbrev pub key : List ℕ → Rule → Key
-key name rule = record { name = name; rule = rule }
-
--- the names, in ASCII
-abbrev pub nameT : List ℕ
-nameT = 116 ∷ []
-
-abbrev pub nameLt : List ℕ
-nameLt = 108 ∷ 116 ∷ []
-
-abbrev pub nameN : List ℕ
-nameN = 110 ∷ []
-
-abbrev pub nameH : List ℕ
-nameH = 104 ∷ []
-
-abbrev pub nameAh : List ℕ
-nameAh = 97 ∷ 104 ∷ []
-
-abbrev pub nameR : List ℕ
-nameR = 114 ∷ []
-
-abbrev pub nameS : List ℕ
-nameS = 115 ∷ []
-
-abbrev pub nameC : List ℕ
-nameC = 99 ∷ []
-
-abbrev pub nameIv : List ℕ
-nameIv = 105 ∷ 118 ∷ []
-
-abbrev pub nameTag : List ℕ
-nameTag = 116 ∷ 97 ∷ 103 ∷ []
-
-abbrev pub nameEah : List ℕ
-nameEah = 101 ∷ 97 ∷ 104 ∷ []
+abbrev pub key : String → Rule → Key
+key text rule = record { name = codes text; rule = rule }
 
 unfoldable pub keys : List Key
 keys =
-    key nameT number
-    ∷ key nameLt number
-    ∷ key nameN number
-    ∷ key nameH mask
-    ∷ key nameAh mask
-    ∷ key nameR mask
-    ∷ key nameS (sized 1 118)
-    ∷ key nameC (sized 64 64)
-    ∷ key nameIv (sized 12 12)
-    ∷ key nameTag (sized 16 16)
-    ∷ key nameEah free
+    key "t" number
+    ∷ key "lt" number
+    ∷ key "n" number
+    ∷ key "h" mask
+    ∷ key "ah" mask
+    ∷ key "r" mask
+    ∷ key "s" (sized 1 118)
+    ∷ key "c" (sized 64 64)
+    ∷ key "iv" (sized 12 12)
+    ∷ key "tag" (sized 16 16)
+    ∷ key "eah" free
     ∷ []
 
--- the place of a name in a list of keys, which is the list's length where the name is not in it
-unfoldable pub placeOf : List Key → List ℕ → ℕ
-placeOf [] name = 0
-placeOf (k ∷ ks) name = cond (same name (k .name)) 0 (suc (placeOf ks name))
+-- their places, and the number of every other key
+abbrev pub keyT : ℕ
+keyT = 0
 
--- the place of a name among the keys: 11 for every other name
+abbrev pub keyLt : ℕ
+keyLt = 1
+
+abbrev pub keyN : ℕ
+keyN = 2
+
+abbrev pub keyH : ℕ
+keyH = 3
+
+abbrev pub keyAh : ℕ
+keyAh = 4
+
+abbrev pub keyR : ℕ
+keyR = 5
+
+abbrev pub keyS : ℕ
+keyS = 6
+
+abbrev pub keyC : ℕ
+keyC = 7
+
+abbrev pub keyIv : ℕ
+keyIv = 8
+
+abbrev pub keyTag : ℕ
+keyTag = 9
+
+abbrev pub keyEah : ℕ
+keyEah = 10
+
+abbrev pub otherKey : ℕ
+otherKey = 11
+
+-- the place of a name in a list of keys, which is the list's length where the name is not in it
+unfoldable pub rankOf : List Key → List ℕ → ℕ
+rankOf [] name = 0
+rankOf (k ∷ ks) name = cond (same name (k .name)) 0 (suc (rankOf ks name))
+
 unfoldable pub keyNumber : List ℕ → ℕ
-keyNumber name = placeOf keys name
+keyNumber name = rankOf keys name
+
+unfoldable pub nameAt : ℕ → List ℕ
+nameAt k = getD keys k (key "" free) .name
 
 -- the rule of a key by its place; every other key's content is free
 unfoldable pub ruleAt : ℕ → Rule
-ruleAt k = getD keys k (key [] free) .rule
+ruleAt k = getD keys k (key "" free) .rule
 
 unfoldable pub ruleOf : List ℕ → Rule
 ruleOf name = ruleAt (keyNumber name)

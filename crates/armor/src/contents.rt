@@ -1,49 +1,51 @@
 // What the noted texts of a value hold.
 ghost use mathlib.Core.Path.{_≡_};
-ghost use mathlib.Core.Bool.{true};
-ghost use Prim.Native.Nat.{_%_, _≤_, _<_};
-ghost use lib.Dec.{eqb};
-ghost use lib.ListN.{length, getD};
+ghost use Prim.Native.Nat.{_≤_};
+ghost use lib.ListN.{length};
 ghost use Rattle.cells.specs.Runs.{fronted};
 ghost use Rattle.cells.specs.Numbers.{number};
-ghost use Rattle.armor.specs.Numerals.{isNumber, isMask, maskOf};
-ghost use Rattle.armor.specs.Keys.{nameN};
+ghost use Rattle.armor.specs.Numerals.{maskOf};
 ghost use Rattle.armor.specs.Value.{carried};
-ghost use Rattle.armor.specs.Fields.{the};
+ghost use Rattle.armor.specs.Fields.{the, rightTimes, requestFields};
 ghost use Rattle.armor.specs.Answers.{Holds};
-ghost use Rattle.armor.specs.Scan.{fourOnce, countsGood, contentOf, Placed, Ready, extraIn, HoldsNumbers};
+ghost use Rattle.armor.specs.Scan.{countIn, Sound, Noted, Ready, HoldsNumbers};
 use super::Request;
 use super::key;
 use super::numeral;
 use super::scanning::Seen;
 use base64::Decoded;
+use window::Nonce;
+use window::time::Time;
 
-fn four_once(a: u8, b: u8, c: u8, d: u8) -> bool
-    ensures { λ r. ⌜ r ≡ fourOnce a b c d ⌝ }
-{
-    (a == 1) & (b == 1) & (c == 1) & (d == 1)
-}
-
-// Whether a value has the keys of a request, n apart, and no others.
-pub fn counts_good(seen: Seen) -> bool
-    ensures { λ r. ⌜ r ≡ countsGood (seen .count) ⌝ }
+// Whether each key, n apart, stands as often as in a request.
+fn times_good(seen: Seen) -> bool
+    ensures { λ r. ⌜ r ≡ rightTimes (countIn seen) ⌝ }
 {
     let count = seen.count;
-    four_once(count[key::S], count[key::C], count[key::T], count[key::LT])
-        & four_once(
-            count[key::H],
-            count[key::AH],
-            count[key::IV],
-            count[key::TAG],
-        )
-        & (count[key::EAH] <= 1)
-        & ((count[key::R] == 0) & (count[key::OTHER] == 0))
+    ((count[key::S] == 1) & (count[key::C] == 1) & (count[key::T] == 1) & (count[key::LT] == 1))
+        & ((count[key::H] == 1)
+            & (count[key::AH] == 1)
+            & (count[key::IV] == 1)
+            & (count[key::TAG] == 1))
+        & ((count[key::EAH] <= 1) & (count[key::R] == 0) & (count[key::OTHER] == 0))
 }
 
-// What the text noted for a key encodes, at the front of out.
+// Whether the set of fields is that of a request: n is carried exactly if bit 0 of ah is set.
+pub fn fields_good(value: &[u8], seen: Seen) -> bool
+    requires { ⌜ Sound (now value) seen ⌝ }
+    ensures { λ r. ⌜ r ≡ requestFields (carried (now (value .entry))) ⌝ }
+{
+    if !times_good(seen) {
+        return false;
+    }
+    let ah = mask_in(value, seen, key::AH);
+    numeral::wide(seen.count[key::N]) == ah % 2
+}
+
+// What a key holds, at the front of out, and how long it is.
 fn content(value: &[u8], seen: Seen, key: usize, out: &mut [u8]) -> usize
-    requires { ⌜ (key < 12) × Placed (now value) seen key (length (now out)) ⌝ }
-    ensures { λ r. ⌜ (r ≡ length (contentOf (now (value .entry)) seen key)) × (now (out .exit) ≡ fronted (contentOf (now (value .entry)) seen key) (now (out .entry))) ⌝ }
+    requires { ⌜ Noted (now value) seen key × (length (the key (carried (now value))) ≤ length (now out)) ⌝ }
+    ensures { λ r. ⌜ (r ≡ length (the key (carried (now (value .entry))))) × (now (out .exit) ≡ fronted (the key (carried (now (value .entry)))) (now (out .entry))) ⌝ }
 {
     let start = seen.start[key];
     let end = seen.end[key];
@@ -53,48 +55,30 @@ fn content(value: &[u8], seen: Seen, key: usize, out: &mut [u8]) -> usize
     n
 }
 
+// The number of a key, or 0.
 fn number_in(value: &[u8], seen: Seen, key: usize) -> u32
-    requires { ⌜ (key < 12) × Placed (now value) seen key 4 × (isNumber (contentOf (now value) seen key) ≡ true) ⌝ }
-    ensures { λ r. ⌜ r ≡ number (contentOf (now (value .entry)) seen key) ⌝ }
+    requires { ⌜ Noted (now value) seen key × (length (the key (carried (now value))) ≤ 4) ⌝ }
+    ensures { λ r. ⌜ r ≡ number (the key (carried (now (value .entry)))) ⌝ }
 {
     let mut out = [0u8; 4];
     let n = content(value, seen, key, &mut out);
-    numeral::number_of(&out[..n]) as u32
+    numeral::number32(&out[..n])
 }
 
+// The mask of a key.
 pub fn mask_in(value: &[u8], seen: Seen, key: usize) -> u64
-    requires { ⌜ (key < 12) × Placed (now value) seen key 9 × (isMask (contentOf (now value) seen key) ≡ true) ⌝ }
-    ensures { λ r. ⌜ r ≡ maskOf (contentOf (now (value .entry)) seen key) ⌝ }
+    requires { ⌜ Noted (now value) seen key × (1 ≤ length (the key (carried (now value)))) × (length (the key (carried (now value))) ≤ 9) ⌝ }
+    ensures { λ r. ⌜ r ≡ maskOf (the key (carried (now (value .entry)))) ⌝ }
 {
     let mut out = [0u8; 9];
     let n = content(value, seen, key, &mut out);
     numeral::number_of(&out[1..n])
 }
 
-// Whether a value carries n exactly if bit 0 of its ah is set.
-pub fn nonce_good(value: &[u8], seen: Seen) -> bool
-    requires { ⌜ Placed (now value) seen 4 9 × (isMask (contentOf (now value) seen 4) ≡ true) ⌝ }
-    ensures { λ r. ⌜ r ≡ eqb (getD (seen .count) 2 0) (maskOf (contentOf (now (value .entry)) seen 4) % 2) ⌝ }
-{
-    let ah = mask_in(value, seen, key::AH);
-    numeral::wide(seen.count[key::N]) == ah % 2
-}
-
-// The nonce, or 0.
-fn nonce_of(value: &[u8], seen: Seen) -> u32
-    requires { ⌜ Ready (now value) seen ⌝ }
-    ensures { λ r. ⌜ r ≡ number (the nameN (carried (now (value .entry)))) ⌝ }
-{
-    if seen.count[key::N] == 1 {
-        return number_in(value, seen, key::N);
-    }
-    0
-}
-
 struct Numbers {
-    t: u32,
-    lt: u32,
-    n: u32,
+    t: Time,
+    lt: Time,
+    n: Nonce,
     h: u64,
     ah: u64,
 }
@@ -104,34 +88,11 @@ fn numbers_of(value: &[u8], seen: Seen) -> Numbers
     ensures { λ r. ⌜ HoldsNumbers (carried (now (value .entry))) r ⌝ }
 {
     Numbers {
-        t: number_in(value, seen, key::T),
-        lt: number_in(value, seen, key::LT),
-        n: nonce_of(value, seen),
+        t: Time(number_in(value, seen, key::T)),
+        lt: Time(number_in(value, seen, key::LT)),
+        n: Nonce(number_in(value, seen, key::N)),
         h: mask_in(value, seen, key::H),
         ah: mask_in(value, seen, key::AH),
-    }
-}
-
-struct Extra {
-    carried: bool,
-    start: usize,
-    end: usize,
-}
-
-fn extra_of(seen: Seen) -> Extra
-    ensures { λ r. ⌜ r ≡ extraIn seen ⌝ }
-{
-    if seen.count[key::EAH] == 1 {
-        return Extra {
-            carried: true,
-            start: seen.start[key::EAH],
-            end: seen.end[key::EAH],
-        };
-    }
-    Extra {
-        carried: false,
-        start: 0,
-        end: 0,
     }
 }
 
@@ -148,21 +109,22 @@ pub fn request_of(value: &[u8], seen: Seen) -> Request
     let mut tag = [0u8; 16];
     content(value, seen, key::TAG, &mut tag);
     let numbers = numbers_of(value, seen);
-    let extra = extra_of(seen);
+    let t = numbers.t;
+    let lt = numbers.lt;
+    let n = numbers.n;
     Request {
         s,
         s_len,
         c,
         iv,
         tag,
-        t: numbers.t,
-        lt: numbers.lt,
-        with_n: seen.count[key::N] == 1,
-        n: numbers.n,
+        t,
+        lt,
+        n,
         h: numbers.h,
         ah: numbers.ah,
-        with_eah: extra.carried,
-        eah_start: extra.start,
-        eah_end: extra.end,
+        with_eah: seen.count[key::EAH] == 1,
+        eah_start: seen.start[key::EAH],
+        eah_end: seen.end[key::EAH],
     }
 }

@@ -3,6 +3,8 @@ ghost use mathlib.Core.Path.{_≡_};
 ghost use Prim.Native.Nat.{_≤_};
 ghost use lib.ListN.{length};
 ghost use Rattle.armor.specs.Answers.{setupAnswer, ReadsRequest};
+use window::Nonce;
+use window::time::Time;
 
 mod contents;
 mod key;
@@ -32,10 +34,9 @@ pub struct Request {
     pub c: [u8; 64],
     pub iv: [u8; 12],
     pub tag: [u8; 16],
-    pub t: u32,
-    pub lt: u32,
-    pub with_n: bool,
-    pub n: u32,
+    pub t: Time,
+    pub lt: Time,
+    pub n: Nonce,
     pub h: u64,
     pub ah: u64,
     pub with_eah: bool,
@@ -64,10 +65,8 @@ pub fn read_setup(value: &[u8]) -> SetupRead
         return SetupRead::Grammar;
     }
     let seen = scan.seen;
-    if seen.total != 1 {
-        return SetupRead::Fields;
-    }
-    if seen.count[key::R] != 1 {
+    let alone = (seen.total == 1) & (seen.count[key::R] == 1);
+    if !alone {
         return SetupRead::Fields;
     }
     SetupRead::Mask(contents::mask_in(value, seen, key::R))
@@ -80,10 +79,9 @@ fn no_request() -> Request {
         c: [0u8; 64],
         iv: [0u8; 12],
         tag: [0u8; 16],
-        t: 0,
-        lt: 0,
-        with_n: false,
-        n: 0,
+        t: Time(0),
+        lt: Time(0),
+        n: Nonce(0),
         h: 0,
         ah: 0,
         with_eah: false,
@@ -105,13 +103,7 @@ pub fn read_request(value: &[u8]) -> RequestRead
         };
     }
     let seen = scan.seen;
-    if !contents::counts_good(seen) {
-        return RequestRead {
-            answer: Answer::Fields,
-            request: no_request(),
-        };
-    }
-    if !contents::nonce_good(value, seen) {
+    if !contents::fields_good(value, seen) {
         return RequestRead {
             answer: Answer::Fields,
             request: no_request(),

@@ -102,6 +102,14 @@ pub fn number_of(bytes: &[u8]) -> u64
     n
 }
 
+// The number of at most four bytes.
+pub fn number32(bytes: &[u8]) -> u32
+    requires { ⌜ length (now bytes) ≤ 4 ⌝ }
+    ensures { λ r. ⌜ r ≡ number (now (bytes .entry)) ⌝ }
+{
+    number_of(bytes) as u32
+}
+
 pub fn wide(b: u8) -> u64
     ensures { λ r. ⌜ r ≡ b ⌝ }
 {

@@ -4,29 +4,29 @@ use mathlib.Core.Path.{_≡_, refl, sym, ap, ap₂, _∙_}
 use mathlib.Core.Bool.{Bool, true, false, cond, not, false≢true, _&&_}
 use mathlib.Core.List.{List, [], _∷_}
 use mathlib.Core.Option.{Option, none, some, Option·getD}
-use Prim.Native.Nat.{ℕ, _-_, _^_, _<_, _≤_}
+use Prim.Native.Nat.{ℕ, _^_, _<_, _≤_}
 use native.Mathlib.Omega.{arith}
 use lib.Dec.{eqb}
 use lib.ListN.{length}
 use borrow.Author.Tests.{eqb-true, eqb-false, eq-eqb, ne-eqb}
-use Rattle.cells.specs.Runs.{Bytes, part, same}
+use Rattle.cells.specs.Runs.{Bytes, cut, same}
 use Rattle.cells.proofs.Equality.{same-self, same-not, same-equal}
 use Rattle.base64.specs.Encoding.{encoded}
 use Rattle.base64.proofs.Exactly.{encoded-injective}
 use Rattle.armor.specs.declared.Answer.{Answer}
 use Rattle.armor.specs.declared.Request.{Request}
 use Rattle.armor.specs.Numerals.{maskBytes, maskOf, hashMask}
-use Rattle.armor.specs.Keys.{nameH, nameAh, nameEah}
+use Rattle.armor.specs.Keys.{keyH, keyAh, keyEah}
 use Rattle.armor.specs.Value.{Field, grammar, carried}
-use Rattle.armor.specs.Fields.{contents, times, the, once, required, requestFields}
+use Rattle.armor.specs.Fields.{contents, times, the, rightTimes, requestFields}
 use Rattle.armor.specs.Answers.{requestFrom, requestAnswer, Holds}
 use Rattle.armor.proofs.Numerals.{maskOf-maskBytes}
-use Rattle.armor.proofs.Carried.{request-given, hash-bytes, coverage-bytes, extra-times, carried-bytes}
+use Rattle.armor.proofs.Carried.{request-given, request-has, hash-bytes, coverage-bytes, carried-bytes}
 use Rattle.coverage.specs.Coverage.{extraAsOrdered, asOrdered}
 
 -- fields that are those of a request come of a value that keeps its grammar
 good-from : (o : Option (List Field)) → requestFields (Option·getD o []) ≡ true → requestFrom o ≡ Answer.Good
-unfolding requestFields required once times contents
+unfolding requestFields rightTimes times contents
 good-from none h = absurd (false≢true h)
 good-from (some fs) h = ap (λ (t : Bool). cond t Answer.Good Answer.Fields) h
 
@@ -60,17 +60,17 @@ module _ (v : List ℕ) (q : Request) (good : requestFields (carried v) ≡ true
   answer : requestAnswer v ≡ Answer.Good
   answer = request-good v good
 
-  hash-test : same (the nameH (carried v)) (maskBytes hashMask) ≡ eqb (q .h) hashMask
-  hash-test = mask-test (the nameH (carried v)) (q .h) hashMask (hash-bytes v answer) (holds .hash) (omega arith)
+  hash-test : same (the keyH (carried v)) (maskBytes hashMask) ≡ eqb (q .h) hashMask
+  hash-test = mask-test (the keyH (carried v)) (q .h) hashMask (hash-bytes v answer) (holds .hash) (omega arith)
 
-  coverage-test : (m : ℕ) → m < 2 ^ 64 → same (the nameAh (carried v)) (maskBytes m) ≡ eqb (q .ah) m
-  coverage-test m fits = mask-test (the nameAh (carried v)) (q .ah) m (coverage-bytes v answer) (holds .coverage) fits
+  coverage-test : (m : ℕ) → m < 2 ^ 64 → same (the keyAh (carried v)) (maskBytes m) ≡ eqb (q .ah) m
+  coverage-test m fits = mask-test (the keyAh (carried v)) (q .ah) m (coverage-bytes v answer) (holds .coverage) fits
 
   -- what stands where eah's text is
   extra-test : (b : List ℕ) → Bytes b
-      → same (the nameEah (carried v)) b ≡ same (part v (q .«eah_start») (q .«eah_end» - q .«eah_start»)) (encoded b)
+      → same (the keyEah (carried v)) b ≡ same (cut v (q .«eah_start») (q .«eah_end»)) (encoded b)
   extra-test b h =
-      text-test (the nameEah (carried v)) b (carried-bytes v (carried v) nameEah (request-given v answer .0)) h
+      text-test (the keyEah (carried v)) b (carried-bytes v (carried v) keyEah (request-given v answer .0)) h
       ∙ ap (λ (l : List ℕ). same l (encoded b)) (sym (holds .extra))
 
   pub ordered : (mask : ℕ) (extra : List ℕ) → mask < 2 ^ 64
@@ -79,11 +79,11 @@ module _ (v : List ℕ) (q : Request) (good : requestFields (carried v) ≡ true
   ordered mask extra fits = rw (hash-test, coverage-test mask fits)
 
   pub no-extra : (extra : List ℕ) → length extra ≡ 0 → extraAsOrdered extra (carried v) ≡ not (q .«with_eah»)
-  no-extra [] e = none-test (times nameEah (carried v)) (q .«with_eah») (extra-times v answer) (holds .with-extra)
+  no-extra [] e = none-test (times keyEah (carried v)) (q .«with_eah») (request-has v answer .eah) (holds .with-extra)
   no-extra (b ∷ bs) e = absurd (omega arith)
 
   pub some-extra : (extra : List ℕ) → Bytes extra → (length extra ≡ 0 → ⊥)
       → extraAsOrdered extra (carried v)
-      ≡ (q .«with_eah» && same (part v (q .«eah_start») (q .«eah_end» - q .«eah_start»)) (encoded extra))
+      ≡ (q .«with_eah» && same (cut v (q .«eah_start») (q .«eah_end»)) (encoded extra))
   some-extra [] h more = absurd (more refl)
   some-extra (b ∷ bs) h more = ap₂ _&&_ (sym (holds .with-extra)) (extra-test (b ∷ bs) h)

@@ -6,7 +6,9 @@ use Prim.Native.Nat.{ℕ}
 use native.Mathlib.Omega.{arith}
 use lib.ListN.{getD}
 use borrow.Author.Needs.{needs}
-use Rattle.armor.specs.Scan.{between, contentOf}
+use Rattle.cells.specs.Runs.{cut}
+use Rattle.armor.specs.Value.{carried}
+use Rattle.armor.specs.Fields.{the}
 use Rattle.armor.proofs.Texts.{decoded-fits, bytes-same}
 use Rattle.armor.proofs.contents.content.Statement.{statement}
 use Rattle.armor.proofs.contents.content.Tie as tie
@@ -14,26 +16,22 @@ use Rattle.armor.proofs.contents.content.Tie as tie
 returns : tie.Need-returns
 returns c =
     let start = c .before .before .before .before .before .before .before .before .before .before in
-    let v = start .args .value .now in
-    let seen = start .args .t2 in
-    let key = start .args .key in
+    let a = start .args in
     let d = c .before .before .before .decode in
     let is =
-    decoded-fits (between v (getD (seen .start) key 0) (getD (seen .end) key 0)) (start .args .out .now) (d .last .1 .0) (contentOf v seen key) (d .result) (d .ensures)
-    (start .pre .1 .decodes) (start .pre .1 .fits)
+    decoded-fits (cut (a .value .now) (getD (a .t2 .start) (a .key) 0) (getD (a .t2 .end) (a .key) 0)) (a .out .now) (d .last .1 .0) (the (a .key) (carried (a .value .now))) (d .result) (d .ensures)
+    (start .pre .0 .decodes) (start .pre .1)
     in
     absurd (⊎-elim (λ p. let z : _≡_ {A = ℕ} 0 1 = p in omega arith) (λ p. let z : _≡_ {A = ℕ} 0 2 = p in omega arith) (rw (is .0) at (c .match .keys2)))
 
 returns-2 : tie.Need-returns-2
 returns-2 c =
     let start = c .before .before .before .before .before .before .before .before .before .before .before .before in
-    let v = start .args .value .now in
-    let seen = start .args .t2 in
-    let key = start .args .key in
+    let a = start .args in
     let d = c .before .before .before .before .before .decode in
     let is =
-    decoded-fits (between v (getD (seen .start) key 0) (getD (seen .end) key 0)) (start .args .out .now) (d .last .1 .0) (contentOf v seen key) (d .result) (d .ensures)
-    (start .pre .1 .decodes) (start .pre .1 .fits)
+    decoded-fits (cut (a .value .now) (getD (a .t2 .start) (a .key) 0) (getD (a .t2 .end) (a .key) 0)) (a .out .now) (d .last .1 .0) (the (a .key) (carried (a .value .now))) (d .result) (d .ensures)
+    (start .pre .0 .decodes) (start .pre .1)
     in
     (bytes-same (is .0) (c .before .n .given .1), is .1)
 

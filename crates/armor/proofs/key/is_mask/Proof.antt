@@ -14,7 +14,7 @@ use Rattle.armor.proofs.key.is_mask.Tie as tie
 returns : tie.Need-returns
 returns c =
     let d = c .before .before .decode in
-    sym (unfilled mask (c .before .before .before .before .before .args .text .now) (replicate 9 0) (d .last .1 .0) (d .result) mask-room
+    sym (unfilled mask (c .before .before .before .before .before .args .text .now) (replicate 9 0) (d .last .1 .0) (d .result) (λ b e. mask-room b e .1)
     (λ n e. ⊎-elim (λ p. let z : _≡_ {A = ℕ} 0 1 = p in omega arith) (λ p. let z : _≡_ {A = ℕ} 0 2 = p in omega arith) (rw e at (c .match .keys2)))
     (d .ensures))
 

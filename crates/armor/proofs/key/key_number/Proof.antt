@@ -6,8 +6,9 @@ use Prim.Native.Nat.{ℕ}
 use native.Mathlib.Omega.{arith}
 use lib.ListN.{length, getD}
 use borrow.Author.Needs.{needs}
-use Rattle.armor.specs.Keys.{keys, placeOf, keyNumber}
+use Rattle.armor.specs.Keys.{keys, rankOf, keyNumber}
 use Rattle.cells.specs.Runs.{same}
+use Rattle.cells.specs.Text.{codes}
 use Rattle.armor.proofs.key.key_number.Statement.{statement}
 use Rattle.armor.proofs.key.key_number.Tie as tie
 
@@ -30,7 +31,7 @@ three (x ∷ y ∷ z ∷ []) e = refl
 three (w ∷ x ∷ y ∷ z ∷ xs) e = absurd (omega arith)
 
 another : (xs : List ℕ) → (length xs ≡ 1 → ⊥) → (length xs ≡ 2 → ⊥) → (length xs ≡ 3 → ⊥) → 11 ≡ keyNumber xs
-unfolding keys same placeOf keyNumber
+unfolding keys same rankOf keyNumber codes
 another [] p q r = refl
 another (x ∷ []) p q r = absurd (p refl)
 another (x ∷ y ∷ []) p q r = absurd (q refl)

@@ -2,21 +2,22 @@
 -- Assumes nothing.
 use mathlib.Core.Path.{sym, _∙_}
 use borrow.Author.Needs.{needs}
-use Rattle.armor.specs.Keys.{keys, placeOf, keyNumber}
+use Rattle.armor.specs.Keys.{keys, rankOf, keyNumber}
 use Rattle.cells.specs.Runs.{same}
+use Rattle.cells.specs.Text.{codes}
 use Rattle.armor.proofs.key.two_letters.Statement.{statement}
 use Rattle.armor.proofs.key.two_letters.Tie as tie
 
 returns : tie.Need-returns
-unfolding keys same placeOf keyNumber
+unfolding keys same rankOf keyNumber codes
 returns c = simp (sym (c .before .is-two .ensures) ∙ c .if1 .taken)
 
 returns-2 : tie.Need-returns-2
-unfolding keys same placeOf keyNumber
+unfolding keys same rankOf keyNumber codes
 returns-2 c = simp (sym (c .before .is-two2 .ensures) ∙ c .if2 .taken, sym (c .before .before .before .is-two .ensures) ∙ c .before .before .if1 .left)
 
 returns-3 : tie.Need-returns-3
-unfolding keys same placeOf keyNumber
+unfolding keys same rankOf keyNumber codes
 returns-3 c =
     simp (
       sym (c .before .is-two3 .ensures) ∙ c .if3 .taken,
@@ -25,7 +26,7 @@ returns-3 c =
     )
 
 returns-4 : tie.Need-returns-4
-unfolding keys same placeOf keyNumber
+unfolding keys same rankOf keyNumber codes
 returns-4 c =
     simp (
       sym (c .before .is-two3 .ensures) ∙ c .if3 .left,

@@ -8,7 +8,7 @@ use borrow.Author.Needs.{needs}
 use borrow.Author.Tests.{not-true, not-false}
 use Rattle.armor.specs.declared.scanning.Piece.{Piece}
 use Rattle.armor.proofs.Keys.{keyNumber-within}
-use Rattle.armor.proofs.Scan.{answer-no-key, answer-no-colon, answer-bad, answer-good, cut}
+use Rattle.armor.proofs.Scan.{answer-no-key, answer-no-colon, answer-bad, answer-good, piece-read}
 use Rattle.armor.proofs.scanning.read_piece.Statement.{statement}
 use Rattle.armor.proofs.scanning.read_piece.Tie as tie
 
@@ -30,7 +30,7 @@ returns-3 c =
     let find = c .before .before .before .before .before .before .before .find in
     let number = c .before .before .before .key-number in
     let good = c .before .is-good in
-    let is = cut p (find .result) (number .result) (good .result) (find .ensures) (number .ensures) (good .ensures) in
+    let is = piece-read p (find .result) (number .result) (good .result) (find .ensures) (number .ensures) (good .ensures) in
     sym (answer-bad p (sym (is .good-is) ∙ not-true (good .result) (c .if3 .taken)))
 
 returns-4 : tie.Need-returns-4
@@ -39,7 +39,7 @@ returns-4 c =
     let find = c .before .before .before .before .before .before .before .find in
     let number = c .before .before .before .key-number in
     let good = c .before .is-good in
-    let is = cut p (find .result) (number .result) (good .result) (find .ensures) (number .ensures) (good .ensures) in
+    let is = piece-read p (find .result) (number .result) (good .result) (find .ensures) (number .ensures) (good .ensures) in
     ap₂ Piece.Field (is .key-is) (is .start-is)
     ∙ sym (answer-good p (omega (arith, find .ensures, c .before .before .before .before .before .before .if1 .left)) (sym (is .good-is) ∙ not-false (good .result) (c .if3 .left)))
 

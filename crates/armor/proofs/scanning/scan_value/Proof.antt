@@ -5,9 +5,10 @@ use Prim.Native.Nat.{ℕ, _+_, _-_, _≤_}
 use native.Mathlib.Omega.{arith}
 use lib.ListN.{length}
 use borrow.Author.Needs.{needs}
+use Rattle.cells.specs.Runs.{cut}
 use Rattle.armor.specs.declared.scanning.Seen.{Seen}
-use Rattle.armor.specs.Scan.{between, Notes, given}
-use Rattle.armor.proofs.Scan.{Progress, progress-none, progress-more, progress-bad, progress-all, carried-is, nothing-read, size-is, end-within, start-within, key-within, answered, unanswered}
+use Rattle.armor.specs.Scan.{Notes, isSome}
+use Rattle.armor.proofs.Scan.{Progress, progress-none, progress-more, progress-bad, progress-all, carried-is, kept-is, nothing-read, size-is, end-within, start-within, key-within, answered, unanswered}
 use Rattle.armor.proofs.scanning.scan_value.Statement.{statement}
 use Rattle.armor.proofs.scanning.scan_value.Tie as tie
 
@@ -19,8 +20,8 @@ abbrev μ-loop : tie.MeasureT-loop
 
 returns : tie.Need-returns Inv-loop μ-loop
 returns c = record {
-  good = sym (ap given (nothing-read (c .before .before .before .args .value .now) (c .if1 .taken)));
-  notes = λ e. absurd (let z : _≡_ {A = ℕ} 0 1 = cc e in omega arith);
+  good = sym (ap isSome (nothing-read (c .before .before .before .args .value .now) (c .if1 .taken)));
+  sound = λ e. absurd (let z : _≡_ {A = ℕ} 0 1 = cc e in omega arith);
 }
 
 loop-holds : tie.Need-loop-holds Inv-loop μ-loop
@@ -50,10 +51,10 @@ returns-2 c =
     let loop = c .before .before .before .before .before .before .before .loop in
     let size = c .before .before .before .before .find .result in
     let found = size-is v (loop .at) size (c .before .before .before .before .find .ensures) in
-    let bad = unanswered (between v (loop .at) (loop .at + size)) (sym (c .before .before .read-piece .ensures) ∙ c .enum-told .given .1) in
+    let bad = unanswered (cut v (loop .at) (loop .at + size)) (sym (c .before .before .read-piece .ensures) ∙ c .enum-told .given .1) in
     record {
-      good = sym (ap given (progress-bad v (loop .seen) (loop .at) size (loop .inv .1) (c .before .before .before .before .before .before .loop-test .taken) found bad));
-      notes = λ e. absurd (let z : _≡_ {A = ℕ} 0 1 = cc e in omega arith);
+      good = sym (ap isSome (progress-bad v (loop .seen) (loop .at) size (loop .inv .1) (c .before .before .before .before .before .before .loop-test .taken) found bad));
+      sound = λ e. absurd (let z : _≡_ {A = ℕ} 0 1 = cc e in omega arith);
     }
 
 add-noted : tie.Need-add-noted Inv-loop μ-loop
@@ -71,7 +72,7 @@ noted-requires c κs =
     let v = c .before .before .before .before .before .before .before .before .before .before .before .before .args .value .now in
     let at = c .before .before .before .before .before .before .before .before .loop .at in
     let key = c .before .key .given in
-    key-within (between v at (at + c .before .before .before .before .before .find .result)) (key .0 .0) (key .0 .1 .0) (sym (c .before .before .before .read-piece .ensures) ∙ key .1)
+    key-within (cut v at (at + c .before .before .before .before .before .find .result)) (key .0 .0) (key .0 .1 .0) (sym (c .before .before .before .read-piece .ensures) ∙ key .1)
 
 add-at : tie.Need-add-at Inv-loop μ-loop
 add-at c =
@@ -93,7 +94,7 @@ loop-again c =
     let loop = c .before .before .before .before .before .before .before .before .before .loop in
     let size = c .before .before .before .before .before .before .find .result in
     let key = c .before .before .key .given in
-    let is = answered (between v at (at + size)) (key .0 .0) (key .0 .1 .0) (sym (c .before .before .before .before .read-piece .ensures) ∙ key .1) in
+    let is = answered (cut v at (at + size)) (key .0 .0) (key .0 .1 .0) (sym (c .before .before .before .before .read-piece .ensures) ∙ key .1) in
     let next = progress-more v (loop .seen) at size (loop .inv .1) (c .before .before .before .before .before .before .before .before .loop-test .taken) found (key .0 .0) (key .0 .1 .0) (is .0) (is .1) (is .2) in
     (omega (arith, room), subst (λ (s : Seen). Progress v s (at + size + 1)) (sym (c .noted .ensures)) next)
 
@@ -103,8 +104,11 @@ returns-3 c =
     let loop = c .before .loop in
     let all = progress-all v (loop .seen) (loop .at) (loop .inv .1) (c .loop-test .left) (omega (arith, c .before .before .if1 .left)) in
     record {
-      good = sym (ap given all);
-      notes = λ e. subst (Notes v (loop .seen)) (sym (carried-is v (loop .inv .1 .fields) all)) (loop .inv .1 .notes);
+      good = sym (ap isSome all);
+      sound = λ e. record {
+        kept = kept-is v (loop .inv .1 .fields) all;
+        notes = subst (Notes v (loop .seen)) (sym (carried-is v (loop .inv .1 .fields) all)) (loop .inv .1 .notes);
+      };
     }
 
 pub scan-value-spec : {M : Type 1} → statement M
