@@ -2,13 +2,13 @@
 -- Assumes nothing.
 use mathlib.Core.Path.{_≡_, refl, sym, ap, ap₂, _∙_}
 use mathlib.Core.Bool.{Bool, true, false, cond}
-use mathlib.Core.List.{List, [], _∷_, _++_, map, List·Memᴰ, List·Memᴰ·head, List·Memᴰ·tail}
+use mathlib.Core.List.{List, [], _∷_, _++_, map, append-assoc, append-nil, List·Memᴰ, List·Memᴰ·head, List·Memᴰ·tail}
 use mathlib.Core.Option.{Option, none, some}
-use Prim.Native.Nat.{ℕ, suc, _^_, _<_}
+use Prim.Native.Nat.{ℕ, _^_, _<_}
 use native.Mathlib.Omega.{arith}
-use lib.ListN.{length, length-append}
+use lib.ListN.{length, length-map}
 use Rattle.netstring.specs.Netstring.{netstrings}
-use Rattle.netstring.proofs.Determined.{netstring-determined, netstrings-determined}
+use Rattle.netstring.proofs.Determined.{netstrings-determined, netstrings-append}
 use Rattle.armor.specs.Numerals.{numberBytes, maskBytes}
 use Rattle.armor.proofs.Numerals.{numberBytes-injective, maskBytes-injective}
 use Rattle.names.specs.Covered.{coveredNames}
@@ -25,60 +25,41 @@ abbrev pub CalledAlike : Signed → Signed → Type 0
 CalledAlike a b =
     a .ah ≡ b .ah → a .eah ≡ b .eah → (isCarried (a .n) ≡ isCarried (b .n)) × (length (a .values) ≡ length (b .values))
 
-front : {x y : List ℕ} {xs ys : List (List ℕ)} → x ∷ xs ≡ y ∷ ys → x ≡ y
-front e = cc
+-- where both or neither carry n, what is carried tells n
+carried-same : (m n : Option (List ℕ)) → isCarried m ≡ isCarried n → (length (carried m) ≡ length (carried n)) × (carried m ≡ carried n → m ≡ n)
+carried-same (some m) (some n) h = (refl, λ e. cc)
+carried-same (some m) none h = absurd (let z : _≡_ {A = ℕ} 0 1 = cc in omega arith)
+carried-same none (some n) h = absurd (let z : _≡_ {A = ℕ} 0 1 = cc in omega arith)
+carried-same none none h = (refl, λ e. refl)
 
-rest : {x y : List ℕ} {xs ys : List (List ℕ)} → x ∷ xs ≡ y ∷ ys → xs ≡ ys
-rest e = cc
-
--- the values, the path and the body of a row
-ends : (xs ys : List (List ℕ)) {p q b c : List ℕ} → length xs ≡ length ys → xs ++ (p ∷ b ∷ []) ≡ ys ++ (q ∷ c ∷ [])
-    → (xs ≡ ys) × (p ≡ q) × (b ≡ c)
-ends [] [] h e = (refl, front e, front (rest e))
-ends [] (y ∷ ys) h e = absurd (omega arith)
-ends (x ∷ xs) [] h e = absurd (omega arith)
-ends (x ∷ xs) (y ∷ ys) h e = let more = ends xs ys (omega arith) (rest e) in (ap₂ _∷_ (front e) (more .0), more .1, more .2)
-
--- n, t and lt, and what follows
-middle : (m n : Option (List ℕ)) {t u l k : List ℕ} {xs ys : List (List ℕ)} → isCarried m ≡ isCarried n
-    → carried m ++ (t ∷ l ∷ xs) ≡ carried n ++ (u ∷ k ∷ ys) → (m ≡ n) × (t ≡ u) × (l ≡ k) × (xs ≡ ys)
-middle (some m) (some n) h e = (ap some (front e), front (rest e), front (rest (rest e)), rest (rest (rest e)))
-middle (some m) none h e = absurd (let z : _≡_ {A = ℕ} 0 1 = cc in omega arith)
-middle none (some n) h e = absurd (let z : _≡_ {A = ℕ} 0 1 = cc in omega arith)
-middle none none h e = (refl, front e, front (rest e), rest (rest e))
-
--- as many parts
-counted : (m n : Option (List ℕ)) (t u l k : List ℕ) (xs ys : List (List ℕ)) (p q b c : List ℕ) → isCarried m ≡ isCarried n → length xs ≡ length ys
-    → length (carried m ++ (t ∷ l ∷ (xs ++ (p ∷ b ∷ [])))) ≡ length (carried n ++ (u ∷ k ∷ (ys ++ (q ∷ c ∷ []))))
-counted (some m) (some n) t u l k xs ys p q b c h g = simp length-append (omega arith)
-counted (some m) none t u l k xs ys p q b c h g = absurd (let z : _≡_ {A = ℕ} 0 1 = cc in omega arith)
-counted none (some n) t u l k xs ys p q b c h g = absurd (let z : _≡_ {A = ℕ} 0 1 = cc in omega arith)
-counted none none t u l k xs ys p q b c h g = simp length-append (omega arith)
+-- the parts by what tells how many they are
+rows : (s : Signed) → signedText s
+    ≡ netstrings (s .h ∷ s .ah ∷ s .eah ∷ []) ++ (netstrings (carried (s .n)) ++ (netstrings (s .t ∷ s .lt ∷ []) ++ (netstrings (s .values) ++ netstrings (s .path ∷ s .body ∷ []))))
+unfolding signedText signedParts netstrings
+rows s = simp (netstrings-append, append-assoc, append-nil)
 
 abbrev made : List ℕ → List ℕ → List ℕ → Option (List ℕ) → List ℕ → List ℕ → List (List ℕ) → List ℕ → List ℕ → Signed
 made h ah eah n t lt values path body =
     record { h = h; ah = ah; eah = eah; n = n; t = t; lt = lt; values = values; path = path; body = body }
 
 made-same : {h h' ah ah' eah eah' : List ℕ} {n n' : Option (List ℕ)} {t t' lt lt' : List ℕ} {values values' : List (List ℕ)} {path path' body body' : List ℕ}
-    → h ≡ h' → ah ≡ ah' → eah ≡ eah' → n ≡ n' → t ≡ t' → lt ≡ lt' → values ≡ values' → path ≡ path' → body ≡ body'
+    → h ∷ ah ∷ eah ∷ [] ≡ h' ∷ ah' ∷ eah' ∷ [] → n ≡ n' → t ∷ lt ∷ [] ≡ t' ∷ lt' ∷ [] → values ≡ values' → path ∷ body ∷ [] ≡ path' ∷ body' ∷ []
     → made h ah eah n t lt values path body ≡ made h' ah' eah' n' t' lt' values' path' body'
-made-same e₁ e₂ e₃ e₄ e₅ e₆ e₇ e₈ e₉ = cc
+made-same e₁ e₂ e₃ e₄ e₅ = cc
 
 -- THE THEOREM, of any byte runs h, ah, eah and so on
 pub signed-same : (a b : Signed) → CalledAlike a b → signedText a ≡ signedText b → a ≡ b
-unfolding signedText signedParts netstrings
 signed-same a b alike e =
-    let one = netstring-determined (a .h) (b .h) _ _ e in
-    let two = netstring-determined (a .ah) (b .ah) _ _ (one .1) in
-    let three = netstring-determined (a .eah) (b .eah) _ _ (two .1) in
-    let counts = alike (two .0) (three .0) in
-    let row = netstrings-determined (carried (a .n) ++ (a .t ∷ a .lt ∷ (a .values ++ (a .path ∷ a .body ∷ []))))
-    (carried (b .n) ++ (b .t ∷ b .lt ∷ (b .values ++ (b .path ∷ b .body ∷ [])))) [] []
-    (counted (a .n) (b .n) _ _ _ _ (a .values) (b .values) _ _ _ _ (counts .0) (counts .1))
-    (ap (λ (l : List ℕ). l ++ []) (three .1)) in
-    let four = middle (a .n) (b .n) (counts .0) (row .0) in
-    let five = ends (a .values) (b .values) (counts .1) (four .3) in
-    made-same (one .0) (two .0) (three .0) (four .0) (four .1) (four .2) (five .0) (five .1) (five .2)
+    let one = netstrings-determined (a .h ∷ a .ah ∷ a .eah ∷ []) (b .h ∷ b .ah ∷ b .eah ∷ []) _ _ refl (sym (rows a) ∙ e ∙ rows b) in
+    let ah : a .ah ≡ b .ah = cc (one .0) in
+    let eah : a .eah ≡ b .eah = cc (one .0) in
+    let counts = alike ah eah in
+    let n = carried-same (a .n) (b .n) (counts .0) in
+    let two = netstrings-determined (carried (a .n)) (carried (b .n)) _ _ (n .0) (one .1) in
+    let three = netstrings-determined (a .t ∷ a .lt ∷ []) (b .t ∷ b .lt ∷ []) _ _ refl (two .1) in
+    let four = netstrings-determined (a .values) (b .values) _ _ (counts .1) (three .1) in
+    let five = netstrings-determined (a .path ∷ a .body ∷ []) (b .path ∷ b .body ∷ []) [] [] refl (ap (λ (l : List ℕ). l ++ []) (four .1)) in
+    made-same (one .0) (n .1 (two .0)) (three .0) (four .0) (five .0)
 
 -- what the code of a request is made from: the orders' mask and extra names, the numbers that it carries, and what the host lends
 pub record Request : Type 0 where
@@ -131,20 +112,16 @@ nonce-same m x y hx hy o e =
     let g : numberBytes x ≡ numberBytes y = cc in
     numberBytes-injective x y (omega arith) (omega arith) g
 
-length-map : (f g : List ℕ → List ℕ) (ns : List (List ℕ)) → length (map f ns) ≡ length (map g ns)
-length-map f g [] = refl
-length-map f g (n ∷ ns) = ap suc (length-map f g ns)
-
 values-alike : (m k : ℕ) (x y a b h g : List ℕ) → m ≡ k → x ≡ y → length (coveredValues m x a h) ≡ length (coveredValues k y b g)
 unfolding coveredValues
 values-alike m k x y a b h g e f =
     ap₂ (λ (j : ℕ) (z : List ℕ). length (map (coveredValue (linesIn a) (linesIn h)) (coveredNames j z))) e f
-    ∙ length-map (coveredValue (linesIn a) (linesIn h)) (coveredValue (linesIn b) (linesIn g)) (coveredNames k y)
+    ∙ length-map (coveredNames k y) (coveredValue (linesIn a) (linesIn h)) ∙ sym (length-map (coveredNames k y) (coveredValue (linesIn b) (linesIn g)))
 
 -- equal rows of values are equal name by name
 each-same : (f g : List ℕ → List ℕ) (ns : List (List ℕ)) → map f ns ≡ map g ns → (name : List ℕ) → List·Memᴰ name ns → f name ≡ g name
-each-same f g (n ∷ ns) e name (List·Memᴰ·head p) = ap f p ∙ front e ∙ sym (ap g p)
-each-same f g (n ∷ ns) e name (List·Memᴰ·tail m) = each-same f g ns (rest e) name m
+each-same f g (n ∷ ns) e name (List·Memᴰ·head p) = cc
+each-same f g (n ∷ ns) e name (List·Memᴰ·tail m) = each-same f g ns (cc) name m
 
 values-same : (p q : Request) → p .mask ≡ q .mask → p .extra ≡ q .extra
     → coveredValues (p .mask) (p .extra) (p .aside) (p .head) ≡ coveredValues (q .mask) (q .extra) (q .aside) (q .head)

@@ -1,16 +1,16 @@
 -- The signed text of a request is short: its parts are few, and none is longer than what the request has.
 -- Assumes nothing.
-use mathlib.Core.Path.{_≡_, refl, ap, _∙_}
+use mathlib.Core.Path.{_≡_, refl}
 use mathlib.Core.Bool.{Bool, true, false, cond}
-use mathlib.Core.List.{List, [], _∷_, _++_, map}
+use mathlib.Core.List.{List, [], _∷_, map}
 use mathlib.Core.Option.{Option, none, some}
-use Prim.Native.Nat.{ℕ, zero, suc, _+_, _*_, _/_, _%_, _^_, _≤_, _<_}
+use Prim.Native.Nat.{ℕ, zero, suc, _+_, _*_, _/_, _%_, _≤_}
 use native.Mathlib.Omega.{arith}
 use lib.Dec.{eqb}
 use lib.ListN.{length, take, drop, length-append, length-take, length-drop}
 use Rattle.cells.proofs.Digits.{decimal-length}
 use Rattle.cells.specs.Spans.{leading}
-use Rattle.netstring.specs.Netstring.{netstring, netstrings}
+use Rattle.netstring.specs.Netstring.{netstrings}
 use Rattle.netstring.proofs.Laid.{length-netstring}
 use Rattle.armor.specs.Numerals.{numberBytes, maskBytes, hashMask}
 use Rattle.armor.proofs.Numerals.{length-numberBytes, length-maskBytes}

@@ -1,11 +1,9 @@
 -- Laws of a state that takes in netstrings, one part after the other.
 -- Assumes nothing.
 use mathlib.Core.Path.{_≡_, refl, sym, ap, subst, _∙_}
-use mathlib.Core.Bool.{true, false}
 use mathlib.Core.List.{List, [], _∷_, _++_, map, map-append, append-assoc, append-nil}
-use Prim.Native.Nat.{ℕ, _+_, _/_, _%_}
+use Prim.Native.Nat.{ℕ, _+_, _/_}
 use native.Mathlib.Omega.{arith}
-use lib.Dec.{eqb}
 use lib.ListN.{length, length-append}
 use Rattle.hmac.specs.declared.Hmac.{Hmac}
 use Rattle.hmac.specs.Keyed.{Keyed, TookIn}
@@ -32,13 +30,13 @@ took-both {u = u} {a = a} {b = b} p q =
     }
 
 -- no parts
-pub took-none : (s : Hmac) (parts : List (List ℕ)) → parts ≡ [] → TookParts s parts s
+pub took-none : (s : Hmac) → TookParts s [] s
 unfolding netstrings
-took-none s parts e = subst (λ (ps : List (List ℕ)). TookParts s ps s) (sym e) (record {
+took-none s = record {
   inner-counted = omega arith;
   outer-counted = refl;
   appended = λ key text k. subst (λ (l : List ℕ). Keyed s key l) (sym (append-nil text)) k;
-})
+}
 
 -- some parts, and then others
 pub took-then : {s t r : Hmac} (xs ys : List (List ℕ)) → TookParts s xs t → TookParts t ys r → TookParts s (xs ++ ys) r
@@ -72,15 +70,6 @@ unfolding coveredValues
 values-joined mask extra known aside head h =
     let f = coveredValue (linesIn aside) (linesIn head) in
     sym (map-append f (chosen (mask / 2) (namesFrom known 0)) (extraNames extra)) ∙ ap (map f) (sym (covered-names mask extra known h))
-
--- the nonce, carried or not
-pub nonce-carried : (mask n : ℕ) → eqb (mask % 2) 1 ≡ true → carried (nonceOf mask n) ≡ numberBytes n ∷ []
-unfolding nonceOf
-nonce-carried mask n h = rw h
-
-pub nonce-absent : (mask n : ℕ) → eqb (mask % 2) 1 ≡ false → carried (nonceOf mask n) ≡ []
-unfolding nonceOf
-nonce-absent mask n h = rw h
 
 -- all the parts in a row are the signed text
 pub parts-joined : (mask n t lt : ℕ) (extra aside head path body : List ℕ)

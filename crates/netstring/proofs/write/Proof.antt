@@ -1,14 +1,14 @@
 -- `write` meets its contract: three texts side by side are the netstring.
 -- Assumes nothing.
 use borrow.Author.Needs.{needs}
-use mathlib.Core.Path.{_≡_, ap, subst, _∙_}
+use mathlib.Core.Path.{ap, subst, _∙_}
 use mathlib.Core.List.{List, [], _∷_, _++_}
 use Prim.Native.Nat.{ℕ, _+_, _-_, _≤_}
 use native.Mathlib.Omega.{arith}
 use lib.ListN.{length, take, drop}
 use Rattle.cells.proofs.Laid.{laid-more}
 use Rattle.cells.specs.Laid.{Laid}
-use Rattle.netstring.specs.Netstring.{comma, netstring}
+use Rattle.netstring.specs.Netstring.{comma}
 use Rattle.netstring.proofs.Laid.{netstring-pieces, length-pieces, opening-piece}
 use Rattle.netstring.proofs.write.Statement.{statement}
 use Rattle.netstring.proofs.write.Tie as tie

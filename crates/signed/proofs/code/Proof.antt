@@ -25,26 +25,6 @@ ends s = s .args .path .now ∷ s .args .body .now ∷ []
 short : (s : tie.Start) → size (opens s) + size (held s) + size (ends s) ≤ 2000000
 short s = request-short _ _ _ _ _ _ _ _ _ (s .pre .2) (s .pre .3) (s .pre .4) (s .pre .5) (s .pre .6)
 
-opening-requires : tie.Need-opening-requires
-opening-requires c κs = omega (arith, short (c .before .before .before .before .before .before .before .before), c .new .ensures .inner-counted)
-
-values-requires : tie.Need-values-requires
-values-requires c κs =
-    let s = c .before .before .before .before .before .before .before .before .before in
-    (s .pre .0, s .pre .2, omega (arith, short s, c .before .new .ensures .inner-counted, c .opening .ensures .inner-counted))
-
--- how much was taken in before the end
-counted : (c : tie.After-values) → let s = c .before .before .before .before .before .before .before .before .before .before in
-    c .values .result .inner .length + size (ends s) ≤ 3000000
-counted c =
-    omega (
-      arith,
-      short (c .before .before .before .before .before .before .before .before .before .before),
-      c .before .before .new .ensures .inner-counted,
-      c .before .opening .ensures .inner-counted,
-      c .values .ensures .inner-counted,
-    )
-
 returns : tie.Need-returns
 returns c =
     let s = c .before .before .before .before .before .before .before .before .before .before .before .before in
@@ -63,8 +43,10 @@ code-spec =
     tie.close
     (tie.spec
     (λ c κs. search needs)
-    opening-requires
-    values-requires
-    (λ c κs. omega (arith, counted c))
-    (λ c κs. (omega (arith, counted (c .before), c .ending .ensures .inner-counted), search needs))
+    (λ c κs. omega (arith, short (c .before .before .before .before .before .before .before .before)))
+    (λ c κs.
+    let s = c .before .before .before .before .before .before .before .before .before in
+    (s .pre .0, s .pre .2, omega (arith, short s)))
+    (λ c κs. omega (arith, short (c .before .before .before .before .before .before .before .before .before .before)))
+    (λ c κs. (omega (arith, short (c .before .before .before .before .before .before .before .before .before .before .before)), search needs))
     returns)

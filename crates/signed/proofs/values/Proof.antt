@@ -1,9 +1,9 @@
 -- `values` meets its contract: the names of the mask's bits first, and then the extra ones.
 -- Assumes nothing.
 use borrow.Author.Needs.{needs}
-use mathlib.Core.Path.{_≡_, ap, subst, sym, _∙_}
+use mathlib.Core.Path.{_≡_, ap, subst}
 use mathlib.Core.List.{List, _++_}
-use Prim.Native.Nat.{ℕ, _+_, _/_}
+use Prim.Native.Nat.{ℕ, _/_}
 use native.Mathlib.Omega.{arith}
 use Rattle.signed.specs.SignedText.{coveredValues}
 use Rattle.signed.specs.Streamed.{TookParts, valuesFrom}

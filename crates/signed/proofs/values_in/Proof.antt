@@ -26,11 +26,8 @@ abbrev μ-loop : tie.MeasureT-loop
 
 returns : tie.Need-returns Inv-loop μ-loop
 returns c =
-    let args = c .before .before .before .before .before .before .before .args in
     let loop = c .before .before .before .loop in
-    loop .inv .2 (loop .taken)
-    (took-none (loop .taken) _
-    (ap (map (coveredValue (linesIn (args .aside .now)) (linesIn (args .head .now)))) (rw (c .enum-told .given .1) at (c .before .before .next-name .ensures))))
+    loop .inv .2 (loop .taken) (simp (rw (c .enum-told .given .1) at (c .before .before .next-name .ensures)) (took-none (loop .taken)))
 
 name : (c : tie.After-start Inv-loop μ-loop)
     → FirstName (c .before .before .before .before .before .before .before .args .run .now) (c .before .before .before .loop .left) (c .before .before .before .loop .at)
