@@ -36,11 +36,11 @@ module _ (p : ℕ → Bool) (xs : List ℕ) where
 
   -- the loop begins, passes an element, stops at one that fails, and ends
   pub passed-none : (at : ℕ) → at ≤ length xs → Passed p xs at at
-  passed-none at h = record { within = h; same = refl }
+  passed-none at h = record { from = omega arith; within = h; same = refl }
 
   pub passed-more : (at i : ℕ) → Passed p xs at i → i < length xs → p (getD xs i 0) ≡ true → Passed p xs at (i + 1)
   passed-more at i g h e =
-      record { within = omega arith; same = g .same ∙ rw (leading-pass i h e, add-one) (omega arith) }
+      record { from = omega arith; within = omega arith; same = g .same ∙ rw (leading-pass i h e, add-one) (omega arith) }
 
   pub passed-stop : (at i : ℕ) → Passed p xs at i → i < length xs → p (getD xs i 0) ≡ false → Spans p xs at i
   passed-stop at i g h e = record { is = omega (arith, g .same, leading-fail i h e); within = g .within }
@@ -60,6 +60,7 @@ module _ (p : ℕ → Bool) (xs : List ℕ) where
   -- a search for an element that fails goes on after a part that passes
   pub passed-part : (at i e : ℕ) → Passed p xs at i → i ≤ e → e ≤ length xs → all p (cut xs i e) ≡ true → Passed p xs at e
   passed-part at i e g h k t = record {
+    from = omega arith;
     within = k;
     same =
         g .same ∙ ap (λ (l : List ℕ). i + leading p l) (cut-split xs i e h)
