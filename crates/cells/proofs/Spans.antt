@@ -13,26 +13,34 @@ use Rattle.cells.specs.Runs.{cut}
 use Rattle.cells.specs.Spans.{all, leading, Spans, Passed}
 use Rattle.cells.proofs.Cuts.{length-cut, cut-split}
 
+-- elements that all pass, and those after them
+leading-over : (p : ℕ → Bool) (xs ys : List ℕ) → all p xs ≡ true → leading p (xs ++ ys) ≡ length xs + leading p ys
+unfolding all leading
+leading-over p [] ys h = omega arith
+leading-over p (x ∷ xs) ys h =
+    let both = and-eq-true-iff (p x) (all p xs) .0 h in
+    rw (both .0) (ap suc (leading-over p xs ys (both .1)) ∙ omega arith)
+
 module _ (p : ℕ → Bool) (xs : List ℕ) where
-  pub leading-pass : (i : ℕ) → i < length xs → p (getD xs i 0) ≡ true → leading p (drop i xs) ≡ suc (leading p (drop (suc i) xs))
+  leading-pass : (i : ℕ) → i < length xs → p (getD xs i 0) ≡ true → leading p (drop i xs) ≡ suc (leading p (drop (suc i) xs))
   unfolding leading
   leading-pass i h e = rw (drop-cons xs i 0 h, e)
 
-  pub leading-fail : (i : ℕ) → i < length xs → p (getD xs i 0) ≡ false → leading p (drop i xs) ≡ 0
+  leading-fail : (i : ℕ) → i < length xs → p (getD xs i 0) ≡ false → leading p (drop i xs) ≡ 0
   unfolding leading
   leading-fail i h e = rw (drop-cons xs i 0 h, e)
 
-  pub leading-end : (i : ℕ) → length xs ≤ i → leading p (drop i xs) ≡ 0
+  leading-end : (i : ℕ) → length xs ≤ i → leading p (drop i xs) ≡ 0
   unfolding leading
   leading-end i h = rw (drop-of-length-le xs {i = i} h)
 
   -- the loop begins, passes an element, stops at one that fails, and ends
   pub passed-none : (at : ℕ) → at ≤ length xs → Passed p xs at at
-  passed-none at h = record { within = h; same = refl }
+  passed-none at h = record { from = omega arith; within = h; same = refl }
 
   pub passed-more : (at i : ℕ) → Passed p xs at i → i < length xs → p (getD xs i 0) ≡ true → Passed p xs at (i + 1)
   passed-more at i g h e =
-      record { within = omega arith; same = g .same ∙ rw (leading-pass i h e, add-one) (omega arith) }
+      record { from = omega arith; within = omega arith; same = g .same ∙ rw (leading-pass i h e, add-one) (omega arith) }
 
   pub passed-stop : (at i : ℕ) → Passed p xs at i → i < length xs → p (getD xs i 0) ≡ false → Spans p xs at i
   passed-stop at i g h e = record { is = omega (arith, g .same, leading-fail i h e); within = g .within }
@@ -51,19 +59,13 @@ module _ (p : ℕ → Bool) (xs : List ℕ) where
 
   -- a search for an element that fails goes on after a part that passes
   pub passed-part : (at i e : ℕ) → Passed p xs at i → i ≤ e → e ≤ length xs → all p (cut xs i e) ≡ true → Passed p xs at e
-  unfolding all leading
   passed-part at i e g h k t = record {
+    from = omega arith;
     within = k;
     same =
         g .same ∙ ap (λ (l : List ℕ). i + leading p l) (cut-split xs i e h)
-        ∙ omega (arith, over (cut xs i e) t, length-cut xs i e k);
+        ∙ omega (arith, leading-over p (cut xs i e) (drop e xs) t, length-cut xs i e k);
   }
-    where
-      over : (ys : List ℕ) → all p ys ≡ true → leading p (ys ++ drop e xs) ≡ length ys + leading p (drop e xs)
-      over [] t = omega arith
-      over (y ∷ ys) t =
-          let both = and-eq-true-iff (p y) (all p ys) .0 t in
-          rw (both .0) (ap suc (over ys (both .1)) ∙ omega arith)
 
 -- all pass exactly if as many pass at the front as there are
 pub all-test : (p : ℕ → Bool) (xs : List ℕ) → all p xs ≡ eqb (leading p xs) (length xs)
@@ -77,14 +79,11 @@ all-test p (x ∷ xs) = go (p x) (all-test p xs)
 
 -- where all of xs pass and the element after them does not, as many as xs has are at the front
 pub leading-append : (p : ℕ → Bool) (xs : List ℕ) (y : ℕ) (ys : List ℕ) → all p xs ≡ true → p y ≡ false → leading p (xs ++ y ∷ ys) ≡ length xs
-unfolding all leading
-leading-append p [] y ys h e = rw e
-leading-append p (x ∷ xs) y ys h e =
-    let both = and-eq-true-iff (p x) (all p xs) .0 h in
-    rw (both .0) (ap suc (leading-append p xs y ys (both .1) e))
+unfolding leading
+leading-append p xs y ys h e = leading-over p xs (y ∷ ys) h ∙ rw e (omega arith)
 
--- those at the front pass, and are at most all
-pub leading-all : (p : ℕ → Bool) (xs : List ℕ) → all p (take (leading p xs) xs) ≡ true
+-- those at the front pass
+leading-all : (p : ℕ → Bool) (xs : List ℕ) → all p (take (leading p xs) xs) ≡ true
 unfolding all leading
 leading-all p [] = refl
 leading-all p (x ∷ xs) = go (p x) refl (leading-all p xs)
@@ -92,15 +91,6 @@ leading-all p (x ∷ xs) = go (p x) refl (leading-all p xs)
     go : (b : Bool) → p x ≡ b → all p (take (leading p xs) xs) ≡ true → all p (take (cond b (suc (leading p xs)) 0) (x ∷ xs)) ≡ true
     go true e h = rw e h
     go false e h = refl
-
-pub leading-within : (p : ℕ → Bool) (xs : List ℕ) → leading p xs ≤ length xs
-unfolding leading
-leading-within p [] = omega arith
-leading-within p (x ∷ xs) = go (p x) (leading-within p xs)
-  where
-    go : (b : Bool) → leading p xs ≤ length xs → cond b (suc (leading p xs)) 0 ≤ suc (length xs)
-    go true h = omega arith
-    go false h = omega arith
 
 -- the part of a run that a span takes passes
 pub span-all : (p : ℕ → Bool) (xs : List ℕ) (a e : ℕ) → Spans p xs a e → all p (cut xs a e) ≡ true
