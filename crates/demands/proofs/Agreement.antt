@@ -11,8 +11,8 @@ use native.Mathlib.Omega.{arith}
 use borrow.Author.Tests.{eq-eqb}
 use Rattle.cells.specs.Numbers.{number}
 use Rattle.armor.specs.Numerals.{numberBytes, maskBytes}
-use Rattle.armor.specs.Keys.{nameS, nameT, nameLt, nameN, nameH, nameAh, nameTag, nameEah}
-use Rattle.armor.proofs.Requests.{none-held}
+use Rattle.armor.specs.Keys.{keyS, keyT, keyLt, keyN, keyH, keyAh, keyTag, keyEah}
+use Rattle.armor.proofs.Fields.{none-held}
 use Rattle.names.specs.Covered.{coveredNames}
 use Rattle.lines.specs.Lines.{linesIn}
 use Rattle.lines.specs.Values.{coveredValue}
@@ -72,11 +72,11 @@ module _ (p q : Request) (s t : State) (rp : Reaches p s) (rq : Reaches q t) (e 
   unfolding textOf
   texts = Text.request-same (signing p) (signing q) (signing-fits p s left) (signing-fits q t right) e
 
-  counts : carriesTimes nameN p ≡ carriesTimes nameN q
+  counts : carriesTimes keyN p ≡ carriesTimes keyN q
   counts = nonce-ordered p s left ∙ ap (λ (m : ℕ). m % 2) (texts .mask) ∙ sym (nonce-ordered q t right)
 
-  nonces : (k : ℕ) → carriesTimes nameN p ≡ k → k < 2 → carries nameN p ≡ carries nameN q
-  nonces zero c l = none-held nameN (fieldsOf p) c ∙ sym (none-held nameN (fieldsOf q) (sym counts ∙ c))
+  nonces : (k : ℕ) → carriesTimes keyN p ≡ k → k < 2 → carries keyN p ≡ carries keyN q
+  nonces zero c l = none-held keyN (fieldsOf p) c ∙ sym (none-held keyN (fieldsOf q) (sym counts ∙ c))
   nonces (suc zero) c l =
       sym (nonce-carried p s left c)
       ∙ ap numberBytes (texts .n (eq-eqb (p .orders .numbers .mask % 2) 1 (sym (nonce-ordered p s left) ∙ c)))

@@ -9,7 +9,7 @@ use Prim.Native.Nat.{ℕ}
 use lib.Dec.{eqb}
 use lib.ListN.{take}
 use Rattle.armor.specs.Numerals.{maskOf}
-use Rattle.armor.specs.Keys.{nameS, nameT, nameLt, nameN, nameH, nameAh, nameTag, nameEah}
+use Rattle.armor.specs.Keys.{keyS, keyT, keyLt, keyN, keyH, keyAh, keyTag, keyEah}
 use Rattle.armor.specs.Fields.{times, the}
 use Rattle.names.specs.Covered.{coveredNames}
 use Rattle.lines.specs.Lines.{linesIn}
@@ -19,24 +19,24 @@ use Rattle.stages.specs.Request.{Request}
 use Rattle.stages.specs.Parts.{fieldsOf, ivOf, signatureOf}
 use Rattle.gate.specs.State.{Outcome}
 
--- what a request carries under a name, as decoded bytes; nothing where the name is absent
-abbrev pub carries : List ℕ → Request → List ℕ
-carries name q = the name (fieldsOf q)
+-- what a request carries under a key, as decoded bytes; nothing where the key is absent
+abbrev pub carries : ℕ → Request → List ℕ
+carries key q = the key (fieldsOf q)
 
--- how often it carries the name
-abbrev pub carriesTimes : List ℕ → Request → ℕ
-carriesTimes name q = times name (fieldsOf q)
+-- how often it carries the key
+abbrev pub carriesTimes : ℕ → Request → ℕ
+carriesTimes key q = times key (fieldsOf q)
 
 -- what is signed, as carried
 abbrev pub signedBy : Request → Signed
 signedBy q = record {
-  h = carries nameH q;
-  ah = carries nameAh q;
-  eah = carries nameEah q;
-  n = cond (eqb (carriesTimes nameN q) 1) (some (carries nameN q)) none;
-  t = carries nameT q;
-  lt = carries nameLt q;
-  values = coveredValues (maskOf (carries nameAh q)) (carries nameEah q) (q .aside) (q .head);
+  h = carries keyH q;
+  ah = carries keyAh q;
+  eah = carries keyEah q;
+  n = cond (eqb (carriesTimes keyN q) 1) (some (carries keyN q)) none;
+  t = carries keyT q;
+  lt = carries keyLt q;
+  values = coveredValues (maskOf (carries keyAh q)) (carries keyEah q) (q .aside) (q .head);
   path = q .path;
   body = q .body;
 }
@@ -47,16 +47,16 @@ headerOf q name = coveredValue (linesIn (q .aside)) (linesIn (q .head)) name
 
 -- two requests agree in coverage, nonce, both times, every covered header value, path and body
 pub record Agree (p q : Request) : Type 0 where
-  pub h : carries nameH p ≡ carries nameH q
-  pub ah : carries nameAh p ≡ carries nameAh q
-  pub eah : carries nameEah p ≡ carries nameEah q
-  pub eah-or-not : carriesTimes nameEah p ≡ carriesTimes nameEah q
+  pub h : carries keyH p ≡ carries keyH q
+  pub ah : carries keyAh p ≡ carries keyAh q
+  pub eah : carries keyEah p ≡ carries keyEah q
+  pub eah-or-not : carriesTimes keyEah p ≡ carriesTimes keyEah q
   pub mask : p .orders .numbers .mask ≡ q .orders .numbers .mask
   pub extra : p .orders .extra ≡ q .orders .extra
-  pub n : carries nameN p ≡ carries nameN q
-  pub n-or-not : carriesTimes nameN p ≡ carriesTimes nameN q
-  pub t : carries nameT p ≡ carries nameT q
-  pub lt : carries nameLt p ≡ carries nameLt q
+  pub n : carries keyN p ≡ carries keyN q
+  pub n-or-not : carriesTimes keyN p ≡ carriesTimes keyN q
+  pub t : carries keyT p ≡ carries keyT q
+  pub lt : carries keyLt p ≡ carries keyLt q
   pub headers : (name : List ℕ) → List·Memᴰ name (coveredNames (p .orders .numbers .mask) (p .orders .extra)) → headerOf p name ≡ headerOf q name
   pub path : p .path ≡ q .path
   pub body : p .body ≡ q .body
@@ -64,9 +64,9 @@ pub record Agree (p q : Request) : Type 0 where
 -- they carry the same signature, token, IV and tag, and meet the same server key, orders and clock
 pub record MeetAlike (p q : Request) : Type 0 where
   pub signature : signatureOf p ≡ signatureOf q
-  pub token : carries nameS p ≡ carries nameS q
+  pub token : carries keyS p ≡ carries keyS q
   pub iv : ivOf p ≡ ivOf q
-  pub tag : carries nameTag p ≡ carries nameTag q
+  pub tag : carries keyTag p ≡ carries keyTag q
   pub server-key : p .server-key ≡ q .server-key
   pub orders : p .orders ≡ q .orders
   pub clock : p .clock ≡ q .clock

@@ -13,7 +13,7 @@ use Rattle.cells.specs.Runs.{fronted}
 use Rattle.armor.specs.declared.SetupRead.{SetupRead}
 use Rattle.armor.specs.Answers.{setupFrom, setupAnswer}
 use Rattle.armor.specs.Fields.{the, setupFields}
-use Rattle.armor.specs.Keys.{nameR}
+use Rattle.armor.specs.Keys.{keyR}
 use Rattle.armor.specs.Numerals.{maskOf}
 use Rattle.armor.specs.Value.{Field, grammar, carried}
 use Rattle.table.proofs.Tests.{both}
@@ -37,12 +37,12 @@ Told mask checks later SetupRead.Fields = first checks ≡ 5
 Told mask checks later (SetupRead.Mask m) = (first checks ≡ first later) × (mask ≡ m)
 
 told-of : (o : Option (List Field)) (later : List Check)
-    → Told (maskOf (the nameR (Option·getD o []))) (check 4 (missing o) ∷ check 5 (not (setupFields (Option·getD o []))) ∷ later) later (setupFrom o)
+    → Told (maskOf (the keyR (Option·getD o []))) (check 4 (missing o) ∷ check 5 (not (setupFields (Option·getD o []))) ∷ later) later (setupFrom o)
 told-of none later = refl
 told-of (some fs) later = by (setupFields fs)
   where
     mask : ℕ
-    mask = maskOf (the nameR fs)
+    mask = maskOf (the keyR fs)
 
     by : (t : Bool) → Told mask (check 4 false ∷ check 5 (not t) ∷ later) later (cond t (SetupRead.Mask mask) SetupRead.Fields)
     by true = (refl, refl)

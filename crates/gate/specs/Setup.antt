@@ -5,7 +5,7 @@ use mathlib.Core.List.{List, [], _∷_, _++_}
 use Prim.Native.Nat.{ℕ, _+_}
 use lib.Dec.{eqb, ltb}
 use Rattle.armor.specs.Numerals.{maskOf}
-use Rattle.armor.specs.Keys.{nameR}
+use Rattle.armor.specs.Keys.{keyR}
 use Rattle.armor.specs.Value.{grammar, carried}
 use Rattle.armor.specs.Fields.{the, setupFields}
 use Rattle.gcm.specs.Gcm.{Sealed}
@@ -24,7 +24,7 @@ use Rattle.gate.specs.Entry.{entryChecks}
 
 -- the mask that the client offers; SHA-512 is bit 2
 unfoldable pub offered : Setup → ℕ
-offered s = maskOf (the nameR (carried (s .value)))
+offered s = maskOf (the keyR (carried (s .value)))
 
 -- now plus session life
 unfoldable pub expiryOf : Setup → ℕ

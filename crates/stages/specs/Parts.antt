@@ -9,7 +9,7 @@ use lib.Dec.{eqb, leb}
 use Rattle.cells.specs.Runs.{same}
 use Rattle.cells.specs.Numbers.{number}
 use Rattle.hmac.specs.Hmac.{hmacSha512}
-use Rattle.armor.specs.Keys.{nameS, nameC, nameT, nameLt, nameN, nameIv, nameTag}
+use Rattle.armor.specs.Keys.{keyS, keyC, keyT, keyLt, keyN, keyIv, keyTag}
 use Rattle.armor.specs.Value.{Field, grammar, carried}
 use Rattle.armor.specs.Fields.{the, requestFields}
 use Rattle.names.specs.Covered.{coveredNames}
@@ -34,23 +34,23 @@ unfoldable pub fieldsOf : Request → List Field
 fieldsOf q = carried (q .value)
 
 unfoldable pub ivOf : Request → List ℕ
-ivOf q = the nameIv (fieldsOf q)
+ivOf q = the keyIv (fieldsOf q)
 
 unfoldable pub nonceOf : Request → ℕ
-nonceOf q = number (the nameN (fieldsOf q))
+nonceOf q = number (the keyN (fieldsOf q))
 
 unfoldable pub timeOf : Request → ℕ
-timeOf q = number (the nameT (fieldsOf q))
+timeOf q = number (the keyT (fieldsOf q))
 
 unfoldable pub lastTimeOf : Request → ℕ
-lastTimeOf q = number (the nameLt (fieldsOf q))
+lastTimeOf q = number (the keyLt (fieldsOf q))
 
 unfoldable pub signatureOf : Request → List ℕ
-signatureOf q = the nameC (fieldsOf q)
+signatureOf q = the keyC (fieldsOf q)
 
 -- the token that it carries
 unfoldable pub openedOf : Request → Option Token
-openedOf q = openedToken (q .server-key) (ivOf q) (the nameS (fieldsOf q)) (the nameTag (fieldsOf q))
+openedOf q = openedToken (q .server-key) (ivOf q) (the keyS (fieldsOf q)) (the keyTag (fieldsOf q))
 
 unfoldable pub tokenOf : Request → Token
 tokenOf q = theToken (openedOf q)

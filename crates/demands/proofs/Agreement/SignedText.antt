@@ -10,7 +10,7 @@ use native.Mathlib.Omega.{arith}
 use borrow.Author.Tests.{eqb-true}
 use lib.Dec.{eqb}
 use Rattle.armor.specs.Numerals.{numberBytes, maskOf}
-use Rattle.armor.specs.Keys.{nameT, nameLt, nameN, nameH, nameAh, nameEah}
+use Rattle.armor.specs.Keys.{keyT, keyLt, keyN, keyH, keyAh, keyEah}
 use Rattle.armor.specs.Fields.{times, the}
 use Rattle.armor.proofs.Numerals.{maskOf-maskBytes}
 use Rattle.armor.proofs.Carried.{time-bytes, last-time-bytes, nonce-bytes}
@@ -23,24 +23,24 @@ use Rattle.demands.proofs.Shared.Passed.{Passed}
 use Rattle.demands.proofs.Shared.Carried.{hash-ordered, mask-ordered, names-ordered, mask-fits, nonce-ordered}
 use Rattle.demands.specs.Agreement.{carries, carriesTimes, signedBy}
 
-pub time-carried : (q : Request) (state : State) → Passed q state → numberBytes (timeOf q) ≡ carries nameT q
+pub time-carried : (q : Request) (state : State) → Passed q state → numberBytes (timeOf q) ≡ carries keyT q
 unfolding timeOf fieldsOf
 time-carried q state p = time-bytes (q .value) (p .value)
 
-pub last-time-carried : (q : Request) (state : State) → Passed q state → numberBytes (lastTimeOf q) ≡ carries nameLt q
+pub last-time-carried : (q : Request) (state : State) → Passed q state → numberBytes (lastTimeOf q) ≡ carries keyLt q
 unfolding lastTimeOf fieldsOf
 last-time-carried q state p = last-time-bytes (q .value) (p .value)
 
-pub nonce-carried : (q : Request) (state : State) → Passed q state → carriesTimes nameN q ≡ 1 → numberBytes (nonceOf q) ≡ carries nameN q
+pub nonce-carried : (q : Request) (state : State) → Passed q state → carriesTimes keyN q ≡ 1 → numberBytes (nonceOf q) ≡ carries keyN q
 unfolding nonceOf fieldsOf
 nonce-carried q state p one = nonce-bytes (q .value) (p .value) one
 
 n-carried : (q : Request) (state : State) → Passed q state
-    → Text.nonceOf (q .orders .numbers .mask) (nonceOf q) ≡ cond (eqb (carriesTimes nameN q) 1) (some (carries nameN q)) none
+    → Text.nonceOf (q .orders .numbers .mask) (nonceOf q) ≡ cond (eqb (carriesTimes keyN q) 1) (some (carries keyN q)) none
 unfolding Text.nonceOf
 n-carried q state p = rw (nonce-ordered q state p) (by (eqb (q .orders .numbers .mask % 2) 1) refl)
   where
-    by : (t : Bool) → eqb (q .orders .numbers .mask % 2) 1 ≡ t → cond t (some (numberBytes (nonceOf q))) none ≡ cond t (some (carries nameN q)) none
+    by : (t : Bool) → eqb (q .orders .numbers .mask % 2) 1 ≡ t → cond t (some (numberBytes (nonceOf q))) none ≡ cond t (some (carries keyN q)) none
     by true e = ap some (nonce-carried q state p (nonce-ordered q state p ∙ eqb-true (q .orders .numbers .mask % 2) 1 e))
     by false e = refl
 

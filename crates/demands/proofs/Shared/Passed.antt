@@ -12,7 +12,6 @@ use Rattle.armor.specs.declared.Answer.{Answer}
 use Rattle.armor.specs.Value.{Field, grammar, carried}
 use Rattle.armor.specs.Fields.{requestFields}
 use Rattle.armor.specs.Answers.{requestAnswer}
-use Rattle.armor.specs.Scan
 use Rattle.armor.proofs.Requests.{request-by}
 use Rattle.orders.specs.Orders.{ordersGood}
 use Rattle.lines.specs.Lines.{goodBlock}
@@ -55,8 +54,9 @@ pub record Passed (q : Request) (state : State) : Type 0 where
 
 value-good : (v : List ℕ) (o : Option (List Field)) → grammar v ≡ o → missing o ≡ false → requestFields (carried v) ≡ true
     → requestAnswer v ≡ Answer.Good
+unfolding carried
 value-good v none p m f = absurd (true≢false m)
-value-good v (some fs) p m f = request-by v true (ap Scan.given p) f
+value-good v (some fs) p m f = request-by v true (rw p) f
 
 pub all-passed : (q : Request) (state : State) → first (entryPart q state) ≡ 0 → first (readingPart q) ≡ 0 → given (openedOf q) ≡ true → Passed q state
 unfolding entryPart readingPart coveringPart fieldsOf

@@ -2,6 +2,7 @@
 -- Assumes nothing.
 use borrow.Author.Needs.{needs}
 use borrow.Author.Tests.{not-true, not-false}
+use Rattle.names.proofs.Sizes.{short-extra}
 use Rattle.stages.specs.Parts.{fieldsOf, twice, coveringPart}
 use Rattle.stages.proofs.reading.compare.Statement.{statement}
 use Rattle.stages.proofs.reading.compare.Tie as tie
@@ -55,6 +56,9 @@ returns-4 c _ _ _ _ _ =
       not-false (c .before .as-ordered .result) (c .if3 .left),
     )
 
+as-ordered-requires : tie.Need-as-ordered-requires
+as-ordered-requires c κs = let pre = c .before .before .before .before .before .before .before .before .before .before .before .pre in (pre .2, pre .3, short-extra _ (pre .1))
+
 pub compare-spec : {M : Type 1} → statement M
 compare-spec =
     tie.close
@@ -65,6 +69,6 @@ compare-spec =
     (λ c κs. search needs)
     (λ c κs. search needs)
     returns-2
-    (λ c κs. search needs)
+    as-ordered-requires
     returns-3
     returns-4)

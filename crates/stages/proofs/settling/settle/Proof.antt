@@ -19,14 +19,14 @@ asked c value reply =
 returns : tie.Need-returns
 returns c value reply table h l s =
     let vouched = c .before .before .before .before .vouch in
-    settled-away (asked (c .before .before .before .before .before .before .before .before .before .before .before) value reply) table _ _ s (vouched .result) (vouched .ensures value reply h) _ (c .before .if1 .taken) (c .decided .ensures)
+    settled-away (asked (c .before .before .before .before .before .before .before .before .before .before .before .before) value reply) table _ _ s (vouched .result) (vouched .ensures value reply h) _ (c .before .if1 .taken) (c .decided .ensures)
 
 returns-2 : tie.Need-returns-2
 unfolding nonceOf timeOf lastTimeOf fieldsOf limits
 returns-2 c value reply table h l s =
-    let vouched = c .before .before .before .before .before .vouch in
-    let q = asked (c .before .before .before .before .before .before .before .before .before .before .before .before) value reply in
-    settled-here q table _ _ s (vouched .result) (vouched .ensures value reply h) _ (c .before .admit .result) (c .before .before .if1 .left)
+    let vouched = c .before .before .before .before .before .before .before .before .before .vouch in
+    let q = asked (c .before .before .before .before .before .before .before .before .before .before .before .before .before .before .before .before .before) value reply in
+    settled-here q table _ _ s (vouched .result) (vouched .ensures value reply h) _ (c .before .admit .result) (c .before .before .before .before .before .before .if1 .left)
     (c .before .admit .ensures q table s (record { clock = refl; t = sym (h .time); lt = sym (h .last-time); within = sym l; nonces = refl; n = sym (h .nonce) }))
     (c .decided2 .ensures)
 

@@ -8,30 +8,29 @@ use Rattle.stages.proofs.Stages.{unopened, lapsed, unsigned, vouched}
 use Rattle.stages.proofs.vouching.vouch.Statement.{statement}
 use Rattle.stages.proofs.vouching.vouch.Tie as tie
 
+-- what the request's arrays hold
+sizes : (c : tie.Start) → (length (c .args .request .s) ≡ 118) × (length (c .args .request .iv) ≡ 12) × (length (c .args .request .tag) ≡ 16)
+sizes c = (search needs, search needs, search needs)
+
 array-share-prefix-s : tie.Need-array-share-prefix-s
-array-share-prefix-s c =
-    let n : length (c .before .before .before .before .before .before .before .before .before .before .args .request .s) ≡ 118 = search needs in
-    omega (arith, c .before .before .before .before .before .before .before .before .before .before .pre)
+array-share-prefix-s c = omega (arith, c .before .before .before .before .before .before .before .before .before .before .before .pre .3, sizes (c .before .before .before .before .before .before .before .before .before .before .before) .0)
 
 slice-aggregate-unseal-2 : tie.Need-slice-aggregate-unseal-2
 slice-aggregate-unseal-2 c =
-    let request = c .before .before .before .before .before .before .before .before .before .before .before .args .request in
-    let n : length (request .s) ≡ 118 = search needs in
-    omega (arith, c .before .before .before .before .before .before .before .before .before .before .before .pre, length-take (request .«s_len») (request .s))
+    let request = c .before .before .before .before .before .before .before .before .before .before .before .before .args .request in
+    omega (arith, c .before .before .before .before .before .before .before .before .before .before .before .before .pre .3, sizes (c .before .before .before .before .before .before .before .before .before .before .before .before) .0, length-take (request .«s_len») (request .s))
 
 unseal-requires : tie.Need-unseal-requires
 unseal-requires c κs =
-    let pre = c .before .before .before .before .before .before .before .before .before .before .before .before .pre in
-    let request = c .before .before .before .before .before .before .before .before .before .before .before .before .args .request in
-    let iv : length (request .iv) ≡ 12 = search needs in
-    let tag : length (request .tag) ≡ 16 = search needs in
-    (pre .1, iv, omega (arith, pre, length-take (request .«s_len») (request .s)), tag)
+    let request = c .before .before .before .before .before .before .before .before .before .before .before .before .before .args .request in
+    let size = sizes (c .before .before .before .before .before .before .before .before .before .before .before .before .before) in
+    (c .before .before .before .before .before .before .before .before .before .before .before .before .before .pre .2, size .1, omega (arith, c .before .before .before .before .before .before .before .before .before .before .before .before .before .pre .3, length-take (request .«s_len») (request .s)), size .2)
 
 code-requires : tie.Need-code-requires
 code-requires c κs =
-    let pre = c .before .before .before .before .before .before .before .before .before .before .before .before .before .before .before .before .before .before .before .pre in
-    let key : length (c .before .before .before .before .before .before .unseal .result .key) ≡ 32 = search needs in
-    (omega arith, pre .0, pre .3, pre .4, pre .5, pre .6)
+    let pre = c .before .before .before .before .before .before .before .before .before .before .before .before .before .before .before .before .before .before .before .before .before .before .before .before .before .pre in
+    let key : length (c .before .before .before .before .before .before .before .before .before .before .before .unseal .result .key) ≡ 32 = search needs in
+    (pre .0, omega arith, pre .1, pre .4, pre .5, pre .6, pre .7)
 
 returns : tie.Need-returns
 returns c value reply h =
@@ -40,21 +39,21 @@ returns c value reply h =
 
 returns-2 : tie.Need-returns-2
 returns-2 c value reply h =
-    let u = c .before .before .before .before .unseal in
-    lapsed _ _ h (u .result) (u .ensures) (not-false (u .result .good) (c .before .before .if1 .left)) (c .if2 .taken)
+    let u = c .before .before .before .before .before .before .unseal in
+    lapsed _ _ h (u .result) (u .ensures) (not-false (u .result .good) (c .before .before .before .before .if1 .left)) (c .if2 .taken)
 
 returns-3 : tie.Need-returns-3
 returns-3 c value reply h =
-    let u = c .before .before .before .before .before .before .before .before .before .before .unseal in
-    let good = not-false (u .result .good) (c .before .before .before .before .before .before .before .before .if1 .left) in
-    unsigned _ _ h (u .result) (u .ensures) good (c .before .before .before .before .before .before .if2 .left) _ (c .before .before .before .code .ensures)
+    let u = c .before .before .before .before .before .before .before .before .before .before .before .before .before .before .before .unseal in
+    let good = not-false (u .result .good) (c .before .before .before .before .before .before .before .before .before .before .before .before .before .if1 .left) in
+    unsigned _ _ h (u .result) (u .ensures) good (c .before .before .before .before .before .before .before .before .before .if2 .left) _ (c .before .before .before .code .ensures)
     (sym (c .before .same-code .ensures) ∙ not-true (c .before .same-code .result) (c .if3 .taken))
 
 returns-4 : tie.Need-returns-4
 returns-4 c value reply h =
-    let u = c .before .before .before .before .before .before .before .before .before .before .unseal in
-    let good = not-false (u .result .good) (c .before .before .before .before .before .before .before .before .if1 .left) in
-    vouched _ _ h (u .result) (u .ensures) good (c .before .before .before .before .before .before .if2 .left) _ (c .before .before .before .code .ensures)
+    let u = c .before .before .before .before .before .before .before .before .before .before .before .before .before .before .before .unseal in
+    let good = not-false (u .result .good) (c .before .before .before .before .before .before .before .before .before .before .before .before .before .if1 .left) in
+    vouched _ _ h (u .result) (u .ensures) good (c .before .before .before .before .before .before .before .before .before .if2 .left) _ (c .before .before .before .code .ensures)
     (sym (c .before .same-code .ensures) ∙ not-false (c .before .same-code .result) (c .if3 .left))
 
 pub vouch-spec : {M : Type 1} → statement M
