@@ -208,7 +208,7 @@ module _ (q : Request) (state : State) (d : Decision) (h : Decides q state d) wh
       by false false p r = s
 
   stored : (nonces : Bool) → (nonces ≡ true → d .next ≡ nextOf q (state .table)) → d .place ≡ placeOf (state .table) (ivOf q)
-      → cond nonces (with-record (state .table) (d .place) (d .next)) (state .table) ≡ cond nonces (with-record (state .table) (placeOf (state .table) (ivOf q)) (nextOf q (state .table))) table
+      → cond nonces (with-record (state .table) (d .place) (d .next)) (state .table) ≡ cond nonces (with-record (state .table) (placeOf (state .table) (ivOf q)) (nextOf q (state .table))) (state .table)
   stored true e p = rw (e refl, p)
   stored false e p = refl
 

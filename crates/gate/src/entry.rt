@@ -20,7 +20,7 @@ pub struct Entry {
 
 // The number of a table whose size fits. Another is not looked at.
 pub fn table_number(fits: bool, table: &[u8]) -> u32
-    ensures { λ r. ⌜ fits ≡ true → r ≡ first (stateChecks (holding (now (table .entry)))) ⌝ }
+    ensures { λ r. ⌜ (fits ≡ true → r ≡ first (stateChecks (holding (now (table .entry))))) ⌝ }
 {
     if !fits {
         return 0;

@@ -5,7 +5,8 @@ ghost use Prim.Native.Nat.{_≤_, _<_};
 ghost use lib.ListN.{length};
 ghost use Rattle.names.specs.Walk.{Known};
 ghost use Rattle.orders.specs.Orders.{orders};
-ghost use Rattle.table.specs.Table.{places, Within};
+ghost use Rattle.table.specs.Table.{places, Within, Placed};
+ghost use Rattle.table.specs.Session.{placeOf};
 ghost use Rattle.stages.specs.Request.{requestOf};
 ghost use Rattle.stages.specs.Parts.{invalidates};
 ghost use Rattle.stages.specs.Stages.{tells};
@@ -13,11 +14,13 @@ ghost use Rattle.gate.specs.State.{holding};
 ghost use Rattle.gate.specs.Decisions.{Decides, leftBy, AnswerIs};
 use super::entry;
 use super::sizes;
+use armor::Request;
 use orders::Numbers;
 use stages::reading;
 use stages::settling;
 use stages::settling::Decision;
 use table::place;
+use table::place::Place;
 use table::session;
 use window::time::Time;
 
@@ -49,8 +52,7 @@ pub fn decide<'a>(
         return settling::refused(read.number);
     }
     let request = read.request;
-    let iv = request.iv;
-    let place = place::find(table, &iv);
+    let place = place_of(table, request);
     let held = session::held_at(table, place);
     settling::settle(
         known,
@@ -67,6 +69,14 @@ pub fn decide<'a>(
         place,
         held,
     )
+}
+
+// Where the request's session stands.
+fn place_of(table: &[u8], request: Request) -> Place
+    ensures { λ r. ⌜ Placed (placeOf (now (table .entry)) (request .iv)) (places (now (table .entry))) r ⌝ }
+{
+    let iv = request.iv;
+    place::find(table, &iv)
 }
 
 // Whether a number frees the session's record and tells the client.

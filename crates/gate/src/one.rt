@@ -14,6 +14,7 @@ ghost use Rattle.gate.specs.Decisions.{Decides};
 use super::entry;
 use super::judge;
 use super::sizes;
+use armor::Request;
 use orders::Numbers;
 use stages::reading;
 use stages::settling;
@@ -104,8 +105,7 @@ fn decide<'a>(
         return settling::refused(read.number);
     }
     let request = read.request;
-    let iv = request.iv;
-    let place = place_of(record, &iv);
+    let place = place_of(record, request);
     settling::settle(
         known,
         numbers,
@@ -134,10 +134,11 @@ fn record_number(record: Record) -> u32
 }
 
 // The record's place in a table of its own, if it is the session's.
-fn place_of(record: Record, iv: &[u8]) -> Place
-    ensures { λ r. ⌜ r ≡ placeOf (recordBytes «record») (now (iv .entry)) ⌝ }
+fn place_of(record: Record, request: Request) -> Place
+    ensures { λ r. ⌜ r ≡ placeOf (recordBytes «record») (request .iv) ⌝ }
 {
-    if record.is_of(iv) {
+    let iv = request.iv;
+    if record.is_of(&iv) {
         return Place::At(0);
     }
     Place::Nowhere

@@ -3,7 +3,8 @@
 use mathlib.Core.Path.{_∙_}
 use borrow.Author.Needs.{needs}
 use Rattle.orders.proofs.Orders.{good-mask, good-extra}
-use Rattle.names.proofs.Extra.{short-extra}
+use Rattle.names.proofs.Sizes.{short-extra}
+use Rattle.gate.specs.State.{holding}
 use Rattle.gate.specs.Calls.{Setup, setupOf}
 use Rattle.orders.specs.Orders.{ordersOf}
 use Rattle.gate.specs.Starts.{Starts}
@@ -17,9 +18,9 @@ asked b =
     setupOf (ordersOf (a .mask) (a .extra .now) (a .request-life) (a .idle) (a .session-life)) (a .clock) (a .server-key .now) (a .session-key .now) (a .iv .now) (a .session-id .now) (a .value .now) (a .reply .now)
 
 abbrev entry : tie.After-known-told → tie.Start
-entry c = c .before .before .before .before .before .before .before .before .before .before .before .before .before .before
+entry c = c .before .before .before .before .before .before .before .before .before .before .before .before .before .before .before .before
 
-chosen : (c : tie.After-known-told) → Starts (asked (entry c)) (entry c .args .table .now) (c .before .start .given .0 .0) (c .before .start .given .0 .1 .0)
+chosen : (c : tie.After-known-told) → Starts (asked (entry c)) (holding (entry c .args .table .now)) (c .before .start .given .0 .0) (c .before .start .given .0 .1 .0 .0)
 chosen c = rw (c .before .start .given .1) at (c .before .before .before .decide .ensures)
 
 apply-requires : tie.Need-apply-requires
@@ -28,8 +29,8 @@ apply-requires c κs =
     let passed = opened _ _ (start .none) in
     let orders = passed .orders in
     let sizes = lent _ _ (passed .sizes) in (
-      good-mask _ _ _ orders,
-      short-extra _ (good-extra _ _ _ orders),
+      good-mask _ orders,
+      short-extra _ (good-extra _ orders),
       sizes .server-key,
       sizes .session-key,
       sizes .iv,
@@ -51,6 +52,8 @@ pub gate-setup-spec : {M : Type 1} → statement M
 gate-setup-spec =
     tie.close
     (tie.spec
+    (λ c κs. search needs)
+    (λ c. search needs)
     (λ c κs. search needs)
     (λ c. search needs)
     apply-requires

@@ -12,14 +12,14 @@ use Rattle.gate.proofs.entry.enter.Tie as tie
 returns : tie.Need-returns
 unfolding entryChecks
 returns c s h = record {
-  is = c .refused .ensures ∙ sym (simp (not-true (c .before .before .args .fits) (c .before .if1 .taken)));
+  is = c .refused .ensures ∙ sym (simp (not-true (c .before .before .before .before .args .fits) (c .before .if1 .taken)));
   limits = λ z. absurd (omega (arith, c .refused .ensures));
 }
 
 returns-2 : tie.Need-returns-2
 unfolding entryChecks
 returns-2 c s h =
-    let fits = not-false (c .before .before .before .before .before .args .fits) (c .before .before .before .before .if1 .left) in
+    let fits = not-false (c .before .before .before .before .before .before .before .args .fits) (c .before .before .before .before .if1 .left) in
     let bad = checked-bad _ (sym (c .before .before .before .check .ensures) ∙ c .before .enum-told .given .1) in
     record {
       is = c .refused2 .ensures ∙ sym (simp (fits, bad));
@@ -29,7 +29,7 @@ returns-2 c s h =
 returns-3 : tie.Need-returns-3
 unfolding entryChecks
 returns-3 c s h =
-    let fits = not-false (c .before .before .before .before .before .args .fits) (c .before .before .before .before .if1 .left) in
+    let fits = not-false (c .before .before .before .before .before .before .before .args .fits) (c .before .before .before .before .if1 .left) in
     let good = checked-good _ _ (sym (c .before .before .before .check .ensures) ∙ c .before .limits .given .1) in
     record { is = h fits ∙ sym (simp (fits, good .0)); limits = λ z. good .1 }
 

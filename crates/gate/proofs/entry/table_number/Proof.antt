@@ -9,7 +9,7 @@ use Rattle.gate.proofs.entry.table_number.Statement.{statement}
 use Rattle.gate.proofs.entry.table_number.Tie as tie
 
 returns : tie.Need-returns
-returns c fits = absurd (true≢false (sym fits ∙ not-true (c .before .args .fits) (c .if1 .taken)))
+returns c fits = absurd (true≢false (sym fits ∙ not-true (c .before .before .args .fits) (c .if1 .taken)))
 
 returns-2 : tie.Need-returns-2
 unfolding stateChecks

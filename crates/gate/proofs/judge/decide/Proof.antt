@@ -1,11 +1,9 @@
 -- `judge::decide` meets its contract, one stage after the other.
 -- Assumes nothing.
-use mathlib.Core.Path.{_≡_, refl, sym, subst, _∙_}
+use mathlib.Core.Path.{_≡_, sym, subst, _∙_}
 use mathlib.Core.Bool.{Bool}
 use mathlib.Core.List.{List, []}
-use Prim.Native.Nat.{ℕ}
 use borrow.Author.Needs.{needs}
-use lib.ListN.{length}
 use Rattle.orders.specs.Orders.{orders}
 use Rattle.orders.proofs.Orders.{good-extra}
 use Rattle.stages.specs.Request.{Request, requestOf}
@@ -21,3 +19,81 @@ use Rattle.gate.proofs.Judging.{sized, unentered, unread, decided-by}
 use Rattle.gate.proofs.judge.decide.Statement.{statement}
 use Rattle.gate.proofs.judge.decide.Tie as tie
 
+abbrev asked : tie.Start → Request
+asked c =
+    let a = c .args in
+    requestOf (orders (a .numbers) (a .extra .now)) (a .clock .0) (a .server-key .now) (a .value .now) (a .head .now) (a .aside .now) (a .path .now) (a .body .now) (a .reply .now)
+
+abbrev lent : tie.Start → State
+lent c = holding (c .args .table .now)
+
+abbrev begun : tie.After-enter → tie.Start
+begun c = c .before .before .before .before .before .before .before .before .before .before .before .before .before
+
+-- checks 1 to 3
+entry : (c : tie.After-enter) → Enters (requestFits (asked (begun c)) (lent (begun c))) (asked (begun c) .orders) (lent (begun c)) (c .enter .result)
+entry c =
+    subst (λ (b : Bool). Enters b (asked (begun c) .orders) (lent (begun c)) (c .enter .result))
+    (c .before .before .request-fits .ensures _ _)
+    (c .enter .ensures (lent (begun c)) (c .before .table-number .ensures))
+
+returns : tie.Need-returns
+unfolding entryPart
+returns c = unentered (asked (begun (c .before .before .before))) (lent (begun (c .before .before .before))) _ _ (c .refused .ensures) (entry (c .before .before .before) .is) (c .before .if1 .taken)
+
+passed : (c : tie.Else1) → first (entryPart (asked (begun (c .before .before))) (lent (begun (c .before .before)))) ≡ 0
+unfolding entryPart
+passed c = sym (entry (c .before .before) .is) ∙ c .if1 .left
+
+entered : (c : tie.Else1) → Entered (requestFits (asked (begun (c .before .before))) (lent (begun (c .before .before)))) (asked (begun (c .before .before)) .orders) (lent (begun (c .before .before)))
+unfolding entryPart
+entered c = entry-passed _ _ _ (passed c)
+
+read-requires : tie.Need-read-requires
+read-requires c κs = (c .before .before .before .before .before .before .before .before .before .before .before .before .before .before .before .pre, good-extra _ (entered c .orders), sized (asked (begun (c .before .before))) _ (entered c .sizes) .value)
+
+returns-2 : tie.Need-returns-2
+returns-2 c =
+    unread (asked (begun (c .before .before .before .before .before .before))) (lent (begun (c .before .before .before .before .before .before))) _ (c .before .before .before .read .result .number) (passed (c .before .before .before .before)) (c .refused2 .ensures)
+    (c .before .before .before .read .ensures _ _ _ _ _ .is) (c .before .if2 .taken)
+
+-- the session's place, and what its record holds
+stands : (c : tie.After-held-at) → StandsAt (asked (begun (c .before .before .before .before .before .before .before .before))) (lent (begun (c .before .before .before .before .before .before .before .before)) .table) (c .before .place-of .result) (c .held-at .result)
+unfolding ivOf fieldsOf
+stands c =
+    let q = asked (begun (c .before .before .before .before .before .before .before .before)) in
+    let held = c .before .before .before .before .before .read .ensures (q .clock) (q .server-key) (q .path) (q .body) (q .reply) .holds (c .before .before .before .if2 .left) in
+    record { at = rw (← (held .vector)) (sym (c .before .place-of .ensures .is)); holds = λ there. sym (c .held-at .ensures) }
+
+settle-requires : tie.Need-settle-requires
+settle-requires c κs =
+    let size = sized (asked (begun (c .before .before .before .before .before .before .before .before))) _ (entered (c .before .before .before .before .before .before) .sizes) in
+    let held = c .before .before .before .before .before .read .ensures 0 [] [] [] [] .holds (c .before .before .before .if2 .left) in
+    (c .before .before .before .before .before .before .before .before .before .before .before .before .before .before .before .before .before .before .before .before .before .pre, good-extra _ (entered (c .before .before .before .before .before .before) .orders), size .key, held .token-fits, size .head, size .aside, size .path, size .body)
+
+returns-3 : tie.Need-returns-3
+unfolding ivOf fieldsOf
+returns-3 c =
+    let q = asked (begun (c .before .before .before .before .before .before .before .before .before)) in
+    let read = c .before .before .before .before .before .before .read .ensures (q .clock) (q .server-key) (q .path) (q .body) (q .reply) in
+    let held = read .holds (c .before .before .before .before .if2 .left) in
+    decided-by q (lent (begun (c .before .before .before .before .before .before .before .before .before))) _ (passed (c .before .before .before .before .before .before .before)) (sym (read .is) ∙ c .before .before .before .before .if2 .left) (sized q _ (entered (c .before .before .before .before .before .before .before) .sizes) .reply)
+    (rw (← (held .vector), ← (c .before .before .place-of .ensures .is)) (c .before .before .place-of .ensures .within))
+    (c .settle .ensures _ _ _ held (entry (c .before .before .before .before .before .before .before .before .before) .limits (c .before .before .before .before .before .before .before .if1 .left)) (stands (c .before)))
+
+pub decide-spec : {M : Type 1} → statement M
+decide-spec =
+    tie.close
+    (tie.spec
+    (λ c κs. search needs)
+    (λ c κs. search needs)
+    (λ c κs. search needs)
+    (λ c κs. search needs)
+    returns
+    read-requires
+    (λ c κs. search needs)
+    returns-2
+    (λ c κs. search needs)
+    (λ c κs. c .place-of .ensures .within)
+    settle-requires
+    returns-3)

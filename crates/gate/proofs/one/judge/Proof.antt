@@ -12,15 +12,15 @@ use Rattle.gate.proofs.one.judge.Tie as tie
 
 abbrev asked : tie.Start → Request
 asked c =
-    requestOf (ordersOf (c .args .mask) (c .args .extra .now) (c .args .request-life) (c .args .idle) (c .args .session-life)) (c .args .clock) (c .args .server-key .now)
-    (c .args .value .now) (c .args .head .now) (c .args .aside .now) (c .args .path .now) (c .args .body .now) (c .args .reply .now)
+    let a = c .args in
+    requestOf (ordersOf (a .mask) (a .extra .now) (a .request-life) (a .idle) (a .session-life)) (a .clock) (a .server-key .now) (a .value .now) (a .head .now) (a .aside .now) (a .path .now) (a .body .now) (a .reply .now)
 
 fits : (c : tie.Start) → Fits (c .args .«record»)
 fits c =
     record { used = search needs; iv = search needs; expiry = search needs; any = search needs; highest = search needs; bits = search needs }
 
 after-requires : tie.Need-after-requires
-after-requires c κs = rw (one-place _ (fits (c .before .before .before .before .before .before .before .before .before .before .before))) at (c .before .decide .ensures .within)
+after-requires c κs = rw (one-place _ (fits (c .before .before .before .before .before .before .before .before .before .before .before .before .before))) at (c .before .decide .ensures .within)
 
 answer-requires : tie.Need-answer-requires
 answer-requires c κs =
@@ -30,7 +30,14 @@ answer-requires c κs =
 returns : tie.Need-returns
 returns c =
     c .before .before .answer .ensures _
-    ∙ rw (c .before .before .before .before .after .ensures) (applied-judged (asked (c .before .before .before .before .before .before .before .before .before .before .before .before .before .before .before .before)) _ _ (c .before .before .before .before .before .before .decide .ensures))
+    ∙ rw (c .before .before .before .before .after .ensures) (applied-judged (asked (c .before .before .before .before .before .before .before .before .before .before .before .before .before .before .before .before .before .before)) _ _ (c .before .before .before .before .before .before .decide .ensures))
 
 pub judge-spec : {M : Type 1} → statement M
-judge-spec = tie.close (tie.spec (λ c κs. search needs) after-requires answer-requires (λ c. search needs) returns)
+judge-spec = tie.close     (tie.spec
+    (λ c κs. search needs)
+    (λ c. search needs)
+    (λ c κs. search needs)
+    after-requires
+    answer-requires
+    (λ c. search needs)
+    returns)

@@ -25,6 +25,9 @@ setup-requires c κs =
     let fits = few (c .before .before .before .before .before) in
     search needs
 
+store-requires : tie.Need-store-requires
+store-requires c κs = c .before .before .before .before .before .before .before .before .before .before .before .before .before .before .before .before .before .before .pre .7
+
 -- so that 256 times the reply's length fits 32 bits
 short : (c : tie.After-setup) → c .setup .result ≤ 459
 short c =
@@ -56,7 +59,7 @@ apply-spec =
     (λ c. search needs)
     setup-requires
     (λ c κs. search needs)
-    (λ c κs. search needs)
+    store-requires
     cast-result
     mul-result
     (λ c. search needs)

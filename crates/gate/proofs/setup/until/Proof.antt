@@ -16,18 +16,18 @@ returns c s m e = record { is = simp (m, ne-eqb _ _ (c .if1 .taken)); some = sea
 returns-2 : tie.Need-returns-2
 unfolding lastingPart bit
 returns-2 c s m e =
-    let a = c .before .before .args in
+    let a = c .before .before .before .args in
     record {
-      is = simp (m, e, eq-eqb _ _ (c .before .if1 .left), lt-ltb 4294967295 (a .clock + a .life) (omega arith));
+      is = simp (m, e, eq-eqb _ _ (c .before .before .if1 .left), lt-ltb 4294967295 (a .clock .0 + a .life) (omega arith));
       some = search needs;
     }
 
 returns-3 : tie.Need-returns-3
 unfolding lastingPart bit
 returns-3 c s m e =
-    let a = c .before .before .args in
+    let a = c .before .before .before .before .args in
     record {
-      none = simp (m, e, eq-eqb _ _ (c .before .if1 .left), le-ltb 4294967295 (a .clock + a .life) (omega arith));
+      none = simp (m, e, eq-eqb _ _ (c .before .before .before .if1 .left), le-ltb 4294967295 (a .clock .0 + a .life) (omega arith));
       is = search needs;
     }
 

@@ -7,7 +7,7 @@ use Rattle.gate.proofs.sizes.lent_fits.Tie as tie
 
 returns : tie.Need-returns
 unfolding lentFits
-returns c o clock = simp (c .between .ensures)
+returns c o clock = simp (c .long-from .ensures)
 
 pub lent-fits-spec : {M : Type 1} → statement M
 lent-fits-spec = tie.close (tie.spec (λ c κs. search needs) returns)
