@@ -1,34 +1,24 @@
 -- Document 01, 'How far each contract reaches': 'Every public function has a contract that determines result, reply buffer and table for all
 -- inputs, refusals too; that any two results allowed by it are equal is proved'. Here for the calls that are exported to C, gate_setup,
 -- gate_judge, gate_end and gate_judge_one, and for the primitives: over everything that can be lent to a call, two results that its contract
--- allows are one. docs/ goes through the functions that are not exported: most have an equation for a contract, which leaves no choice.
+-- allows are one. docs/CONTRACTS.md goes through the functions that are not exported: most have an equation for a contract, which leaves no choice.
 -- Assumes nothing.
 use mathlib.Core.Path.{_≡_, refl, sym, ap, _∙_}
 use mathlib.Core.List.{List, []}
 use Prim.Native.Nat.{ℕ, _+_, _*_, _/_, _%_}
 use native.Mathlib.Omega.{arith}
-use Rattle.cells.proofs.Digits.{decimal-injective}
-use Rattle.names.specs.Walk.{Known}
-use Rattle.table.specs.declared.place.Place.the-variants as Place
 use Rattle.table.specs.declared.session.Record.{Record}
 use Rattle.table.specs.Record.{recordBytes, recordOf, Fits}
 use Rattle.table.proofs.Records.{recordOf-bytes}
-use Rattle.token.specs.declared.expiry.Expiry.{Expiry}
-use Rattle.token.specs.declared.expiry.Expiry.the-variants as E
-use Rattle.token.specs.Expiry.{ExpiryIs}
-use Rattle.gate.specs.declared.setup.Start.{Start}
-use Rattle.gate.specs.declared.setup.Start.the-variants as S
 use Rattle.gate.specs.Calls.{Setup}
 use Rattle.stages.specs.Request.{Request}
 use Rattle.gate.specs.State.{State, holding, Outcome, outcome}
 use Rattle.gate.specs.Setup.{setUp}
 use Rattle.gate.specs.Judge.{judged}
 use Rattle.gate.specs.End.{ended}
-use Rattle.gate.specs.Starts.{StartIs}
 use Rattle.primitives.specs.Answer.{Answer, answer}
 use Rattle.primitives.specs.Digests.{sha512Call, hmacCall}
 use Rattle.primitives.specs.Sealing.{SealAnswer, sealAnswer, sealCall, openCall}
-use Rattle.names.proofs.Joined.{names-in-injective}
 
 -- what gate_setup and gate_judge leave: the answer, the reply buffer and the state
 pub record Result : Type 0 where
@@ -113,24 +103,3 @@ seal-determined key iv text out tag a b p q = p ∙ sym q
 pub open-determined : (key iv text tag out : List ℕ) (a b : Answer)
     → answer (a .number) (a .out) ≡ openCall key iv text tag out → answer (b .number) (b .out) ≡ openCall key iv text tag out → a ≡ b
 open-determined key iv text tag out a b p q = p ∙ sym q
-
--- three of the others have a relation for a contract, and it leaves no choice either: token::expiry::read,
-pub expiry-determined : (digits : List ℕ) (a b : Expiry) → ExpiryIs digits a → ExpiryIs digits b → a ≡ b
-expiry-determined digits (E.Is m) (E.Is n) p q = ap (λ (t : ℕ). E.Is (record { 0 = t })) (decimal-injective (m .0) (n .0) (sym (p .0) ∙ q .0))
-expiry-determined digits (E.Is m) E.Bad p q = absurd (q (m .0) (p .1) (p .0))
-expiry-determined digits E.Bad (E.Is n) p q = absurd (p (n .0) (q .1) (q .0))
-expiry-determined digits E.Bad E.Bad p q = refl
-
--- gate::setup::decide
-pub start-determined : (s : Setup) (before : State) (a b : Start) → StartIs s before a → StartIs s before b → a ≡ b
-start-determined s before (S.At i m) (S.At j n) p q =
-    let there : Place.At i ≡ Place.At j = sym (p .is) ∙ q .is in
-    let until = p .until ∙ sym (q .until) in
-    cc
-start-determined s before (S.At i m) (S.Refused n) p q = absurd (omega (arith, p .none, q .is, q .some))
-start-determined s before (S.Refused m) (S.At j n) p q = absurd (omega (arith, q .none, p .is, p .some))
-start-determined s before (S.Refused m) (S.Refused n) p q = ap S.Refused (sym (p .is) ∙ q .is)
-
--- and names::known
-pub known-determined : (a b : List ℕ) → Known a → Known b → a ≡ b
-known-determined a b p q = names-in-injective a b (p ∙ sym q)

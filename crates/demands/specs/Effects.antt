@@ -1,13 +1,12 @@
 -- What each call may do to table and reply buffer, by its number: document 01, 'The numbers a call returns'.
 -- Assumes nothing.
-use mathlib.Core.Path.{_≡_, refl}
+use mathlib.Core.Path.{_≡_}
 use mathlib.Core.Bool.{true, false}
 use mathlib.Core.List.{List, [], _∷_, List·Memᴰ}
 use mathlib.Core.Logic.{_⊎_}
 use Prim.Native.Nat.{ℕ, _≤_}
 use lib.ListN.{length, take, drop}
-use lib.Seq.{take-append-seam, drop-append-seam}
-use Rattle.cells.specs.Runs.{Bytes, fronted}
+use Rattle.cells.specs.Runs.{Bytes}
 use Rattle.window.specs.Window.{stepOf}
 use Rattle.table.specs.declared.place.Place.the-variants.{At}
 use Rattle.table.specs.Record.{freed, begun, windowOf, withWindow}
@@ -16,7 +15,7 @@ use Rattle.signed.specs.SignedText.{ordersNonce}
 use Rattle.reply.specs.Replies.{invalidation}
 use Rattle.gate.specs.Calls.{Setup}
 use Rattle.stages.specs.Request.{Request}
-use Rattle.gate.specs.State.{State, Outcome, replied}
+use Rattle.gate.specs.State.{State, Outcome}
 use Rattle.gate.specs.Setup.{expiryOf, setupChecks, replyOf}
 use Rattle.stages.specs.Parts.{ivOf, nonceOf, tokenOf}
 use Rattle.gate.specs.Judge.{requestChecks}

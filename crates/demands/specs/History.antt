@@ -2,13 +2,12 @@
 -- these calls changed'. Calls, IVs and nonces stand with the latest first.
 -- Assumes nothing.
 use mathlib.Core.Path.{_≡_}
-use mathlib.Core.Bool.{false, cond, _&&_}
+use mathlib.Core.Bool.{Bool, false, cond, _&&_, _||_}
 use mathlib.Core.List.{List, [], _∷_}
 use Prim.Native.Nat.{ℕ, _*_}
 use lib.Dec.{eqb}
 use lib.ListN.{replicate}
 use Rattle.cells.specs.Runs.{same}
-use Rattle.armor.specs.Fields.{among}
 use Rattle.window.specs.History.{keep}
 use Rattle.table.specs.Record.{size}
 use Rattle.signed.specs.SignedText.{ordersNonce}
@@ -75,7 +74,12 @@ unfoldable pub lentIn : List Call → List (List ℕ)
 lentIn [] = []
 lentIn (call ∷ earlier) = withLent call (lentIn earlier)
 
+-- an IV stands in a list
+abbrev pub ivAmong : List (List ℕ) → List ℕ → Bool
+ivAmong [] iv = false
+ivAmong (other ∷ ivs) iv = same iv other || ivAmong ivs iv
+
 -- no IV stands there twice
 abbrev pub Apart : List (List ℕ) → Type 0
 Apart [] = Unit
-Apart (iv ∷ ivs) = (among ivs iv ≡ false) × Apart ivs
+Apart (iv ∷ ivs) = (ivAmong ivs iv ≡ false) × Apart ivs

@@ -1,6 +1,6 @@
 -- Setting up a session: its checks in the parts that the stages make, what passing them says, and what a decision comes to.
 -- Assumes nothing.
-use mathlib.Core.Path.{_≡_, refl, sym, _∙_}
+use mathlib.Core.Path.{_≡_, refl, sym, ap, _∙_}
 use mathlib.Core.Bool.{Bool, true, false, cond, not}
 use mathlib.Core.List.{List, [], _∷_, _++_}
 use mathlib.Core.Option.{Option, none, some, Option·getD}
@@ -16,6 +16,7 @@ use Rattle.armor.specs.Fields.{the, setupFields}
 use Rattle.armor.specs.Keys.{keyR}
 use Rattle.armor.specs.Numerals.{maskOf}
 use Rattle.armor.specs.Value.{Field, grammar, carried}
+use Rattle.table.specs.declared.place.Place.the-variants as Place
 use Rattle.table.proofs.Tests.{both}
 use Rattle.stages.specs.Checks.{Check, check, first, missing}
 use Rattle.stages.proofs.Checks.{none-holds, passed-by, stopped-by, first-small}
@@ -140,3 +141,13 @@ module _ (s : Setup) (state : State) where
   refuses n r =
       rw (r .is, ne-eqb n 0 (λ z. omega (arith, r .some)))
       (answer-is n n 0 (s .reply) state (omega arith) (rw (r .is) at (first-small (setupChecks s state) (setup-small s state))))
+
+-- two answers that `setup::decide` may give are one
+pub start-determined : (s : Setup) (state : State) (a b : Start) → StartIs s state a → StartIs s state b → a ≡ b
+start-determined s state (S.At i m) (S.At j n) p q =
+    let there : Place.At i ≡ Place.At j = sym (p .is) ∙ q .is in
+    let until : m ≡ n = ap (λ (t : ℕ). record { 0 = t }) (p .until ∙ sym (q .until)) in
+    cc
+start-determined s state (S.At i m) (S.Refused n) p q = absurd (omega (arith, p .none, q .is, q .some))
+start-determined s state (S.Refused m) (S.At j n) p q = absurd (omega (arith, q .none, p .is, p .some))
+start-determined s state (S.Refused m) (S.Refused n) p q = ap S.Refused (sym (p .is) ∙ q .is)

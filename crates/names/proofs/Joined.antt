@@ -9,6 +9,7 @@ use borrow.Author.Tests.{eqb-true}
 use lib.Dec.{eqb, lit≤}
 use lib.ListN.{length}
 use Rattle.names.specs.Extra.{comma, ontoFirst, namesIn}
+use Rattle.names.specs.Walk.{Known}
 
 -- names with commas between them
 abbrev rejoined : List (List ℕ) → List ℕ
@@ -46,5 +47,9 @@ names-in-joined (b ∷ bs) = by (eqb b comma) refl (names-in-joined bs)
     by true e rest = new-name (namesIn bs) (some-name bs) ∙ ap₂ _∷_ (sym (eqb-true b comma e)) rest
     by false e rest = first-name b (namesIn bs) ∙ ap (λ (l : List ℕ). b ∷ l) rest
 
-pub names-in-injective : (a b : List ℕ) → namesIn a ≡ namesIn b → a ≡ b
+names-in-injective : (a b : List ℕ) → namesIn a ≡ namesIn b → a ≡ b
 names-in-injective a b e = sym (names-in-joined a) ∙ ap rejoined e ∙ names-in-joined b
+
+-- so what `known` answers leaves no choice
+pub known-determined : (a b : List ℕ) → Known a → Known b → a ≡ b
+known-determined a b p q = names-in-injective a b (p ∙ sym q)

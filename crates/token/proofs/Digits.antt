@@ -1,7 +1,7 @@
 -- The value of digits, one after the other, and which digits are those of a number.
 -- Assumes nothing.
 use mathlib.Core.List.{List, [], _∷_}
-use mathlib.Core.Path.{_≡_, sym, ap, _∙_}
+use mathlib.Core.Path.{_≡_, refl, sym, ap, _∙_}
 use Prim.Native.Nat.{ℕ, _+_, _-_, _*_, _^_, _<_, _≤_}
 use native.Mathlib.Nat.{pow-le-pow-right}
 use native.Mathlib.Numerals.{add-one}
@@ -10,7 +10,10 @@ use lib.ListN.{length, getD, take, drop, length-drop}
 use lib.Seq.{take-suc, take-all}
 use Rattle.cells.specs.Decimal.{decimal, valueAfter, Shown}
 use Rattle.cells.specs.declared.decimal.Decimal.{Decimal}
-use Rattle.cells.proofs.Digits.{value-append, value-decimal}
+use Rattle.cells.proofs.Digits.{value-append, value-decimal, decimal-injective}
+use Rattle.token.specs.declared.expiry.Expiry.{Expiry}
+use Rattle.token.specs.declared.expiry.Expiry.the-variants as E
+use Rattle.token.specs.Expiry.{ExpiryIs}
 
 pub one-more : (digits : List ℕ) (i v : ℕ) → i < length digits → v ≡ valueAfter 0 (take i digits)
     → v * 10 + (getD digits i 0 - 48) ≡ valueAfter 0 (take (i + 1) digits)
@@ -34,3 +37,10 @@ only-number digits n e = ap (valueAfter 0) e ∙ value-decimal n
 -- the part of an array that shows a number
 pub shown-piece : (n : ℕ) (r : Decimal) → Shown n r → take (20 - r .start) (drop (r .start) (r .all)) ≡ decimal n
 shown-piece n r h = take-all (20 - r .start) (drop (r .start) (r .all)) (omega (arith, length-drop (r .start) (r .all), h .size)) ∙ h .shows
+
+-- two answers that `expiry::read` may give are one
+pub expiry-determined : (digits : List ℕ) (a b : Expiry) → ExpiryIs digits a → ExpiryIs digits b → a ≡ b
+expiry-determined digits (E.Is s) (E.Is t) p q = ap (λ (n : ℕ). E.Is (record { 0 = n })) (decimal-injective (s .0) (t .0) (sym (p .0) ∙ q .0))
+expiry-determined digits (E.Is s) E.Bad p q = absurd (q (s .0) (p .1) (p .0))
+expiry-determined digits E.Bad (E.Is t) p q = absurd (p (t .0) (q .1) (q .0))
+expiry-determined digits E.Bad E.Bad p q = refl

@@ -12,7 +12,6 @@ use lib.Dec.{eqb}
 use lib.ListN.{length, getD, set, replicate, length-set, length-replicate, getD-replicate}
 use Rattle.cells.specs.Runs.{same}
 use Rattle.cells.proofs.Equality.{same-equal, same-self, same-not, same-comm}
-use Rattle.armor.specs.Fields.{among}
 use Rattle.window.specs.Window.{stepOf}
 use Rattle.window.specs.History.{isAccepted, keep}
 use Rattle.window.proofs.Tracks.{Tracks, tracks-fresh, right}
@@ -27,7 +26,7 @@ use Rattle.table.proofs.Found.{found-at, found-nowhere, nowhere-found, at-found
 use Rattle.table.proofs.Meaning.{freed-sound}
 use Rattle.table.proofs.Stored.{Alone, stored-here, stored-other, stored-well, found-kept, alone-new, alone-same}
 use Rattle.table.proofs.Sessions.{begun-sound, begun-fits, stepped-sound, stepped-fits, windowOf-with}
-use Rattle.demands.specs.History.{Apart}
+use Rattle.demands.specs.History.{Apart, ivAmong}
 
 -- the records, the IVs set up so far, and the nonces accepted so far under each IV
 pub record Sessions (rs : List Record) (ivs : List (List ℕ)) (nonces : List ℕ → List ℕ) : Type 0 where
@@ -36,7 +35,7 @@ pub record Sessions (rs : List Record) (ivs : List (List ℕ)) (nonces : List �
   -- a session's window stands for the nonces accepted in it
   pub known : Apart ivs → (iv : List ℕ) (i : ℕ) → found rs iv ≡ At i → Tracks (windowOf (getD rs i freed)) (nonces iv)
   -- under an IV that was not set up yet there is no session, and nothing was accepted
-  pub new : Apart ivs → (iv : List ℕ) → among ivs iv ≡ false → (found rs iv ≡ Nowhere) × (nonces iv ≡ [])
+  pub new : Apart ivs → (iv : List ℕ) → ivAmong ivs iv ≡ false → (found rs iv ≡ Nowhere) × (nonces iv ≡ [])
 
 -- free records
 pub free-sessions : (n : ℕ) → Sessions (replicate n freed) [] (λ iv. [])
@@ -96,7 +95,7 @@ module _ (rs : List Record) (i : ℕ) (r : Record) (h : i < length rs) where
       → Fits r → Sound r → Alone rs i r
       → (Apart ivs → (iv : List ℕ) → holds iv r ≡ true → Tracks (windowOf r) (nonces iv))
       → (Apart ivs → (iv : List ℕ) (j : ℕ) → (j ≡ i → ⊥) → found rs iv ≡ At j → Tracks (windowOf (getD rs j freed)) (nonces iv))
-      → (Apart ivs → (iv : List ℕ) → among ivs iv ≡ false → (found rs iv ≡ Nowhere) × (holds iv r ≡ false) × (nonces iv ≡ []))
+      → (Apart ivs → (iv : List ℕ) → ivAmong ivs iv ≡ false → (found rs iv ≡ Nowhere) × (holds iv r ≡ false) × (nonces iv ≡ []))
       → Sessions (set rs i r) ivs nonces
   stored ivs nonces w fit f s a here there none = record {
     well = stored-well rs i r h w s a;
@@ -140,7 +139,7 @@ module _ (rs : List Record) (ivs : List (List ℕ)) (nonces : List ℕ → List 
       rw none tracks-fresh)
       (λ apart other j n. s .known (apart .1) other j)
       (λ apart other o.
-      let parts = neither (same other iv) (among ivs other) o in
+      let parts = neither (same other iv) (ivAmong ivs other) o in
       let old = s .new (apart .1) other (parts .1) in
       (old .0, same-comm iv other ∙ parts .0, old .1))
 

@@ -6,7 +6,9 @@ use mathlib.Core.List.{List}
 use Prim.Native.Nat.{ℕ, _*_}
 use borrow.Author.Tests.{eqb-true}
 use lib.Dec.{eqb}
-use Rattle.cells.specs.Runs.{spliced}
+use lib.ListN.{length, drop}
+use lib.Seq.{take-append-seam, drop-append-seam}
+use Rattle.cells.specs.Runs.{spliced, fronted}
 use Rattle.window.specs.Window.{stepOf}
 use Rattle.table.specs.declared.session.Record.{Record}
 use Rattle.table.specs.declared.place.Place.the-variants.{At}

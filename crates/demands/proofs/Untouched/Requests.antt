@@ -41,7 +41,7 @@ freed-by q n state p = record {
   long = length-invalidation (tokenOf q .key);
   reply = fronted-replied n (invalidation (tokenOf q .key)) (q .reply) (holding (without (state .table) (ivOf q)));
   freed = λ place s. freed-there (state .table) (ivOf q) place (p .well) s;
-  kept = λ none. freed-nowhere (state .table) (ivOf q) none;
+  kept = λ none. ap holding (freed-nowhere (state .table) (ivOf q) none);
 }
 
 stepped-there : (q : Request) (state : State) (place : ℕ) → Passed q state → SessionAt (state .table) (ivOf q) place → Bytes (state .table)
@@ -68,7 +68,7 @@ accepts q state e =
       session = s;
       reply = fronted-replied 0 (tokenOf q .id) (q .reply) (holding (steppedFor q (state .table)));
       ordered = λ b o. stepped-there q state (s .place) p (s .is) b o;
-      unordered = λ o. unordered-table q (state .table) o;
+      unordered = λ o. ap holding (unordered-table q (state .table) o);
     }
 
 ten-or-thirteen : (n : ℕ) → invalidates n ≡ true → TenOrThirteen n
