@@ -130,7 +130,7 @@ request-same p q fp fq e =
     let alike : CalledAlike (signing p) (signing q) =
     λ ea ex. (
       carries (p .mask) (p .n) ∙ ap ordersNonce (masks ea) ∙ sym (carries (q .mask) (q .n)),
-      length-map _ (valueOf p) ∙ ap length (names (masks ea) ex) ∙ sym (length-map _ (valueOf q)),
+      length-map (coveredNames (p .mask) (p .extra)) (valueOf p) ∙ ap length (names (masks ea) ex) ∙ sym (length-map (coveredNames (q .mask) (q .extra)) (valueOf q)),
     ) in
     let s = signed-same (signing p) (signing q) alike e in
     let m = masks (ap (λ (x : Signed). x .ah) s) in
