@@ -7,18 +7,17 @@ use mathlib.Core.Option.{Option, none, some}
 use Prim.Native.Nat.{ℕ, zero, suc, _+_, _*_, _/_, _%_, _≤_}
 use native.Mathlib.Omega.{arith}
 use lib.Dec.{eqb}
-use lib.ListN.{length, take, drop, length-append, length-take, length-drop}
+use lib.ListN.{length, drop, length-append, length-take, length-drop}
 use Rattle.cells.proofs.Digits.{decimal-length}
-use Rattle.cells.specs.Spans.{leading}
 use Rattle.netstring.specs.Netstring.{netstrings}
 use Rattle.netstring.proofs.Laid.{length-netstring}
 use Rattle.armor.specs.Numerals.{numberBytes, maskBytes, hashMask}
 use Rattle.armor.proofs.Numerals.{length-numberBytes, length-maskBytes}
-use Rattle.names.specs.Names.{tokenByte, sameName, headerNames}
+use Rattle.names.specs.Names.{sameName, headerNames}
 use Rattle.names.specs.Extra.{extraNames, goodExtra}
 use Rattle.names.specs.Covered.{chosenFirst, chosen, coveredNames}
 use Rattle.names.proofs.Sizes.{short-extra, few-names}
-use Rattle.lines.specs.Lines.{Line, valueByte, frontLine, startsLine, lineText, linesUpTo, linesIn}
+use Rattle.lines.specs.Lines.{Line, frontLine, startsLine, lineText, linesUpTo, linesIn}
 use Rattle.lines.specs.Values.{blank, trimFront, keeping, trimEnd, trimmed, valueIn, orElse, coveredValue}
 use Rattle.signed.specs.SignedText.{carried, ordersNonce, nonceOf, coveredValues}
 use Rattle.signed.specs.Streamed.{openingParts}
