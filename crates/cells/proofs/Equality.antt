@@ -1,17 +1,16 @@
 -- The test of two runs: it holds exactly of equal runs, and a loop can make it by gathering the differences.
 -- Assumes nothing.
 use mathlib.Core.Path.{_≡_, refl, sym, ap, ap₂, _∙_}
-use mathlib.Core.List.{List, [], _∷_}
-use mathlib.Core.Bool.{Bool, true, false, false≢true, _&&_}
-use Prim.Native.Nat.{ℕ, zero, suc, _+_, _≤_, _<_}
-use native.Mathlib.Nat.{le-of-suc-le-suc, not-suc-le-zero}
+use mathlib.Core.List.{List, [], _∷_, _++_}
+use mathlib.Core.Bool.{Bool, true, false, false≢true, _&&_, and-true, and-assoc, and-comm}
+use Prim.Native.Nat.{ℕ, suc, _+_, _≤_, _<_}
 use native.Mathlib.Numerals.{add-one}
 use native.Mathlib.Omega.{arith}
 use borrow.Author.Tests.{eqb-true, eqb-false, eq-eqb, ne-eqb}
 use lib.Bits.{bitOr, bitXor, or-add-and, xor-add-and, and-le-l, and-le-r, xor-self}
 use lib.Dec.{eqb}
-use lib.ListN.{length, getD, take}
-use lib.Seq.{take-all}
+use lib.ListN.{length, getD, drop, drop-of-length-le}
+use lib.Seq.{drop-cons}
 use Rattle.cells.specs.Runs.{same}
 
 pub same-equal : (xs ys : List ℕ) → same xs ys ≡ true → xs ≡ ys
@@ -29,6 +28,12 @@ pub same-self : (xs : List ℕ) → same xs xs ≡ true
 unfolding same
 same-self [] = refl
 same-self (x ∷ xs) = rw (same-self xs) (eq-eqb x x refl)
+
+-- runs that begin alike
+pub same-prefix : (p xs ys : List ℕ) → same (p ++ xs) (p ++ ys) ≡ same xs ys
+unfolding same
+same-prefix [] xs ys = refl
+same-prefix (b ∷ p) xs ys = rw (eq-eqb b b refl) (and-true (same (p ++ xs) (p ++ ys)) ∙ same-prefix p xs ys)
 
 pub same-not : (xs ys : List ℕ) → (xs ≡ ys → ⊥) → same xs ys ≡ false
 same-not xs ys differ = by (same xs ys) refl
@@ -70,34 +75,14 @@ xor-zero x y =
     (λ q. omega (arith, xor-add-and x y, and-le-l x y, and-le-r x y))
     (λ q. ap (λ (n : ℕ). bitXor n y) q ∙ xor-self y)
 
-and-comm : (a b : Bool) → (a && b) ≡ (b && a)
-and-comm true true = refl
-and-comm true false = refl
-and-comm false true = refl
-and-comm false false = refl
-
-and-swap : (a b c : Bool) → ((a && b) && c) ≡ ((a && c) && b)
-and-swap true b c = and-comm b c
-and-swap false b c = refl
-
-one-more : (xs ys : List ℕ) (i : ℕ) → i < length xs → i < length ys
-    → (same (take i xs) (take i ys) && eqb (getD xs i 0) (getD ys i 0)) ≡ same (take (suc i) xs) (take (suc i) ys)
-unfolding same
-one-more [] ys i h k = absurd (not-suc-le-zero h)
-one-more (x ∷ xs) [] i h k = absurd (not-suc-le-zero k)
-one-more (x ∷ xs) (y ∷ ys) zero h k = refl
-one-more (x ∷ xs) (y ∷ ys) (suc i) h k =
-    and-swap (same (take i xs) (take i ys)) (eqb x y) (eqb (getD xs i 0) (getD ys i 0))
-    ∙ ap (λ (t : Bool). t && eqb x y) (one-more xs ys i (le-of-suc-le-suc h) (le-of-suc-le-suc k))
-
 -- a turn of the loop that gathers the differences, and its end
-pub compared-more : (xs ys : List ℕ) (i d : ℕ) → i < length xs → i < length ys → eqb d 0 ≡ same (take i xs) (take i ys)
-    → eqb (bitOr d (bitXor (getD xs i 0) (getD ys i 0))) 0 ≡ same (take (i + 1) xs) (take (i + 1) ys)
+pub compared-more : (xs ys : List ℕ) (i d : ℕ) → i < length xs → i < length ys → same xs ys ≡ (eqb d 0 && same (drop i xs) (drop i ys))
+    → same xs ys ≡ (eqb (bitOr d (bitXor (getD xs i 0) (getD ys i 0))) 0 && same (drop (i + 1) xs) (drop (i + 1) ys))
+unfolding same
 compared-more xs ys i d h k e =
-    or-zero d (bitXor (getD xs i 0) (getD ys i 0))
-    ∙ ap₂ _&&_ e (xor-zero (getD xs i 0) (getD ys i 0))
-    ∙ one-more xs ys i h k
-    ∙ rw add-one
+    e ∙ rw (add-one, drop-cons xs i 0 h, drop-cons ys i 0 k, or-zero, xor-zero)
+    (ap (λ (t : Bool). eqb d 0 && t) (and-comm (same (drop (suc i) xs) (drop (suc i) ys)) _) ∙ sym (and-assoc (eqb d 0) _ _))
 
-pub compared-all : (xs ys : List ℕ) (i : ℕ) → length xs ≤ i → length ys ≤ i → same (take i xs) (take i ys) ≡ same xs ys
-compared-all xs ys i h k = ap₂ same (take-all i xs h) (take-all i ys k)
+pub compared-all : (xs ys : List ℕ) (i : ℕ) (t : Bool) → length xs ≤ i → length ys ≤ i → (t && same (drop i xs) (drop i ys)) ≡ t
+unfolding same
+compared-all xs ys i t h k = rw (drop-of-length-le xs {i = i} h, drop-of-length-le ys {i = i} k) (and-true t)

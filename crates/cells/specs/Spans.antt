@@ -23,5 +23,6 @@ pub record Spans (p : ℕ → Bool) (xs : List ℕ) (at r : ℕ) : Type 0 where
 
 -- a search from index at on for the first element that fails has come to index i
 pub record Passed (p : ℕ → Bool) (xs : List ℕ) (at i : ℕ) : Type 0 where
+  pub from : at ≤ i
   pub within : i ≤ length xs
   pub same : at + leading p (drop at xs) ≡ i + leading p (drop i xs)

@@ -1,8 +1,6 @@
 -- The laws that callers' proofs cite, and those of this crate's own functions.
-pub mod Cuts
 pub mod Lines
 pub mod Trims
 pub mod Named
 pub mod Places
 pub mod Bytes
-pub mod Passing

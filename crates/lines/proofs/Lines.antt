@@ -2,44 +2,32 @@
 -- Assumes nothing.
 use mathlib.Core.Path.{_≡_, refl, sym, ap, _∙_}
 use mathlib.Core.List.{List, [], _∷_, _++_, append-assoc}
-use mathlib.Core.Bool.{Bool, true, false, cond, and-true, and-eq-true-iff}
+use mathlib.Core.Bool.{Bool, true, false, cond, and-eq-true-iff}
 use Prim.Native.Nat.{ℕ, zero, suc, _+_, _-_, _≤_, _<_}
 use native.Mathlib.Omega.{arith}
-use borrow.Author.Tests.{eq-eqb, ltb-true, lt-ltb}
+use borrow.Author.Tests.{ltb-true, lt-ltb}
 use lib.Dec.{ltb}
 use lib.ListN.{length, take, drop, length-append, length-drop, take-append-drop}
 use lib.Seq.{take-append-seam, drop-append-seam}
 use Rattle.cells.specs.Text.{codes}
 use Rattle.cells.specs.Spans.{all, leading}
 use Rattle.cells.specs.Runs.{same}
-use Rattle.cells.proofs.Equality.{same-self, same-equal}
+use Rattle.cells.proofs.Equality.{same-self, same-prefix, same-equal}
 use Rattle.names.specs.Names.{hasByte, tokenByte, isToken}
 use Rattle.cells.proofs.Spans.{leading-append}
 use Rattle.lines.specs.Lines.{Line, colon, CR, LF, valueByte, goodLine, allGood, lineText, textOf, Lines, frontLine, startsLine, linesUpTo, linesIn, goodBlock}
 
--- runs that begin alike
-same-prefix : (p xs ys : List ℕ) → same (p ++ xs) (p ++ ys) ≡ same xs ys
-unfolding same
-same-prefix [] xs ys = refl
-same-prefix (b ∷ p) xs ys = rw (eq-eqb b b refl) (and-true (same (p ++ xs) (p ++ ys)) ∙ same-prefix p xs ys)
-
 -- the parts of a good line
-pub good-name : (l : Line) → goodLine l ≡ true → (0 < length (l .name)) × (all tokenByte (l .name) ≡ true)
+pub good-parts : (l : Line) → goodLine l ≡ true → (0 < length (l .name)) × (all tokenByte (l .name) ≡ true) × (all valueByte (l .value) ≡ true)
 unfolding goodLine isToken
-good-name l h =
+good-parts l h =
     let both = and-eq-true-iff (isToken (l .name)) (all valueByte (l .value)) .0 h in
     let token = and-eq-true-iff (ltb 0 (length (l .name))) (all tokenByte (l .name)) .0 (both .0) in
-    (ltb-true 0 (length (l .name)) (token .0), token .1)
-
-pub good-value : (l : Line) → goodLine l ≡ true → all valueByte (l .value) ≡ true
-unfolding goodLine
-good-value l h = and-eq-true-iff (isToken (l .name)) (all valueByte (l .value)) .0 h .1
+    (ltb-true 0 (length (l .name)) (token .0), token .1, both .1)
 
 pub good-line : (l : Line) → 0 < length (l .name) → all tokenByte (l .name) ≡ true → all valueByte (l .value) ≡ true → goodLine l ≡ true
 unfolding goodLine isToken
-good-line l h t v =
-    and-eq-true-iff (isToken (l .name)) (all valueByte (l .value)) .1
-    (and-eq-true-iff (ltb 0 (length (l .name))) (all tokenByte (l .name)) .1 (lt-ltb 0 (length (l .name)) h, t), v)
+good-line l h t v = rw (lt-ltb 0 (length (l .name)) h, t, v)
 
 pub colon-ends : tokenByte colon ≡ false
 unfolding tokenByte hasByte codes
@@ -67,8 +55,8 @@ front-line : (l : Line) (rest : List ℕ) → goodLine l ≡ true → frontLine 
 unfolding frontLine
 front-line l rest h =
     let after = l .value ++ (CR ∷ LF ∷ rest) in
-    let size = leading-append tokenByte (l .name) colon after (good-name l h .1) colon-ends in
-    let long = leading-append valueByte (l .value) CR (LF ∷ rest) (good-value l h) return-ends in
+    let size = leading-append tokenByte (l .name) colon after (good-parts l h .1) colon-ends in
+    let long = leading-append valueByte (l .value) CR (LF ∷ rest) (good-parts l h .2) return-ends in
     rw (line-parts l rest, size, drop-past (l .name) colon after, long, take-append-seam (l .name) (colon ∷ after), take-append-seam (l .value) (CR ∷ LF ∷ rest))
 
 starts-line : (l : Line) (rest : List ℕ) → goodLine l ≡ true → startsLine (lineText l ++ rest) ≡ true

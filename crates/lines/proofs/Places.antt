@@ -2,28 +2,19 @@
 -- Assumes nothing.
 use mathlib.Core.Path.{_≡_, sym, ap, _∙_}
 use mathlib.Core.List.{List, _∷_, _++_}
-use mathlib.Core.Bool.{Bool, true, false, _&&_, and-eq-true-iff}
-use Prim.Native.Nat.{ℕ, _+_, _-_, _<_}
-use native.Mathlib.Nat.{add-zero}
+use mathlib.Core.Bool.{Bool, true, _&&_, and-eq-true-iff}
+use Prim.Native.Nat.{ℕ, _+_, _<_}
 use native.Mathlib.Omega.{arith}
 use borrow.Author.Tests.{ltb-true, lt-ltb, eqb-true}
 use lib.Dec.{ltb, eqb}
 use lib.ListN.{length, getD, drop}
-use lib.Seq.{drop-drop, drop-append-seam, getD-drop}
-use Rattle.cells.specs.Spans.{all, leading, Spans}
-use Rattle.cells.specs.Runs.{cut}
+use Rattle.cells.specs.Spans.{Spans}
 use Rattle.names.specs.Names.{tokenByte}
-use Rattle.cells.proofs.Spans.{leading-append, leading-all}
+use Rattle.cells.proofs.Spans.{span-all, stops}
 use Rattle.lines.specs.Lines.{Line, colon, CR, LF, valueByte, goodLine, lineText}
 use Rattle.lines.specs.Places.{lineBetween, WholeLine}
-use Rattle.lines.proofs.Cuts.{length-cut, cut-split, inside, drop-at}
-use Rattle.lines.proofs.Lines.{good-name, good-value, good-line, colon-ends, return-ends, line-parts}
-
--- the part of a run that a span takes passes
-span-all : (p : ℕ → Bool) (xs : List ℕ) (a e : ℕ) → Spans p xs a e → all p (cut xs a e) ≡ true
-span-all p xs a e s =
-    let size : e - a ≡ leading p (drop a xs) = omega (arith, s .is) in
-    rw size (leading-all p (drop a xs))
+use Rattle.cells.proofs.Cuts.{length-cut, cut-split, inside, drop-at, stands, onward}
+use Rattle.lines.proofs.Lines.{good-parts, good-line, colon-ends, return-ends, line-parts}
 
 -- what the code tests: a name and a colon after it, and what ends a line
 abbrev pub named : List ℕ → ℕ → ℕ → Bool
@@ -69,34 +60,18 @@ whole block at c e s n t m =
       text = text ∙ sym (line-parts l (drop (e + 2) block));
     }
 
--- a span that is followed by an element that fails ends there
-module _ (block ys : List ℕ) (c y : ℕ) (e : drop c block ≡ y ∷ ys) where
-  stands : getD block c 0 ≡ y
-  stands = ap (λ (k : ℕ). getD block k 0) (sym (add-zero c)) ∙ sym (getD-drop c block 0 0) ∙ ap (λ (l : List ℕ). getD l 0 0) e
-
-  onward : drop (c + 1) block ≡ ys
-  onward = sym (drop-drop 1 c block) ∙ ap (drop 1) e
-
-stops : (p : ℕ → Bool) (block xs ys : List ℕ) (at c y : ℕ) → Spans p block at c → drop at block ≡ xs ++ y ∷ ys → all p xs ≡ true → p y ≡ false
-    → (c ≡ at + length xs) × (drop c block ≡ y ∷ ys)
-stops p block xs ys at c y s h t f =
-    let size = s .is ∙ ap (λ (l : List ℕ). at + leading p l) h ∙ ap (λ (k : ℕ). at + k) (leading-append p xs y ys t f) in (
-      size,
-      ap (λ (k : ℕ). drop k block) size ∙ sym (drop-drop (length xs) at block) ∙ ap (drop (length xs)) h ∙ drop-append-seam xs (y ∷ ys),
-    )
-
 -- where a good line stands the tests hold
 module _ (block : List ℕ) (at : ℕ) (l : Line) (rest : List ℕ) (g : goodLine l ≡ true) (h : drop at block ≡ lineText l ++ rest) (c : ℕ) (s : Spans tokenByte block at c) where
   abbrev after : List ℕ
   after = l .value ++ (CR ∷ LF ∷ rest)
 
   name-stops : (c ≡ at + length (l .name)) × (drop c block ≡ colon ∷ after)
-  name-stops = stops tokenByte block (l .name) after at c colon s (h ∙ line-parts l rest) (good-name l g .1) colon-ends
+  name-stops = stops tokenByte block (l .name) after at c colon s (h ∙ line-parts l rest) (good-parts l g .1) colon-ends
 
   pub named-there : named block at c ≡ true
-  named-there = rw (stands block after c colon (name-stops .1), lt-ltb at c (omega (arith, name-stops .0, good-name l g .0)))
+  named-there = rw (stands block after c colon (name-stops .1), lt-ltb at c (omega (arith, name-stops .0, good-parts l g .0)))
 
   pub ended-there : (e : ℕ) → Spans valueByte block (c + 1) e → ended block e ≡ true
   ended-there e t =
-      let value = stops valueByte block (l .value) (LF ∷ rest) (c + 1) e CR t (onward block after c colon (name-stops .1)) (good-value l g) return-ends .1 in
+      let value = stops valueByte block (l .value) (LF ∷ rest) (c + 1) e CR t (onward block after c colon (name-stops .1)) (good-parts l g .2) return-ends .1 in
       rw (stands block (LF ∷ rest) e CR value, stands block rest (e + 1) LF (onward block (LF ∷ rest) e CR value))

@@ -1,16 +1,16 @@
 -- Laws of blanks trimmed off: all those at the front, and those at the end one at a time.
 -- Assumes nothing.
-use mathlib.Core.Path.{_≡_, refl, sym, ap, _∙_}
+use mathlib.Core.Path.{_≡_, sym, ap, _∙_}
 use mathlib.Core.List.{List, [], _∷_, _++_}
 use mathlib.Core.Bool.{true, false}
-use Prim.Native.Nat.{ℕ, _≤_}
+use Prim.Native.Nat.{ℕ, _-_, _≤_, _<_}
 use native.Mathlib.Omega.{arith}
-use lib.ListN.{length, take, drop}
+use lib.ListN.{length, getD, take, drop}
 use lib.Seq.{drop-drop, length-take-le}
 use Rattle.cells.specs.Runs.{cut}
 use Rattle.cells.specs.Spans.{leading, Spans}
 use Rattle.lines.specs.Values.{blank, trimFront, keeping, trimEnd}
-use Rattle.lines.proofs.Cuts.{drop-take}
+use Rattle.cells.proofs.Cuts.{cut-none, drop-take, cut-last}
 
 -- a part without the blanks at its front begins where they end
 pub front-cut : (xs : List ℕ) (a e r : ℕ) → a ≤ e → e ≤ length xs → Spans blank (take e xs) a r → (r ≤ e) × (trimFront (cut xs a e) ≡ cut xs r e)
@@ -22,17 +22,25 @@ front-cut xs a e r h k s =
           ∙ ap (λ (n : ℕ). drop n (take e xs)) (sym (s .is)) ∙ drop-take xs r e within k,
     )
 
-pub end-none : trimEnd [] ≡ []
-unfolding trimEnd
-end-none = refl
-
-pub end-blank : (xs : List ℕ) (b : ℕ) → blank b ≡ true → trimEnd (xs ++ (b ∷ [])) ≡ trimEnd xs
+end-blank : (xs : List ℕ) (b : ℕ) → blank b ≡ true → trimEnd (xs ++ (b ∷ [])) ≡ trimEnd xs
 unfolding trimEnd
 end-blank [] b h = rw h
 end-blank (x ∷ xs) b h = ap (keeping x) (end-blank xs b h)
 
-pub end-kept : (xs : List ℕ) (b : ℕ) → blank b ≡ false → trimEnd (xs ++ (b ∷ [])) ≡ xs ++ (b ∷ [])
+end-kept : (xs : List ℕ) (b : ℕ) → blank b ≡ false → trimEnd (xs ++ (b ∷ [])) ≡ xs ++ (b ∷ [])
 unfolding trimEnd
 end-kept [] b h = rw h
 end-kept (x ∷ []) b h = ap (keeping x) (end-kept [] b h)
 end-kept (x ∷ y ∷ ys) b h = ap (keeping x) (end-kept (y ∷ ys) b h)
+
+-- a part ends where its last byte is no blank; the empty part has none
+module _ (xs : List ℕ) (a e : ℕ) where
+  pub back-blank : a < e → e ≤ length xs → blank (getD xs (e - 1) 0) ≡ true → trimEnd (cut xs a e) ≡ trimEnd (cut xs a (e - 1))
+  back-blank h k b = ap trimEnd (cut-last xs a e h k) ∙ end-blank (cut xs a (e - 1)) _ b
+
+  pub back-kept : a < e → e ≤ length xs → blank (getD xs (e - 1) 0) ≡ false → trimEnd (cut xs a e) ≡ cut xs a e
+  back-kept h k b = let last = cut-last xs a e h k in ap trimEnd last ∙ end-kept (cut xs a (e - 1)) _ b ∙ sym last
+
+  pub back-none : e ≤ a → trimEnd (cut xs a e) ≡ cut xs a e
+  unfolding trimEnd
+  back-none h = rw (cut-none xs a e h)

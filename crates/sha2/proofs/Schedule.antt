@@ -2,18 +2,18 @@
 -- Assumes nothing.
 use mathlib.Core.Path.{_≡_, sym, ap, ap₂, _∙_}
 use mathlib.Core.List.{List, [], _∷_, _++_}
-use Prim.Native.Nat.{ℕ, suc, _+_, _-_, _≤_, _<_}
+use Prim.Native.Nat.{ℕ, suc, _-_, _≤_, _<_}
 use native.Mathlib.Omega.{arith}
 use lib.ListN.{length, getD, set, length-set}
 use lib.Seq.{take-suc-set, getD-take, take-all}
 use borrow.Author.Tests.{lt-ltb, le-ltb}
 use Rattle.sha2.specs.Block.{M, mixed, schedule}
-use Rattle.sha2.specs.Laid.{Laid}
+use Rattle.sha2.specs.Scheduled.{Scheduled}
 
 -- t is the place of the next word, and n the place after it
-module _ (block w : List ℕ) (t n x : ℕ) (laid : Laid w block t) (fits : t < 80) (e : n ≡ suc t) where
+module _ (block w : List ℕ) (t n x : ℕ) (laid : Scheduled w block t) (fits : t < 80) (e : n ≡ suc t) where
   -- one of the block's own words
-  pub own-word : t < 16 → x ≡ M block t → Laid (set w t x) block n
+  pub own-word : t < 16 → x ≡ M block t → Scheduled (set w t x) block n
   unfolding schedule
   own-word h is =
       let long : length w ≡ 80 = laid .long in
@@ -26,7 +26,7 @@ module _ (block w : List ℕ) (t n x : ℕ) (laid : Laid w block t) (fits : t < 
   before i h = sym (getD-take t w i 0 h) ∙ ap (λ (l : List ℕ). getD l i 0) (laid .words)
 
   -- one of the others, mixed from the words in the array
-  pub mixed-word : 16 ≤ t → x ≡ mixed w t → Laid (set w t x) block n
+  pub mixed-word : 16 ≤ t → x ≡ mixed w t → Scheduled (set w t x) block n
   unfolding schedule
   mixed-word h is =
       let long : length w ≡ 80 = laid .long in
@@ -39,5 +39,5 @@ module _ (block w : List ℕ) (t n x : ℕ) (laid : Laid w block t) (fits : t < 
       }
 
 -- all of the array
-pub whole-schedule : (block w : List ℕ) → Laid w block 80 → w ≡ schedule block 80
+pub whole-schedule : (block w : List ℕ) → Scheduled w block 80 → w ≡ schedule block 80
 whole-schedule block w laid = let long : length w ≡ 80 = laid .long in sym (take-all 80 w (omega arith)) ∙ laid .words

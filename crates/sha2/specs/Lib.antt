@@ -4,4 +4,4 @@ pub mod Constants
 pub mod Block
 pub mod Hash
 pub mod Taken
-pub mod Laid
+pub mod Scheduled

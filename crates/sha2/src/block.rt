@@ -7,7 +7,7 @@ ghost use Rattle.sha2.specs.declared.block.Words as Declared;
 ghost use Rattle.sha2.specs.Constants as Constants;
 ghost use Rattle.sha2.specs.Block as Block;
 ghost use Rattle.sha2.specs.Hash as Hash;
-ghost use Rattle.sha2.specs.Laid.{Laid};
+ghost use Rattle.sha2.specs.Scheduled.{Scheduled};
 use crate::word::big_sigma0;
 use crate::word::big_sigma1;
 use crate::word::ch;
@@ -115,7 +115,7 @@ const K: [u64; 80] = [
 // Words 0 to 15 of the schedule: the block's own.
 fn load(w: &mut [u64; 80], block: &[u8])
     requires { ⌜ (length (now w) ≡ 80) × (length (now block) ≡ 128) ⌝ }
-    ensures { λ _. ⌜ Laid (now (w .exit)) (now (block .entry)) 16 ⌝ }
+    ensures { λ _. ⌜ Scheduled (now (w .exit)) (now (block .entry)) 16 ⌝ }
 {
     let mut t = 0;
     while t < 16 {
@@ -133,7 +133,7 @@ fn mix(w2: u64, w7: u64, w15: u64, w16: u64) -> u64
 // Word t + j of the schedule, from four before it.
 fn next_word(w: &mut [u64; 80], t: usize, j: usize)
     requires { ⌜ (16 ≤ t + j) × (t + j < 80) ⌝ }
-    ensures { λ _. ⌜ ((block : List ℕ) → Laid (now (w .entry)) block (t + j) → Laid (now (w .exit)) block (t + (j + 1))) ⌝ }
+    ensures { λ _. ⌜ ((block : List ℕ) → Scheduled (now (w .entry)) block (t + j) → Scheduled (now (w .exit)) block (t + (j + 1))) ⌝ }
 {
     let i = t + j;
     w[i] = mix(w[i - 2], w[i - 7], w[i - 15], w[i - 16]);
@@ -142,7 +142,7 @@ fn next_word(w: &mut [u64; 80], t: usize, j: usize)
 // Words t to t + 7.
 fn eight_words(w: &mut [u64; 80], t: usize)
     requires { ⌜ (16 ≤ t) × (t + 8 ≤ 80) ⌝ }
-    ensures { λ _. ⌜ ((block : List ℕ) → Laid (now (w .entry)) block t → Laid (now (w .exit)) block (t + 8)) ⌝ }
+    ensures { λ _. ⌜ ((block : List ℕ) → Scheduled (now (w .entry)) block t → Scheduled (now (w .exit)) block (t + 8)) ⌝ }
 {
     next_word(w, t, 0);
     next_word(w, t, 1);
@@ -156,7 +156,7 @@ fn eight_words(w: &mut [u64; 80], t: usize)
 
 // Words 16 to 79. Eight a turn, like the rounds: the compiler then keeps words that were just made in registers.
 fn extend(w: &mut [u64; 80])
-    ensures { λ _. ⌜ ((block : List ℕ) → Laid (now (w .entry)) block 16 → Laid (now (w .exit)) block 80) ⌝ }
+    ensures { λ _. ⌜ ((block : List ℕ) → Scheduled (now (w .entry)) block 16 → Scheduled (now (w .exit)) block 80) ⌝ }
 {
     let mut q = 2;
     while q < 10 {

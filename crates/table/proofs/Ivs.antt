@@ -13,9 +13,9 @@ use lib.Seq.{take-all, take-add, drop-drop}
 use Rattle.cells.specs.Runs.{part, same, Bytes}
 use Rattle.cells.specs.Numbers.{bytesOf, number}
 use Rattle.cells.proofs.Runs.{length-part}
+use Rattle.cells.proofs.Cuts.{bytes-part, part-part}
 use Rattle.cells.proofs.Numbers.{bytesOf-number}
 use Rattle.cells.proofs.Equality.{same-self, same-not}
-use Rattle.table.proofs.Records.{bytes-part, part-part}
 
 -- runs of one length with one number are one
 one-number : (xs ys : List ℕ) → Bytes xs → Bytes ys → length xs ≡ length ys → number xs ≡ number ys → xs ≡ ys

@@ -2,17 +2,16 @@
 -- Assumes nothing.
 use mathlib.Core.Path.{_≡_, refl, sym, ap, ap₂, _∙_}
 use mathlib.Core.List.{List, [], _∷_, _++_, append-assoc}
-use mathlib.Core.Bool.{Bool, true, false}
 use Prim.Native.Nat.{ℕ, zero, suc, _+_, _-_, _*_, _/_, _≤_, _<_}
 use native.Mathlib.Nat.{zero-add, add-zero, suc-add}
 use native.Mathlib.Omega.{arith}
-use borrow.Author.Tests.{ltb-true, ltb-false}
-use lib.Dec.{lit<, ltb}
-use lib.ListN.{List·getD-eq-default, length, getD, take, drop, set, replicate, length-append, length-take, length-drop, take-append-drop}
-use lib.Seq.{take-all, take-at, drop-at, take-add, take-append-le, drop-append-le, drop-drop, drop-cons, getD-at, getD-take, getD-drop}
+use lib.Dec.{lit<}
+use lib.ListN.{length, getD, take, drop, set, replicate, length-append, length-take, length-drop, take-append-drop}
+use lib.Seq.{take-all, take-at, drop-at, take-add, drop-drop, drop-cons, getD-at, getD-take, getD-drop}
 use Rattle.cells.specs.Runs.{spliced, part, Bytes}
 use Rattle.cells.specs.Numbers.{bytesOf, number}
 use Rattle.cells.proofs.Runs.{lent, joined, spliced-front, fronted-whole, length-spliced, length-part}
+use Rattle.cells.proofs.Cuts.{bytes-part, part-part}
 use Rattle.cells.proofs.Numbers.{length-bytesOf, number-of, bytesOf-number}
 use Rattle.table.specs.declared.session.Record.{Record}
 use Rattle.table.specs.Record.{size, recordBytes, recordOf, Fits, freed}
@@ -102,14 +101,6 @@ recordOf-bytes r f =
     ∙ ap number (last (r .used ∷ r .iv ++ (expiry ++ r .any ∷ highest)) bits 22 8 (simp length-append (omega arith)) w)
     ∙ number-of 8 (r .bits) (f .bits))
 
--- a part of a run of bytes is one
-pub bytes-part : (xs : List ℕ) (at n : ℕ) → Bytes xs → Bytes (part xs at n)
-bytes-part xs at n h i = by (ltb i n) refl
-  where
-    by : (t : Bool) → ltb i n ≡ t → getD (part xs at n) i 0 < 256
-    by true e = rw (getD-take n (drop at xs) i 0 (ltb-true i n e), getD-drop at xs i 0) (h (at + i))
-    by false e = rw (List·getD-eq-default (part xs at n) 0 {n = i} (rw length-take (omega (arith, ltb-false i n e)))) (omega arith)
-
 -- the bytes of the number of a part are the part
 field : (xs : List ℕ) (at n : ℕ) → at + n ≤ length xs → Bytes xs → bytesOf n (number (part xs at n)) ≡ part xs at n
 field xs at n h b =
@@ -119,15 +110,6 @@ field xs at n h b =
 onward : (xs : List ℕ) (at n next : ℕ) → next ≡ at + n → part xs at n ++ drop next xs ≡ drop at xs
 onward xs at n next e =
     ap (λ (l : List ℕ). part xs at n ++ l) (ap (λ (k : ℕ). drop k xs) e ∙ sym (drop-drop n at xs)) ∙ take-append-drop n (drop at xs)
-
--- a part of a part
-pub part-part : (xs : List ℕ) (at n k m : ℕ) → at + n ≤ length xs → k + m ≤ n → part (part xs at n) k m ≡ part xs (at + k) m
-part-part xs at n k m h j =
-    let l = drop at xs in
-    let long : length (take n l) ≡ n = length-part xs at n h in
-    sym
-    (ap (take m) (sym (drop-drop k at xs) ∙ ap (drop k) (sym (take-append-drop n l)) ∙ drop-append-le k (take n l) (drop n l) (omega arith))
-    ∙ take-append-le m (drop k (take n l)) (drop n l) (omega (arith, length-drop k (take n l))))
 
 -- a run as long as a record is the bytes of its record
 pub recordBytes-of : (bytes : List ℕ) → length bytes ≡ size → Bytes bytes → recordBytes (recordOf bytes) ≡ bytes

@@ -12,6 +12,7 @@ use lib.ListN.{length}
 use Rattle.cells.specs.Runs.{part, Bytes}
 use Rattle.cells.specs.Numbers.{number}
 use Rattle.cells.proofs.Runs.{length-part}
+use Rattle.cells.proofs.Cuts.{bytes-part}
 use Rattle.cells.proofs.Numbers.{number-below}
 use Rattle.window.specs.declared.Window.{Window}
 use Rattle.window.specs.Window.{stepOf}
@@ -21,7 +22,6 @@ use Rattle.table.specs.declared.session.Record.{Record}
 use Rattle.table.specs.Record.{size, Fits, begun, mark, windowOf, withWindow, recordOf}
 use Rattle.table.specs.Table.{places, recordAt}
 use Rattle.table.specs.WellFormed.{Sound}
-use Rattle.table.proofs.Records.{bytes-part}
 
 -- a new session
 pub begun-sound : (iv : List ℕ) (expiry : ℕ) → Sound (begun iv expiry)

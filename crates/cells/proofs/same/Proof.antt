@@ -1,36 +1,27 @@
--- `same` meets its contract: after i turns the differences gathered are none exactly if the first i bytes are the same.
+-- `same` meets its contract: the runs are the same exactly if no differences are gathered and what stands from i on is the same.
 -- Assumes nothing.
 use borrow.Author.Needs.{needs}
 use mathlib.Core.Path.{_≡_, refl, sym, ap, _∙_}
-use Prim.Native.Nat.{_-_, _≤_}
-use native.Mathlib.Omega.{arith}
+use mathlib.Core.Bool.{_&&_}
+use Prim.Native.Nat.{_-_}
 use lib.Dec.{eqb}
-use lib.ListN.{length, take}
+use lib.ListN.{length, drop}
 use Rattle.cells.specs.Runs.{same}
 use Rattle.cells.proofs.Equality.{same-not, compared-more, compared-all}
 use Rattle.cells.proofs.same.Statement.{statement}
 use Rattle.cells.proofs.same.Tie as tie
 
 abbrev Inv-loop : tie.InvT-loop
-Inv-loop a b differences₀ i₀ differences i = (i ≤ length a) × (eqb differences 0 ≡ same (take i a) (take i b))
+Inv-loop a b differences₀ i₀ differences i = same a b ≡ (eqb differences 0 && same (drop i a) (drop i b))
 
 abbrev μ-loop : tie.MeasureT-loop
 μ-loop a b differences₀ i₀ differences i = length a - i
 
-returns : tie.Need-returns Inv-loop μ-loop
-returns c = sym (same-not _ _ (λ e. c .if1 .taken (ap length e)))
-
-loop-holds : tie.Need-loop-holds Inv-loop μ-loop
-unfolding same
-loop-holds c = (omega arith, refl)
-
 loop-again : tie.Need-loop-again Inv-loop μ-loop
-loop-again c =
-    let at = c .before .before .before .loop in
-    (omega arith, compared-more _ _ (at .i) (at .differences) (omega arith) (omega arith) (at .inv .1))
+loop-again c = let at = c .before .before .before .loop in compared-more _ _ (at .i) (at .differences) (search needs) (search needs) (at .inv)
 
 returns-2 : tie.Need-returns-2 Inv-loop μ-loop
-returns-2 c = c .before .loop .inv .1 ∙ compared-all _ _ (c .before .loop .i) (omega arith) (omega arith)
+returns-2 c = let at = c .before .loop in sym (at .inv ∙ compared-all _ _ (at .i) _ (search needs) (search needs))
 
 pub same-spec : {M : Type 1} → statement M
 same-spec =
@@ -38,8 +29,8 @@ same-spec =
     (tie.spec
     Inv-loop
     μ-loop
-    returns
-    loop-holds
+    (λ c. sym (same-not _ _ (λ e. c .if1 .taken (ap length e))))
+    (λ c. refl)
     (λ c. search needs)
     (λ c. search needs)
     (λ c. search needs)

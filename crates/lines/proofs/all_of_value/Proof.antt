@@ -1,14 +1,13 @@
 -- `all_of_value` meets its contract: good tells of the bytes up to i, and with those from i on of all.
 -- Assumes nothing.
-use mathlib.Core.Path.{_≡_, refl, sym, ap, ap₂, _∙_}
-use mathlib.Core.Bool.{Bool, _&&_, and-assoc}
-use Prim.Native.Nat.{_-_, _≤_}
-use native.Mathlib.Omega.{arith}
+use mathlib.Core.Path.{_≡_, refl, sym, _∙_}
+use mathlib.Core.Bool.{_&&_, and-assoc}
+use Prim.Native.Nat.{_-_}
 use borrow.Author.Needs.{needs}
 use lib.ListN.{length, drop}
 use Rattle.cells.specs.Spans.{all}
 use Rattle.lines.specs.Lines.{valueByte}
-use Rattle.lines.proofs.Passing.{all-from, all-past}
+use Rattle.cells.proofs.Spans.{all-from, all-past}
 use Rattle.lines.proofs.all_of_value.Statement.{statement}
 use Rattle.lines.proofs.all_of_value.Tie as tie
 

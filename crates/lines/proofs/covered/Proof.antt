@@ -6,7 +6,7 @@ use native.Mathlib.Omega.{arith}
 use Rattle.lines.specs.Values.{coveredValue}
 use Rattle.lines.specs.Places.{Within}
 use Rattle.lines.specs.declared.Found.the-variants.{At}
-use Rattle.lines.proofs.Cuts.{cut-below}
+use Rattle.cells.proofs.Cuts.{cut-below}
 use Rattle.lines.proofs.covered.Statement.{statement}
 use Rattle.lines.proofs.covered.Tie as tie
 

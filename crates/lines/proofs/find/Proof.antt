@@ -1,14 +1,13 @@
 -- `find` meets its contract: no line from at up to place bears the name.
 -- Assumes nothing.
 use borrow.Author.Needs.{needs}
-use mathlib.Core.Path.{_≡_, refl, sym, ap, _∙_}
-use mathlib.Core.List.{List}
+use mathlib.Core.Path.{_≡_, refl, sym, _∙_}
 use Prim.Native.Nat.{_≤_, _-_}
 use native.Mathlib.Nat.{zero-add}
 use native.Mathlib.Numerals.{one-add}
 use native.Mathlib.Omega.{arith}
 use lib.ListN.{length, drop}
-use Rattle.lines.specs.Lines.{Line, linesIn}
+use Rattle.lines.specs.Lines.{linesIn}
 use Rattle.lines.specs.Values.{timesNamed, valueIn}
 use Rattle.lines.specs.Places.{toldOf, WholeLine}
 use Rattle.lines.proofs.Lines.{lines-stop}
@@ -31,42 +30,35 @@ line c = rw (c .colon .given .1) at (c .before .before .line-at .ensures)
 returns : tie.Need-returns Inv-loop μ-loop
 unfolding valueIn timesNamed
 returns c =
-    let name = c .before .before .before .before .before .before .before .args .name .now in
     let none = lines-stop _ (rw (c .enum-told .given .1) at (c .before .before .line-at .ensures)) in
-    record { told = c .before .before .before .before .loop .inv .1 ∙ ap (λ (ls : List Line). toldOf ls name) none; within = tt }
+    record { told = c .before .before .before .before .loop .inv .1 ∙ simp none; within = tt }
 
 returns-2 : tie.Need-returns-2 Inv-loop μ-loop
 unfolding valueIn timesNamed
 returns-2 c =
-    let at = c .before .before .before .before .before .before .before .before .before .loop in
-    let args = c .before .before .before .before .before .before .before .before .before .before .before .before .args in
-    let here = line (c .before .before .before .before .before) in
+    let begun = c .before .before .before .before .before in
+    let at = begun .before .before .before .before .loop in
+    let lines = lines-at (begun .before .before .before .before .before .before .before .args .block .now) (at .place) _ _ (line begun) in
     let same = sym (c .before .before .same-name .ensures) ∙ c .before .if1 .taken in
     let trims = c .trim .ensures in
     record {
-      told =
-          at .inv .1 ∙ ap (λ (ls : List Line). toldOf ls (args .name .now)) (lines-at (args .block .now) (at .place) _ _ here)
-          ∙ simp (same, trims .is, one-add);
-      within = (trims .ordered, omega (arith, trims .within, here .within), here .within);
+      told = at .inv .1 ∙ simp (lines, same, trims .is, one-add);
+      within = (trims .ordered, omega (arith, trims .within, line begun .within), line begun .within);
     }
 
 loop-again : tie.Need-loop-again Inv-loop μ-loop
 unfolding valueIn timesNamed
 loop-again c =
-    let at = c .before .before .before .before .before .before .before .before .loop in
-    let args = c .before .before .before .before .before .before .before .before .before .before .before .args in
-    let here = line (c .before .before .before .before) in
-    let other = sym (c .before .same-name .ensures) ∙ c .if1 .left in (
-      here .within,
-      at .inv .1 ∙ ap (λ (ls : List Line). toldOf ls (args .name .now)) (lines-at (args .block .now) (at .place) _ _ here) ∙ simp (other, zero-add),
-    )
+    let begun = c .before .before .before .before in
+    let at = begun .before .before .before .before .loop in
+    let lines = lines-at (begun .before .before .before .before .before .before .before .args .block .now) (at .place) _ _ (line begun) in
+    (line begun .within, at .inv .1 ∙ simp (lines, sym (c .before .same-name .ensures) ∙ c .if1 .left, zero-add))
 
 returns-3 : tie.Need-returns-3 Inv-loop μ-loop
 unfolding valueIn timesNamed
 returns-3 c =
-    let args = c .before .before .before .before .args in
-    let none = lines-end (args .block .now) (c .before .loop .place) (c .loop-test .left) in
-    record { told = c .before .loop .inv .1 ∙ ap (λ (ls : List Line). toldOf ls (args .name .now)) none; within = tt }
+    let none = lines-end (c .before .before .before .before .args .block .now) (c .before .loop .place) (c .loop-test .left) in
+    record { told = c .before .loop .inv .1 ∙ simp none; within = tt }
 
 pub find-spec : {M : Type 1} → statement M
 find-spec =

@@ -9,7 +9,7 @@ use lib.ListN.{length}
 use Rattle.cells.specs.Spans.{Passed}
 use Rattle.cells.proofs.Spans.{passed-none}
 use Rattle.lines.specs.Lines.{valueByte}
-use Rattle.lines.proofs.Passing.{passed-part}
+use Rattle.cells.proofs.Spans.{passed-part}
 use Rattle.lines.proofs.past_sixteens.Statement.{statement}
 use Rattle.lines.proofs.past_sixteens.Tie as tie
 

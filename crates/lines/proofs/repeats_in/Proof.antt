@@ -1,9 +1,8 @@
 -- `repeats_in` meets its contract: none of the chosen names up to at stands twice.
 -- Assumes nothing.
 use borrow.Author.Needs.{needs}
-use mathlib.Core.Path.{_≡_, refl, sym, ap, _∙_}
-use mathlib.Core.List.{List}
-use Prim.Native.Nat.{ℕ, _+_, _-_}
+use mathlib.Core.Path.{_≡_, refl, _∙_}
+use Prim.Native.Nat.{_+_, _-_}
 use native.Mathlib.Omega.{arith}
 use lib.ListN.{length}
 use Rattle.names.specs.Covered.{chosen}
@@ -28,26 +27,20 @@ name c = rw (c .start .given .1) at (c .before .before .next-name .ensures)
 returns : tie.Need-returns Inv-loop μ-loop
 unfolding repeated
 returns c =
-    let block = c .before .before .before .before .before .before .args .block .now in
     let none = rw (c .enum-told .given .1) at (c .before .before .next-name .ensures) in
-    sym (c .before .before .before .loop .inv ∙ ap (λ (ns : List (List ℕ)). repeated ns (linesIn block)) none)
+    simp (c .before .before .before .loop .inv, none)
 
 returns-2 : tie.Need-returns-2 Inv-loop μ-loop
 unfolding repeated
 returns-2 c =
-    let before = c .before .before .before .before in
-    let block = before .before .before .before .before .before .before .args .block .now in
-    sym
-    (before .before .before .before .loop .inv ∙ ap (λ (ns : List (List ℕ)). repeated ns (linesIn block)) (name before .names)
-    ∙ simp (← (c .before .twice .ensures), c .if1 .taken))
+    let begun = c .before .before .before .before in
+    simp (begun .before .before .before .loop .inv, name begun .names, ← (c .before .twice .ensures), c .if1 .taken)
 
 loop-again : tie.Need-loop-again Inv-loop μ-loop
 unfolding repeated
 loop-again c =
-    let before = c .before .before .before .before in
-    let block = before .before .before .before .before .before .before .args .block .now in
-    before .before .before .before .loop .inv ∙ ap (λ (ns : List (List ℕ)). repeated ns (linesIn block)) (name before .names)
-    ∙ simp (← (c .before .twice .ensures), c .if1 .left)
+    let begun = c .before .before .before .before in
+    begun .before .before .before .loop .inv ∙ simp (name begun .names, ← (c .before .twice .ensures), c .if1 .left)
 
 pub repeats-in-spec : {M : Type 1} → statement M
 repeats-in-spec =

@@ -4,12 +4,12 @@ use mathlib.Core.Path.{_≡_}
 use mathlib.Core.List.{List}
 use Prim.Native.Nat.{ℕ, _+_, _-_, _*_, _≤_}
 use native.Mathlib.Omega.{arith}
-use Rattle.sha2.specs.Laid.{Laid}
+use Rattle.sha2.specs.Scheduled.{Scheduled}
 use Rattle.sha2.proofs.block.extend.Statement.{statement}
 use Rattle.sha2.proofs.block.extend.Tie as tie
 
 abbrev Inv-loop : tie.InvT-loop
-Inv-loop w₀ q₀ w q = (2 ≤ q) × (q ≤ 10) × ((block : List ℕ) → Laid w₀ block 16 → Laid w block (8 * q))
+Inv-loop w₀ q₀ w q = (2 ≤ q) × (q ≤ 10) × ((block : List ℕ) → Scheduled w₀ block 16 → Scheduled w block (8 * q))
 
 abbrev μ-loop : tie.MeasureT-loop
 μ-loop w₀ q₀ w q = 10 - q

@@ -4,14 +4,14 @@ use mathlib.Core.Path.{_≡_, refl}
 use Prim.Native.Nat.{_+_, _-_, _≤_}
 use native.Mathlib.Numerals.{add-one}
 use native.Mathlib.Omega.{arith}
-use Rattle.sha2.specs.Laid.{Laid}
+use Rattle.sha2.specs.Scheduled.{Scheduled}
 use Rattle.sha2.specs.Block.{schedule}
 use Rattle.sha2.proofs.Schedule.{own-word}
 use Rattle.sha2.proofs.block.load.Statement.{statement}
 use Rattle.sha2.proofs.block.load.Tie as tie
 
 abbrev Inv-loop : tie.InvT-loop
-Inv-loop w₀ block t₀ w t = (t ≤ 16) × Laid w block t
+Inv-loop w₀ block t₀ w t = (t ≤ 16) × Scheduled w block t
 
 abbrev μ-loop : tie.MeasureT-loop
 μ-loop w₀ block t₀ w t = 16 - t
