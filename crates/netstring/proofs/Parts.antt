@@ -2,7 +2,7 @@
 -- Assumes nothing.
 use mathlib.Core.List.{List, _∷_, _++_}
 use mathlib.Core.Path.{_≡_, sym, ap, ap₂, _∙_}
-use Prim.Native.Nat.{ℕ, suc, _+_, _-_, _≤_, _<_}
+use Prim.Native.Nat.{ℕ, _+_, _-_, _≤_, _<_}
 use native.Mathlib.Numerals.{add-one}
 use native.Mathlib.Omega.{arith}
 use lib.ListN.{length, getD, drop, length-append, length-drop, take-append-drop}
@@ -18,11 +18,7 @@ use Rattle.netstring.proofs.Determined.{at-colon, netstring-then}
 pub no-length : (run : List ℕ) (at : ℕ) → NoLength run at → NoPart run at
 no-length run at none bytes rest text =
     let whole : drop at run ≡ decimal (length bytes) ++ (colon ∷ bytes ++ (comma ∷ rest)) = text ∙ netstring-then bytes rest in
-    let size : length run - at ≡ length (decimal (length bytes)) + suc (length bytes + suc (length rest)) =
-    sym (length-drop at run) ∙ ap length whole ∙ length-append (decimal (length bytes)) (colon ∷ bytes ++ (comma ∷ rest))
-    ∙ ap (λ (k : ℕ). length (decimal (length bytes)) + suc k) (length-append bytes (comma ∷ rest))
-    in
-    none (length bytes) (bytes ++ (comma ∷ rest)) (omega arith) whole
+    none (length bytes) (bytes ++ (comma ∷ rest)) (omega (arith, length-drop at run, simp length-append at (ap length whole))) whole
 
 module _ (run : List ℕ) (at n c : ℕ) (known : LengthAt run at n c) where
   -- a netstring there has that length, and its bytes and its comma stand after the colon
@@ -37,10 +33,7 @@ module _ (run : List ℕ) (at n c : ℕ) (known : LengthAt run at n c) where
   pub too-short : length run - (c + 1) ≤ n → NoPart run at
   too-short h bytes rest text =
       let there = bytes-there bytes rest text in
-      let size : length run - (c + 1) ≡ length bytes + suc (length rest) =
-      sym (length-drop (c + 1) run) ∙ ap length (there .1) ∙ length-append bytes (comma ∷ rest)
-      in
-      omega (arith, there .0)
+      omega (arith, there .0, length-drop (c + 1) run, simp length-append at (ap length (there .1)))
 
   pub no-comma : (getD run (c + 1 + n) 0 ≡ comma → ⊥) → NoPart run at
   no-comma differs bytes rest text =

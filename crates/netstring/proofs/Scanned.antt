@@ -6,13 +6,14 @@ use mathlib.Core.Logic.{_⊎_, inl, inr, ⊎-elim}
 use Prim.Native.Nat.{ℕ, suc, _+_, _-_, _*_, _/_, _≤_, _<_}
 use native.Mathlib.Nat.{add-zero, eq-or-lt-of-le}
 use native.Mathlib.Numerals.{add-one}
+use native.Mathlib.Decide.{decLt}
 use native.Mathlib.Omega.{arith}
 use lib.ListN.{length, getD, take, drop, length-append, length-drop, List·getD-append, take-append-drop}
-use lib.Seq.{take-append-le, take-append-seam, getD-take, getD-drop, getD-append-seam, take-suc, length-take-le, drop-drop, drop-cons}
+use lib.Seq.{take-append-le, getD-take, getD-drop, getD-append-seam, take-suc, length-take-le, drop-drop, drop-cons}
 use Rattle.cells.specs.Decimal.{decimal, valueAfter}
 use Rattle.netstring.specs.Netstring.{colon}
 use Rattle.netstring.specs.Reading.{ReadSo, LengthAt, NoLength}
-use Rattle.cells.proofs.Digits.{decimal-small, decimal-more, value-append, value-decimal, decimal-digits, digit-at, decimal-injective, decimal-some, decimal-lead}
+use Rattle.cells.proofs.Digits.{decimal-small, decimal-more, value-append, value-decimal, decimal-digits, digit-at, decimal-some, decimal-lead}
 
 -- more digits make no smaller number, and one more makes it ten times as large at least
 value-grows : (v : ℕ) (ds : List ℕ) → v ≤ valueAfter v ds
@@ -31,14 +32,10 @@ module _ (run : List ℕ) (at n : ℕ) (rest : List ℕ) (text : drop at run ≡
   byte-before k h = sym (getD-drop at run k 0) ∙ ap (λ (l : List ℕ). getD l k 0) text ∙ List·getD-append (decimal n) (colon ∷ rest) 0 k h
 
   byte-at : getD run (at + length (decimal n)) 0 ≡ colon
-  byte-at =
-      sym (getD-drop at run (length (decimal n)) 0) ∙ ap (λ (l : List ℕ). getD l (length (decimal n)) 0) text
-      ∙ getD-append-seam (decimal n) colon rest 0
+  byte-at = rw (← (getD-drop at run (length (decimal n)) 0), text) (getD-append-seam (decimal n) colon rest 0)
 
   long : length (decimal n) + 1 ≤ length run - at
-  long =
-      let size : length (drop at run) ≡ length (decimal n) + suc (length rest) = ap length text ∙ length-append (decimal n) (colon ∷ rest) in
-      omega (arith, length-drop at run)
+  long = omega (arith, length-drop at run, simp length-append at (ap length text))
 
   module _ (i value : ℕ) (so : ReadSo run at i value) where
     passed : (k : ℕ) → k < i - at → getD run (at + k) 0 ≡ getD (decimal value) k 0
@@ -49,22 +46,11 @@ module _ (run : List ℕ) (at n : ℕ) (rest : List ℕ) (text : drop at run ≡
 
     -- the digits passed are no more than there are
     no-further : i - at ≤ length (decimal n)
-    no-further =
-        ⊎-elim (λ e. omega arith)
-        (λ l. let here : getD run (at + length (decimal n)) 0 ≡ getD (decimal value) (length (decimal n)) 0 = passed (length (decimal n)) l in
-        let digit = digit-at (decimal-digits value) (length (decimal n)) (omega (arith, size)) in
-        absurd (omega (arith, byte-at, here, digit .1)))
-        (less-or-more (length (decimal n)) (i - at))
-      where
-        less-or-more : (a b : ℕ) → (b ≤ a) ⊎ (a < b)
-        less-or-more a b = elim (native.Mathlib.Decide.decLt a b) [ yes l ↦ inr l | no l ↦ inl (omega arith) ]
-
-    -- where all were passed, the number is this one
-    all-passed : i - at ≡ length (decimal n) → n ≡ value
-    all-passed e =
-        decimal-injective n value
-        (sym (sym (so .digits) ∙ ap (λ (l : List ℕ). take (i - at) l) text ∙ ap (λ (k : ℕ). take k (decimal n ++ (colon ∷ rest))) e
-        ∙ take-append-seam (decimal n) (colon ∷ rest)))
+    no-further = elim (decLt (length (decimal n)) (i - at)) [
+      | yes l ↦
+          absurd (omega (arith, byte-at, passed (length (decimal n)) l, digit-at (decimal-digits value) (length (decimal n)) (omega (arith, size)) .1))
+      | no l ↦ omega arith
+    ]
 
     -- where some are left, it is ten times as large at least
     some-left : i - at < length (decimal n) → value * 10 ≤ n

@@ -23,7 +23,7 @@ pub fn opening(size: usize) -> Prefix
     let shown = decimal::digits(size as u64);
     let digits = shown.all;
     let start = shown.start;
-    let mut all = [58u8; 21];
+    let mut all = [b':'; 21];
     cells::put_front(&mut all, &digits);
     Prefix { all, start }
 }

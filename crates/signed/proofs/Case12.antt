@@ -47,17 +47,8 @@ host-value =
     ∙ ap (λ (ls : List Line). coveredValue [] ls (codes "Host") ∷ []) host-lines
 
 abbrev signing : List (List ℕ) → Signed
-signing values = record {
-  h = maskBytes 4;
-  ah = maskBytes 3;
-  eah = [];
-  n = nonceOf 3 5;
-  t = numberBytes 1000;
-  lt = numberBytes 990;
-  values = values;
-  path = codes "/";
-  body = [];
-}
+signing values =
+    record { h = maskBytes 4; ah = maskBytes 3; eah = []; n = nonceOf 3 5; t = numberBytes 1000; lt = numberBytes 990; values = values; path = codes "/"; body = [] }
 
 computed : signedText (signing (codes "a" ∷ [])) ≡ text
 unfolding signedText signedParts nonceOf netstrings netstring decimal decimalTo numberBytes maskBytes shortest bytesOf codes

@@ -83,27 +83,30 @@ pub record Fits (p : Request) : Type 0 where
   pub t : p .t < 2 ^ 32
   pub lt : p .lt < 2 ^ 32
 
+-- the value of a name
+abbrev pub valueOf : Request → List ℕ → List ℕ
+valueOf p = coveredValue (linesIn (p .aside)) (linesIn (p .head))
+
 pub record Same (p q : Request) : Type 0 where
   pub mask : p .mask ≡ q .mask
   pub extra : p .extra ≡ q .extra
   pub n : ordersNonce (p .mask) ≡ true → p .n ≡ q .n
   pub t : p .t ≡ q .t
   pub lt : p .lt ≡ q .lt
-  pub values : (name : List ℕ) → List·Memᴰ name (coveredNames (p .mask) (p .extra))
-      → coveredValue (linesIn (p .aside)) (linesIn (p .head)) name ≡ coveredValue (linesIn (q .aside)) (linesIn (q .head)) name
+  pub values : (name : List ℕ) → List·Memᴰ name (coveredNames (p .mask) (p .extra)) → valueOf p name ≡ valueOf q name
   pub path : p .path ≡ q .path
   pub body : p .body ≡ q .body
 
 abbrev signing : Request → Signed
 signing p = signedOf (p .mask) (p .extra) (p .n) (p .t) (p .lt) (p .aside) (p .head) (p .path) (p .body)
 
-nonce-alike : (m k x y : ℕ) → m ≡ k → isCarried (nonceOf m x) ≡ isCarried (nonceOf k y)
+carries : (mask n : ℕ) → isCarried (nonceOf mask n) ≡ ordersNonce mask
 unfolding nonceOf
-nonce-alike m k x y e = ap (λ (j : ℕ). isCarried (nonceOf j x)) e ∙ either (ordersNonce k)
+carries mask n = go (ordersNonce mask)
   where
-    either : (b : Bool) → isCarried (cond b (some (numberBytes x)) none) ≡ isCarried (cond b (some (numberBytes y)) none)
-    either true = refl
-    either false = refl
+    go : (b : Bool) → isCarried (cond b (some (numberBytes n)) none) ≡ b
+    go true = refl
+    go false = refl
 
 nonce-same : (m x y : ℕ) → x < 2 ^ 32 → y < 2 ^ 32 → ordersNonce m ≡ true → nonceOf m x ≡ nonceOf m y → x ≡ y
 unfolding nonceOf
@@ -112,37 +115,22 @@ nonce-same m x y hx hy o e =
     let g : numberBytes x ≡ numberBytes y = cc in
     numberBytes-injective x y (omega arith) (omega arith) g
 
-values-alike : (m k : ℕ) (x y a b h g : List ℕ) → m ≡ k → x ≡ y → length (coveredValues m x a h) ≡ length (coveredValues k y b g)
-unfolding coveredValues
-values-alike m k x y a b h g e f =
-    ap₂ (λ (j : ℕ) (z : List ℕ). length (map (coveredValue (linesIn a) (linesIn h)) (coveredNames j z))) e f
-    ∙ length-map (coveredNames k y) (coveredValue (linesIn a) (linesIn h)) ∙ sym (length-map (coveredNames k y) (coveredValue (linesIn b) (linesIn g)))
-
 -- equal rows of values are equal name by name
 each-same : (f g : List ℕ → List ℕ) (ns : List (List ℕ)) → map f ns ≡ map g ns → (name : List ℕ) → List·Memᴰ name ns → f name ≡ g name
 each-same f g (n ∷ ns) e name (List·Memᴰ·head p) = cc
 each-same f g (n ∷ ns) e name (List·Memᴰ·tail m) = each-same f g ns (cc) name m
 
-values-same : (p q : Request) → p .mask ≡ q .mask → p .extra ≡ q .extra
-    → coveredValues (p .mask) (p .extra) (p .aside) (p .head) ≡ coveredValues (q .mask) (q .extra) (q .aside) (q .head)
-    → (name : List ℕ) → List·Memᴰ name (coveredNames (p .mask) (p .extra))
-    → coveredValue (linesIn (p .aside)) (linesIn (p .head)) name ≡ coveredValue (linesIn (q .aside)) (linesIn (q .head)) name
-unfolding coveredValues
-values-same p q em ex e =
-    each-same (coveredValue (linesIn (p .aside)) (linesIn (p .head))) (coveredValue (linesIn (q .aside)) (linesIn (q .head)))
-    (coveredNames (p .mask) (p .extra))
-    (e ∙ sym (ap₂ (λ (m : ℕ) (x : List ℕ). map (coveredValue (linesIn (q .aside)) (linesIn (q .head))) (coveredNames m x)) em ex))
-
 -- THE THEOREM, of requests
 pub request-same : (p q : Request) → Fits p → Fits q → textOf p ≡ textOf q → Same p q
-unfolding requestText signedOf
+unfolding requestText signedOf coveredValues
 request-same p q fp fq e =
     let masks : maskBytes (p .mask) ≡ maskBytes (q .mask) → p .mask ≡ q .mask =
     maskBytes-injective (p .mask) (q .mask) (omega (arith, fp .mask)) (omega (arith, fq .mask)) in
+    let names : p .mask ≡ q .mask → p .extra ≡ q .extra → coveredNames (p .mask) (p .extra) ≡ coveredNames (q .mask) (q .extra) = ap₂ coveredNames in
     let alike : CalledAlike (signing p) (signing q) =
     λ ea ex. (
-      nonce-alike (p .mask) (q .mask) (p .n) (q .n) (masks ea),
-      values-alike (p .mask) (q .mask) (p .extra) (q .extra) (p .aside) (q .aside) (p .head) (q .head) (masks ea) ex,
+      carries (p .mask) (p .n) ∙ ap ordersNonce (masks ea) ∙ sym (carries (q .mask) (q .n)),
+      length-map (coveredNames (p .mask) (p .extra)) (valueOf p) ∙ ap length (names (masks ea) ex) ∙ sym (length-map (coveredNames (q .mask) (q .extra)) (valueOf q)),
     ) in
     let s = signed-same (signing p) (signing q) alike e in
     let m = masks (ap (λ (x : Signed). x .ah) s) in
@@ -153,7 +141,7 @@ request-same p q fp fq e =
       n = λ o. nonce-same (p .mask) (p .n) (q .n) (fp .n) (fq .n) o (ap (λ (x : Signed). x .n) s ∙ ap (λ (k : ℕ). nonceOf k (q .n)) (sym m));
       t = numberBytes-injective (p .t) (q .t) (omega (arith, fp .t)) (omega (arith, fq .t)) (ap (λ (x : Signed). x .t) s);
       lt = numberBytes-injective (p .lt) (q .lt) (omega (arith, fp .lt)) (omega (arith, fq .lt)) (ap (λ (x : Signed). x .lt) s);
-      values = values-same p q m x (ap (λ (x : Signed). x .values) s);
+      values = each-same (valueOf p) (valueOf q) _ (ap (λ (x : Signed). x .values) s ∙ sym (ap (map (valueOf q)) (names m x)));
       path = ap (λ (x : Signed). x .path) s;
       body = ap (λ (x : Signed). x .body) s;
     }

@@ -7,18 +7,17 @@ use mathlib.Core.Option.{Option, none, some}
 use Prim.Native.Nat.{ℕ, zero, suc, _+_, _*_, _/_, _%_, _≤_}
 use native.Mathlib.Omega.{arith}
 use lib.Dec.{eqb}
-use lib.ListN.{length, take, drop, length-append, length-take, length-drop}
+use lib.ListN.{length, drop, length-append, length-take, length-drop}
 use Rattle.cells.proofs.Digits.{decimal-length}
-use Rattle.cells.specs.Spans.{leading}
 use Rattle.netstring.specs.Netstring.{netstrings}
 use Rattle.netstring.proofs.Laid.{length-netstring}
 use Rattle.armor.specs.Numerals.{numberBytes, maskBytes, hashMask}
 use Rattle.armor.proofs.Numerals.{length-numberBytes, length-maskBytes}
-use Rattle.names.specs.Names.{tokenByte, sameName, headerNames}
+use Rattle.names.specs.Names.{sameName, headerNames}
 use Rattle.names.specs.Extra.{extraNames, goodExtra}
 use Rattle.names.specs.Covered.{chosenFirst, chosen, coveredNames}
 use Rattle.names.proofs.Sizes.{short-extra, few-names}
-use Rattle.lines.specs.Lines.{Line, valueByte, frontLine, startsLine, lineText, linesUpTo, linesIn}
+use Rattle.lines.specs.Lines.{Line, frontLine, startsLine, lineText, linesUpTo, linesIn}
 use Rattle.lines.specs.Values.{blank, trimFront, keeping, trimEnd, trimmed, valueIn, orElse, coveredValue}
 use Rattle.signed.specs.SignedText.{carried, ordersNonce, nonceOf, coveredValues}
 use Rattle.signed.specs.Streamed.{openingParts}
@@ -26,6 +25,12 @@ use Rattle.signed.proofs.Streaming.{size, size-one, size-append, openin
 
 part-short : (part : List ℕ) → length part ≤ 65536 → size (part ∷ []) ≤ length part + 7
 part-short part h = omega (arith, size-one part, length-netstring part, decimal-length 4 (length part) (omega arith))
+
+mask-short : (m : ℕ) → size (maskBytes m ∷ []) ≤ 16
+mask-short m = let few = length-maskBytes m in omega (arith, part-short (maskBytes m) (omega arith))
+
+number-short : (n : ℕ) → size (numberBytes n ∷ []) ≤ 15
+number-short n = let few = length-numberBytes n .1 in omega (arith, part-short (numberBytes n) (omega arith))
 
 -- the value of a line, trimmed, is no longer than the run that begins with it
 end-short : (xs : List ℕ) → length (trimEnd xs) ≤ length xs
@@ -43,16 +48,7 @@ end-short (b ∷ bs) = go (trimEnd bs) (end-short bs)
 
 line-short : (xs : List ℕ) → length (trimmed (frontLine xs .value)) ≤ length xs
 unfolding trimmed trimFront frontLine
-line-short xs =
-    let rest = drop (suc (leading tokenByte xs)) xs in
-    let value = take (leading valueByte rest) rest in
-    omega (
-      arith,
-      end-short (drop (leading blank value) value),
-      length-drop (leading blank value) value,
-      length-take (leading valueByte rest) rest,
-      length-drop (suc (leading tokenByte xs)) xs,
-    )
+line-short xs = omega (arith, simp (length-drop, length-take) at (end-short (trimFront (frontLine xs .value))))
 
 -- a value that is found in a block is no longer than the block
 found-short : (n : ℕ) {most : ℕ} (xs name other : List ℕ) → length xs ≤ most → length other ≤ most → length (orElse (valueIn (linesUpTo n xs) name) other) ≤ most
@@ -98,7 +94,7 @@ unfolding nonceOf netstrings
 nonce-short mask n = go (ordersNonce mask)
   where
     go : (b : Bool) → size (carried (cond b (some (numberBytes n)) none)) ≤ 15
-    go true = let few = length-numberBytes n .1 in omega (arith, part-short (numberBytes n) (omega arith))
+    go true = number-short n
     go false = omega arith
 
 -- THE BOUND, far from what a state can take in
@@ -113,16 +109,12 @@ request-short mask n t lt extra aside head path body good hh ha hp hb =
     omega (
       arith,
       opening-size mask n t lt extra,
-      part-short (maskBytes hashMask) (omega (arith, length-maskBytes hashMask)),
-      length-maskBytes hashMask,
-      part-short (maskBytes mask) (omega (arith, length-maskBytes mask)),
-      length-maskBytes mask,
+      mask-short hashMask,
+      mask-short mask,
       part-short extra (omega arith),
       nonce-short mask n,
-      part-short (numberBytes t) (omega (arith, length-numberBytes t .1)),
-      length-numberBytes t .1,
-      part-short (numberBytes lt) (omega (arith, length-numberBytes lt .1)),
-      length-numberBytes lt .1,
+      number-short t,
+      number-short lt,
       values-short (coveredValue (linesIn aside) (linesIn head)) found (coveredNames mask extra),
       names-few mask extra good,
       size-append (path ∷ []) (body ∷ []),

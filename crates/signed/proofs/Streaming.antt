@@ -17,7 +17,7 @@ use Rattle.names.proofs.Walk.{covered-names}
 use Rattle.lines.specs.Lines.{linesIn}
 use Rattle.lines.specs.Values.{coveredValue}
 use Rattle.signed.specs.SignedText.{carried, signedParts, signedText, nonceOf, coveredValues, signedOf, requestText}
-use Rattle.signed.specs.Streamed.{TookParts, openingParts, valuesFrom}
+use Rattle.signed.specs.Streamed.{Room, TookParts, openingParts, valuesFrom}
 
 -- two texts taken in one after the other
 pub took-both : {s t u : Hmac} {a b : List ℕ} → TookIn s a t → TookIn t b u → TookIn s (a ++ b) u
@@ -47,6 +47,13 @@ size parts = length (netstrings parts)
 
 pub size-append : (xs ys : List (List ℕ)) → size (xs ++ ys) ≡ size xs + size ys
 size-append xs ys = ap length (netstrings-append xs ys) ∙ length-append (netstrings xs) (netstrings ys)
+
+-- room for parts in a row
+pub room-first : (s : Hmac) (xs ys : List (List ℕ)) → Room s (xs ++ ys) → Room s xs
+room-first s xs ys h = omega (arith, size-append xs ys)
+
+pub room-rest : {s t : Hmac} (xs ys : List (List ℕ)) → Room s (xs ++ ys) → TookParts s xs t → Room t ys
+room-rest xs ys h p = omega (arith, size-append xs ys)
 
 pub netstrings-one : (part : List ℕ) → netstrings (part ∷ []) ≡ netstring part
 unfolding netstrings

@@ -1,7 +1,7 @@
 -- The text of a token, and the token that is found in a text, belong together; so do sealing a token and opening it.
 -- Assumes nothing.
 use mathlib.Core.Bool.{Bool, true, false, cond, _&&_, and-eq-true-iff}
-use mathlib.Core.List.{List, [], _∷_}
+use mathlib.Core.List.{List, []}
 use mathlib.Core.Option.{Option, none, some}
 use mathlib.Core.Path.{_≡_, refl, sym, ap, _∙_}
 use Prim.Native.Nat.{ℕ}
@@ -9,10 +9,9 @@ use borrow.Author.Tests.{eqb-true, leb-true, ltb-true, eq-eqb, le-leb, lt-ltb}
 use Rattle.cells.specs.Runs.{same}
 use Rattle.cells.proofs.Equality.{same-equal, same-self}
 use Rattle.gcm.proofs.Opening.{opened-sealed}
-use Rattle.cells.specs.Decimal.{decimal, valueAfter}
 use Rattle.netstring.specs.Netstring.{netstrings}
 use Rattle.cells.proofs.Digits.{value-decimal}
-use Rattle.token.specs.Token.{Token, fits, tokenText, sealedToken, frontPart, afterPart, candidate, tokenIn, tokenFrom, openedToken}
+use Rattle.token.specs.Token.{Token, fits, tokenText, sealedToken, candidate, tokenIn, tokenFrom, openedToken}
 use Rattle.token.proofs.Fronts.{front-part, after-part}
 use Rattle.token.proofs.Text.{Sized}
 
@@ -37,20 +36,7 @@ fits-so t f = simp (eq-eqb _ _ (f .key-size), le-leb _ _ (f .id-some), le-leb _ 
 -- the only token that its text can be is it
 candidate-found : (t : Token) → candidate (tokenText t) ≡ t
 unfolding candidate tokenText netstrings
-candidate-found t =
-    let digits = decimal (t .expiry) in
-    let second = netstrings (t .id ∷ digits ∷ []) in
-    let third = netstrings (digits ∷ []) in
-    let after-key : afterPart (tokenText t) ≡ second = after-part (t .key) second in
-    let after-id : afterPart second ≡ third = after-part (t .id) third in
-    let key : frontPart (tokenText t) ≡ t .key = front-part (t .key) second in
-    let id : frontPart (afterPart (tokenText t)) ≡ t .id = ap frontPart after-key ∙ front-part (t .id) third in
-    let expiry : valueAfter 0 (frontPart (afterPart (afterPart (tokenText t)))) ≡ t .expiry =
-    ap (valueAfter 0) (ap (λ (l : List ℕ). frontPart (afterPart l)) after-key ∙ ap frontPart after-id ∙ front-part digits []) ∙ value-decimal (t .expiry)
-    in
-    ap (λ (l : List ℕ). record { key = l; id = candidate (tokenText t) .id; expiry = candidate (tokenText t) .expiry }) key
-    ∙ ap (λ (l : List ℕ). record { key = t .key; id = l; expiry = candidate (tokenText t) .expiry }) id
-    ∙ ap (λ (n : ℕ). record { key = t .key; id = t .id; expiry = n }) expiry
+candidate-found t = simp (front-part, after-part, value-decimal)
 
 -- a text in which a token is found is that token's, and the token is within its sizes
 pub token-exactly : (text : List ℕ) (t : Token) → tokenIn text ≡ some t → (text ≡ tokenText t) × (fits t ≡ true)

@@ -6,9 +6,9 @@ use Prim.Native.Nat.{ℕ, suc}
 use native.Mathlib.Numerals.{add-one}
 use native.Mathlib.Omega.{arith}
 use borrow.Author.Tests.{ne-eqb}
-use lib.ListN.{length, take, drop}
+use lib.ListN.{length, drop}
 use lib.Seq.{take-append-seam, drop-append-seam, drop-append-add}
-use Rattle.cells.specs.Decimal.{decimal, valueAfter}
+use Rattle.cells.specs.Decimal.{decimal}
 use Rattle.netstring.specs.Netstring.{colon, comma, netstring}
 use Rattle.cells.proofs.Digits.{Digits, one, _then_, decimal-digits, value-decimal}
 use Rattle.netstring.proofs.Determined.{netstring-then}
@@ -28,14 +28,8 @@ module _ (bs rest : List ℕ) where
 
   pub front-part : frontPart (netstring bs ++ rest) ≡ bs
   unfolding frontPart
-  front-part =
-      let ds = decimal (length bs) in
-      ap (λ (l : List ℕ). take (valueAfter 0 l) (drop (suc (length l)) (netstring bs ++ rest))) before
-      ∙ ap (λ (n : ℕ). take n (drop (suc (length ds)) (netstring bs ++ rest))) (value-decimal (length bs))
-      ∙ ap (λ (l : List ℕ). take (length bs) (drop (suc (length ds)) l)) (netstring-then bs rest)
-      ∙ ap (take (length bs)) (past ds colon (bs ++ (comma ∷ rest)))
-      ∙ take-append-seam bs (comma ∷ rest)
+  front-part = rw (before, value-decimal, netstring-then, past) (take-append-seam bs (comma ∷ rest))
 
   pub after-part : afterPart (netstring bs ++ rest) ≡ rest
   unfolding afterPart
-  after-part = ap (λ (l : List ℕ). drop (length (netstring l)) (netstring bs ++ rest)) front-part ∙ drop-append-seam (netstring bs) rest
+  after-part = rw front-part (drop-append-seam (netstring bs) rest)

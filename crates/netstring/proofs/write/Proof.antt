@@ -23,24 +23,6 @@ room c =
     let made = c .before .before .before .before .opening in
     omega (arith, start .pre, length-pieces (start .args .part .now) (opening-piece _ (made .result) (made .ensures)))
 
-put-at-requires-2 : tie.Need-put-at-requires-2
-put-at-requires-2 c κs =
-    let first = c .before .before .before .put-at in
-    omega (arith, room (c .before .before .before .before), first .ensures .ends, first .kept .0)
-
-put-at-requires-3 : tie.Need-put-at-requires-3
-put-at-requires-3 c κs =
-    let first = c .before .before .before .before .before .before .before .before .put-at in
-    let second = c .before .before .before .before .put-at2 in
-    omega (
-      arith,
-      room (c .before .before .before .before .before .before .before .before .before),
-      first .ensures .ends,
-      first .kept .0,
-      second .ensures .ends,
-      second .kept .0,
-    )
-
 returns : tie.Need-returns
 returns c =
     let sent = c .before .before .before .before .before .before .before .before .before .before .before .before in
@@ -52,7 +34,7 @@ returns c =
     let third = c .before .before .put-at3 .ensures in
     let h = room sent in
     subst (Laid _ _ _ _) (ap (λ (l : List ℕ). (l ++ part) ++ (comma ∷ [])) (opening-piece _ (made .result) (made .ensures)) ∙ netstring-pieces part)
-    (laid-more (laid-more first second (omega (arith, h, first .ends, second .ends))) third (omega (arith, h, first .ends, second .ends, third .ends)))
+    (laid-more (laid-more first second (omega arith)) third (omega arith))
 
 pub write-spec : {M : Type 1} → statement M
 write-spec =
@@ -63,8 +45,8 @@ write-spec =
     (λ c. search needs)
     (λ c. search needs)
     (λ c κs. omega (arith, room c))
-    put-at-requires-2
+    (λ c κs. omega (arith, room (c .before .before .before .before)))
     (λ c. search needs)
-    put-at-requires-3
+    (λ c κs. omega (arith, room (c .before .before .before .before .before .before .before .before .before)))
     (λ c. search needs)
     returns)

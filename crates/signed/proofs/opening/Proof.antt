@@ -14,15 +14,6 @@ room : (s : tie.Start) → s .args .state .inner .length + size (maskBytes hashM
     + size (s .args .extra .now ∷ []) + size (carried (nonceOf (s .args .mask) (s .args .n .0))) + size (numberBytes (s .args .t .0) ∷ []) + size (numberBytes (s .args .lt .0) ∷ []) < 2 ^ 61
 room s = omega (arith, s .pre, opening-size (s .args .mask) (s .args .n .0) (s .args .t .0) (s .args .lt .0) (s .args .extra .now))
 
-returns : tie.Need-returns
-returns c =
-    let args = c .before .before .before .before .before .before .before .args in
-    took-then (maskBytes hashMask ∷ []) _ (c .before .before .before .before .before .absorb-mask .ensures)
-    (took-then (maskBytes (args .mask) ∷ []) _ (c .before .before .before .before .absorb-mask2 .ensures)
-    (took-then (args .extra .now ∷ []) _ (c .before .before .before .absorb .ensures)
-    (took-then (carried (nonceOf (args .mask) (args .n .0))) _ (c .before .before .absorb-nonce .ensures)
-    (took-then (numberBytes (args .t .0) ∷ []) (numberBytes (args .lt .0) ∷ []) (c .before .absorb-number .ensures) (c .absorb-number2 .ensures)))))
-
 pub opening-spec : {M : Type 1} → statement M
 opening-spec =
     tie.close
@@ -33,4 +24,10 @@ opening-spec =
     (λ c κs. omega (arith, room (c .before .before .before .before)))
     (λ c κs. omega (arith, room (c .before .before .before .before .before)))
     (λ c κs. omega (arith, room (c .before .before .before .before .before .before)))
-    returns)
+    (λ c.
+    let args = c .before .before .before .before .before .before .before .args in
+    took-then (_ ∷ []) _ (c .before .before .before .before .before .absorb-mask .ensures)
+    (took-then (_ ∷ []) _ (c .before .before .before .before .absorb-mask2 .ensures)
+    (took-then (_ ∷ []) _ (c .before .before .before .absorb .ensures)
+    (took-then (carried (nonceOf (args .mask) (args .n .0))) _ (c .before .before .absorb-nonce .ensures)
+    (took-then (_ ∷ []) (_ ∷ []) (c .before .absorb-number .ensures) (c .absorb-number2 .ensures)))))))

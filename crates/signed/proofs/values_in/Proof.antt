@@ -1,17 +1,14 @@
 -- `values_in` meets its contract: what is taken in of the names up to at, and then of the others, is what is taken in of all.
 -- Assumes nothing.
 use borrow.Author.Needs.{needs}
-use mathlib.Core.Path.{_≡_, sym, ap, subst, _∙_}
-use mathlib.Core.List.{List, [], _∷_, map}
-use Prim.Native.Nat.{ℕ, _+_, _-_, _≤_}
+use mathlib.Core.List.{[], _∷_}
+use Prim.Native.Nat.{_+_, _-_, _≤_}
 use native.Mathlib.Omega.{arith}
 use lib.ListN.{length}
 use Rattle.hmac.specs.declared.Hmac.{Hmac}
 use Rattle.names.specs.Walk.{FirstName}
-use Rattle.lines.specs.Lines.{linesIn}
-use Rattle.lines.specs.Values.{coveredValue}
 use Rattle.signed.specs.Streamed.{Room, TookParts, valuesFrom}
-use Rattle.signed.proofs.Streaming.{size, size-append, took-none, took-then}
+use Rattle.signed.proofs.Streaming.{room-first, room-rest, took-none, took-then}
 use Rattle.signed.proofs.values_in.Statement.{statement}
 use Rattle.signed.proofs.values_in.Tie as tie
 
@@ -34,35 +31,19 @@ name : (c : tie.After-start Inv-loop μ-loop)
     (c .start .given .0 .0) (c .start .given .0 .1 .0) (c .start .given .0 .1 .1 .0)
 name c = rw (c .start .given .1) at (c .before .before .next-name .ensures)
 
--- the values of the names after this one
-abbrev after : tie.After-covered Inv-loop μ-loop → List (List ℕ)
-after c =
-    let args = c .before .before .before .before .before .before .before .before .before .before .args in
-    let begun = c .before .before .before .start .given .0 in
-    valuesFrom (args .aside .now) (args .head .now) (args .run .now) (begun .1 .1 .0) (begun .1 .0 + 1)
-
-split : (c : tie.After-covered Inv-loop μ-loop)
-    → let args = c .before .before .before .before .before .before .before .before .before .before .args in
-    let loop = c .before .before .before .before .before .before .loop in
-    valuesFrom (args .aside .now) (args .head .now) (args .run .now) (loop .left) (loop .at) ≡ c .covered .result .now ∷ after c
-split c =
-    let args = c .before .before .before .before .before .before .before .before .before .before .args in
-    ap (map (coveredValue (linesIn (args .aside .now)) (linesIn (args .head .now)))) (name (c .before .before .before) .names)
-    ∙ ap (λ (v : List ℕ). v ∷ after c) (sym (c .covered .ensures .is))
-
 absorb-requires : tie.Need-absorb-requires Inv-loop μ-loop
 absorb-requires c κs =
-    omega (arith, c .before .before .before .before .before .before .loop .inv .1, ap size (split c), size-append (c .covered .result .now ∷ []) (after c))
+    let loop = c .before .before .before .before .before .before .loop in
+    room-first (loop .taken) (_ ∷ []) _ (simp (name (c .before .before .before) .names, ← (c .covered .ensures .is)) at (loop .inv .1))
 
 loop-again : tie.Need-loop-again Inv-loop μ-loop
 loop-again c =
     let loop = c .before .before .before .before .before .before .before .loop in
-    let value = c .before .covered .result .now in (
-      omega (arith, name (c .before .before .before .before)),
-      omega (arith, loop .inv .1, c .absorb .ensures .inner-counted, ap size (split (c .before)), size-append (value ∷ []) (after (c .before))),
-      λ r p.
-          loop .inv .2 r
-          (subst (λ (ps : List (List ℕ)). TookParts (loop .taken) ps r) (sym (split (c .before))) (took-then (value ∷ []) (after (c .before)) (c .absorb .ensures) p)),
+    let first = name (c .before .before .before .before) in
+    let value = c .before .covered .ensures .is in (
+      omega (arith, first),
+      room-rest (_ ∷ []) _ (simp (first .names, ← value) at (loop .inv .1)) (c .absorb .ensures),
+      λ r p. loop .inv .2 r (simp (first .names, ← value) (took-then (_ ∷ []) _ (c .absorb .ensures) p)),
     )
 
 pub values-in-spec : {M : Type 1} → statement M

@@ -30,24 +30,6 @@ room c =
       ap (λ (l : List ℕ). length (netstring l)) (shown-piece _ (shown .result) (shown .ensures)),
     )
 
-write-requires-2 : tie.Need-write-requires-2
-write-requires-2 c κs =
-    let first = c .before .before .before .write in
-    omega (arith, room (c .before .before .before .before), first .ensures .ends, first .kept .1 .0)
-
-write-requires-3 : tie.Need-write-requires-3
-write-requires-3 c κs =
-    let first = c .before .before .before .before .before .before .before .before .before .write in
-    let second = c .before .before .before .before .before .write2 in
-    omega (
-      arith,
-      room (c .before .before .before .before .before .before .before .before .before .before),
-      first .ensures .ends,
-      first .kept .1 .0,
-      second .ensures .ends,
-      second .kept .1 .0,
-    )
-
 returns : tie.Need-returns
 unfolding tokenText netstrings
 returns c =
@@ -61,7 +43,7 @@ returns c =
     subst (Laid _ _ _ _)
     (ap (λ (l : List ℕ). (netstring (args .key .now) ++ netstring (args .id .now)) ++ netstring l) (shown-piece _ (shown .result) (shown .ensures))
     ∙ simp (append-assoc, append-nil))
-    (laid-more (laid-more first second (omega (arith, h, first .ends, second .ends))) third (omega (arith, h, first .ends, second .ends, third .ends)))
+    (laid-more (laid-more first second (omega arith)) third (omega arith))
 
 pub lay-spec : {M : Type 1} → statement M
 lay-spec =
@@ -70,10 +52,10 @@ lay-spec =
     (λ c. search needs)
     (λ c κs. search needs)
     (λ c κs. omega (arith, room c))
-    write-requires-2
+    (λ c κs. omega (arith, room (c .before .before .before .before)))
     (λ c. search needs)
     (λ c. search needs)
     (λ c. search needs)
-    write-requires-3
+    (λ c κs. omega (arith, room (c .before .before .before .before .before .before .before .before .before .before)))
     (λ c. search needs)
     returns)
