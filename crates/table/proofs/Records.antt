@@ -10,19 +10,20 @@ use lib.ListN.{length, getD, take, drop, set, replicate, length-append, length-t
 use lib.Seq.{take-all, take-at, drop-at, take-add, drop-drop, drop-cons, getD-at, getD-take, getD-drop}
 use Rattle.cells.specs.Runs.{spliced, part, Bytes}
 use Rattle.cells.specs.Numbers.{bytesOf, number}
-use Rattle.cells.proofs.Runs.{lent, joined, spliced-front, fronted-whole, length-spliced, length-part}
+use Rattle.cells.proofs.Runs.{lent, spliced-front, fronted-whole, length-spliced, length-part}
+use Rattle.cells.specs.Laid.{Laid}
+use Rattle.cells.proofs.Laid.{laid-more}
 use Rattle.cells.proofs.Cuts.{bytes-part, part-part}
 use Rattle.cells.proofs.Numbers.{length-bytesOf, number-of, bytesOf-number}
 use Rattle.table.specs.declared.session.Record.{Record}
 use Rattle.table.specs.Record.{size, recordBytes, recordOf, Fits, freed}
 use Rattle.table.specs.Table.{places, recordAt, chunks, records}
 
-next : (xs ys zs : List ℕ) {a b : List ℕ} (at n : ℕ) → a ≡ spliced xs at ys → b ≡ spliced a n zs
-    → at + length ys + length zs ≤ length xs → n ≡ at + length ys → b ≡ spliced xs at (ys ++ zs)
-next xs ys zs at n p q h e = q ∙ ap (λ (l : List ℕ). spliced l n zs) p ∙ joined xs ys zs at n h e
+laid : {out left text : List ℕ} {at : ℕ} (end : ℕ) → left ≡ spliced out at text → end ≡ at + length text → Laid out left at end text
+laid end p q = record { is = p; ends = q }
 
 -- a record's fields written one after the other
-pub written : (r : Record) (out c f : List ℕ) {a b d e : List ℕ} → length out ≡ size → length (r .iv) ≡ 12
+pub written : (r : Record) (out : List ℕ) {a b c d e f : List ℕ} → length out ≡ size → length (r .iv) ≡ 12
     → a ≡ spliced out 0 (r .used ∷ [])
     → b ≡ spliced a 1 (r .iv)
     → c ≡ spliced b 13 (bytesOf 4 (r .expiry .0))
@@ -31,23 +32,11 @@ pub written : (r : Record) (out c f : List ℕ) {a b d e : List ℕ} → length 
     → f ≡ spliced e 22 (bytesOf 8 (r .bits))
     → f ≡ recordBytes r
 unfolding recordBytes
-written r out c f long iv ea eb ec ed ee ef =
-    let x = length-bytesOf 4 (r .expiry .0) in
-    let h = length-bytesOf 4 (r .highest .0) in
-    let w = length-bytesOf 8 (r .bits) in
-    let front = r .used ∷ r .iv ++ bytesOf 4 (r .expiry .0) in
-    let rest = r .any ∷ bytesOf 4 (r .highest .0) ++ bytesOf 8 (r .bits) in
-    let lf : length front ≡ 17 = simp length-append (omega arith) in
-    let lr : length rest ≡ 13 = simp length-append (omega arith) in
-    let one = next out (r .used ∷ []) (r .iv) 0 1 ea eb (omega arith) refl in
-    let two = next out (r .used ∷ r .iv) (bytesOf 4 (r .expiry .0)) 0 13 one ec (omega arith) (omega arith) in
-    let same = ap length two ∙ length-spliced out front 0 (omega arith) in
-    let three = next c (r .any ∷ []) (bytesOf 4 (r .highest .0)) 17 18 ed ee (omega arith) refl in
-    let four = next c (r .any ∷ bytesOf 4 (r .highest .0)) (bytesOf 8 (r .bits)) 17 22 three ef (omega arith) (omega arith) in
-    next out front rest 0 17 two four (omega arith) (omega arith)
-    ∙ spliced-front out (front ++ rest)
-    ∙ fronted-whole (front ++ rest) out (length-append front rest ∙ omega arith)
-    ∙ simp append-assoc
+written r out long iv used vector expiry any highest bits =
+    let to-expiry = laid-more (laid-more (laid 1 used refl) (laid 13 vector (omega arith)) (omega arith)) (laid 17 expiry (omega (arith, length-bytesOf 4 (r .expiry .0)))) (omega arith) in
+    let to-highest = laid-more (laid-more to-expiry (laid 18 any refl) (omega arith)) (laid 22 highest (omega (arith, length-bytesOf 4 (r .highest .0)))) (omega arith) in
+    let all = laid-more to-highest (laid 30 bits (omega (arith, length-bytesOf 8 (r .bits)))) (omega arith) in
+    all .is ∙ spliced-front out _ ∙ fronted-whole _ out (omega (arith, all .ends)) ∙ simp append-assoc
 
 pub length-recordBytes : (r : Record) → length (r .iv) ≡ 12 → length (recordBytes r) ≡ size
 unfolding recordBytes
@@ -191,17 +180,17 @@ module _ (xs ys : List ℕ) (n k : ℕ) (h : n + k ≤ length xs) where
       ap (drop n) regrouped ∙ drop-at (take n xs) _ n (length-take n xs ∙ omega arith)
       ∙ ap (λ (l : List ℕ). take k (drop n xs) ++ (ys ++ drop (length ys) l)) (sym (drop-drop k n xs))
 
-laid : (xs ys : List ℕ) {n : ℕ} → length ys ≡ n → spliced xs 0 ys ≡ ys ++ drop n xs
+front-laid : (xs ys : List ℕ) {n : ℕ} → length ys ≡ n → spliced xs 0 ys ≡ ys ++ drop n xs
 unfolding spliced
-laid xs ys e = rw e
+front-laid xs ys e = rw e
 
 chunks-spliced : (i n : ℕ) (bytes ys : List ℕ) → i < n → size * n ≤ length bytes → length ys ≡ size
     → chunks n (spliced bytes (size * i) ys) ≡ set (chunks n bytes) i (recordOf ys)
 chunks-spliced i zero bytes ys h long e = absurd (omega arith)
 chunks-spliced zero (suc n) bytes ys h long e =
     ap₂ (λ (a b : List ℕ). recordOf a ∷ chunks n b)
-    (ap (take size) (laid bytes ys e) ∙ take-at ys (drop size bytes) size e)
-    (ap (drop size) (laid bytes ys e) ∙ drop-at ys (drop size bytes) size e)
+    (ap (take size) (front-laid bytes ys e) ∙ take-at ys (drop size bytes) size e)
+    (ap (drop size) (front-laid bytes ys e) ∙ drop-at ys (drop size bytes) size e)
 chunks-spliced (suc i) (suc n) bytes ys h long e =
     let split : size * suc i ≡ size + size * i = omega arith in
     ap (λ (k : ℕ). chunks (suc n) (spliced bytes k ys)) split

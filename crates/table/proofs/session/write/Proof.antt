@@ -18,7 +18,7 @@ returns c =
     let used = iv .before .before .before .before .before .before .before .before in
     let start = used .before .before .before .before in
     let a = start .args in
-    written (a .session) (a .out .now) _ _ (start .pre) (iv-long start)
+    written (a .session) (a .out .now) (start .pre) (iv-long start)
     (used .put-mark .ensures) (iv .before .before .before .put-at .ensures .is) (any .before .before .before .before .put32 .ensures)
     (any .put-mark2 .ensures) (highest .before .put322 .ensures) (c .before .before .put64 .ensures)
 
