@@ -14,7 +14,7 @@ use lib.Seq.{take-all, take-suc, take-at}
 use borrow.Author.Tests.{eqb-true, leb-true, le-leb, eq-eqb, ne-eqb}
 use Rattle.cells.specs.Runs.{Bytes, spliced}
 use Rattle.cells.specs.Numbers.{bytesOf, number}
-use Rattle.cells.proofs.Numbers.{length-bytesOf, bytes-bytesOf, bytes-rest, number-below, number-of, bytesOf-number, bytesOf-append, number-append}
+use Rattle.cells.proofs.Numbers.{length-bytesOf, bytes-rest, number-below, number-of, bytesOf-number, bytesOf-append, number-append}
 use Rattle.cells.proofs.Runs.{spliced-front, fronted-whole}
 use Rattle.armor.specs.Numerals.{shortest, plain, numberBytes, isNumeral, isNumber, maskBytes, isMask, maskOf}
 
@@ -52,16 +52,6 @@ length-shortest : (b : ℕ) (bs : List ℕ) → (1 ≤ length (shortest (b ∷ b
 unfolding shortest
 length-shortest b [] = (omega arith, omega arith)
 length-shortest b (c ∷ bs) = length-by b c bs (eqb b 0) (length-shortest c bs)
-
-bytes-by : (b c : ℕ) (bs : List ℕ) (t : Bool) → Bytes (shortest (c ∷ bs)) → Bytes (b ∷ c ∷ bs) → Bytes (cond t (shortest (c ∷ bs)) (b ∷ c ∷ bs))
-bytes-by b c bs true p q = p
-bytes-by b c bs false p q = q
-
-bytes-shortest : (bs : List ℕ) → Bytes bs → Bytes (shortest bs)
-unfolding shortest
-bytes-shortest [] h = h
-bytes-shortest (b ∷ []) h = h
-bytes-shortest (b ∷ c ∷ bs) h = bytes-by b c bs (eqb b 0) (bytes-shortest (c ∷ bs) (bytes-rest b (c ∷ bs) h)) h
 
 plain-same : (b c : ℕ) (bs : List ℕ) (t : Bool) → not t ≡ true → cond t (shortest (c ∷ bs)) (b ∷ c ∷ bs) ≡ b ∷ c ∷ bs
 plain-same b c bs true h = let z : true ≡ false = sym h in ap (λ (t : Bool). cond t (shortest (c ∷ bs)) (b ∷ c ∷ bs)) z
@@ -119,10 +109,6 @@ more-bytes j k n e low high = sized-bytes j (suc k) n e (first-byte k n low high
 pub number-numberBytes : (n : ℕ) → n < 2 ^ 64 → number (numberBytes n) ≡ n
 unfolding numberBytes
 number-numberBytes n h = number-shortest (bytesOf 8 n) ∙ number-of 8 n h
-
-pub bytes-numberBytes : (n : ℕ) → Bytes (numberBytes n)
-unfolding numberBytes
-bytes-numberBytes n = bytes-shortest (bytesOf 8 n) (bytes-bytesOf 8 n)
 
 -- a run's shortest form stands at its end
 suffix-by : (b c : ℕ) (bs : List ℕ) (t : Bool) → drop (length (c ∷ bs) - length (shortest (c ∷ bs))) (c ∷ bs) ≡ shortest (c ∷ bs)
@@ -223,12 +209,9 @@ number-fits k bs h t =
     let more : 8 * length bs ≤ 8 * k = omega (arith, p .1) in
     lt-of-lt-of-le (number-below bs h) (pow-mono more)
 
--- no two numbers have the same bytes, and no two runs the same number
+-- no two numbers have the same bytes
 pub numberBytes-injective : (m n : ℕ) → m < 2 ^ 64 → n < 2 ^ 64 → numberBytes m ≡ numberBytes n → m ≡ n
 numberBytes-injective m n hm hn e = sym (number-numberBytes m hm) ∙ ap number e ∙ number-numberBytes n hn
-
-pub number-injective : (bs cs : List ℕ) → Bytes bs → Bytes cs → isNumber bs ≡ true → isNumber cs ≡ true → number bs ≡ number cs → bs ≡ cs
-number-injective bs cs hb hc tb tc e = sym (numberBytes-number bs hb tb) ∙ ap numberBytes e ∙ numberBytes-number cs hc tc
 
 -- masks
 pub mask-is : (m : ℕ) → m < 2 ^ 64 → isMask (maskBytes m) ≡ true
@@ -259,9 +242,6 @@ mask-fits (n ∷ bs) h t = number-fits 8 bs (bytes-rest n bs h) (mask-parts n bs
 
 pub maskBytes-injective : (l m : ℕ) → l < 2 ^ 64 → m < 2 ^ 64 → maskBytes l ≡ maskBytes m → l ≡ m
 maskBytes-injective l m hl hm e = sym (maskOf-maskBytes l hl) ∙ ap maskOf e ∙ maskOf-maskBytes m hm
-
-pub maskOf-injective : (bs cs : List ℕ) → Bytes bs → Bytes cs → isMask bs ≡ true → isMask cs ≡ true → maskOf bs ≡ maskOf cs → bs ≡ cs
-maskOf-injective bs cs hb hc tb tc e = sym (maskBytes-maskOf bs hb tb) ∙ ap maskBytes e ∙ maskBytes-maskOf cs hc tc
 
 -- a number with one byte more
 pub number-more : (bs : List ℕ) (i : ℕ) → i < length bs → number (take (i + 1) bs) ≡ number (take i bs) * 256 + getD bs i 0

@@ -1,7 +1,7 @@
 -- What a scan and the tests after it say of a whole value.
 -- Assumes nothing.
-use mathlib.Core.Path.{_≡_, refl, sym, ap, ap₂, subst, _∙_}
-use mathlib.Core.Bool.{Bool, true, false, not, _&&_}
+use mathlib.Core.Path.{_≡_, refl, sym, ap, ap₂, _∙_}
+use mathlib.Core.Bool.{true, false, not, _&&_}
 use mathlib.Core.List.{List}
 use mathlib.Core.Option.{Option, none, some}
 use Prim.Native.Nat.{ℕ, _<_, _≤_}
@@ -13,14 +13,15 @@ use Rattle.armor.specs.declared.Answer.{Answer}
 use Rattle.armor.specs.declared.SetupRead.{SetupRead}
 use Rattle.armor.specs.declared.scanning.Seen.{Seen}
 use Rattle.armor.specs.declared.scanning.ScanRead.{ScanRead}
-use Rattle.armor.specs.Keys.{Rule, mask, obeys, keys, ruleAt, keyN, keyAh, keyR}
+use Rattle.armor.specs.Keys.{mask, keys, ruleAt, keyN, keyAh, keyR}
 use Rattle.armor.specs.Value.{Field, grammar, carried}
 use Rattle.armor.specs.Fields.{times, the, rightTimes, nonceBit, requestFields, setupFields}
 use Rattle.armor.specs.Answers.{requestFrom, requestAnswer, setupFrom, setupAnswer}
 use Rattle.armor.specs.Scan.{Sound, Noted, countIn, isSome, Scanned}
 use Rattle.armor.proofs.Numerals.{both}
+use Rattle.armor.proofs.Value.{grammar-exactly}
 use Rattle.armor.proofs.Texts.{mask-room}
-use Rattle.armor.proofs.Fields.{count-bit, counted, counts-are, noted, obeyed-once, grammar-good}
+use Rattle.armor.proofs.Fields.{count-bit, counted, counts-are, noted, obeyed-once}
 use Rattle.armor.proofs.Requests.{right-parts}
 
 -- a value that breaks its grammar
@@ -59,7 +60,7 @@ module _ (v : List ℕ) (seen : Seen) (h : Sound v seen) where
   mask-there : (k : ℕ) → k < 12 → ruleAt k ≡ mask → times k (carried v) ≡ 1
       → Noted v seen k × (1 ≤ length (the k (carried v))) × (length (the k (carried v)) ≤ 9)
   mask-there k small e one =
-      let room = mask-room (the k (carried v)) (rw e at (obeyed-once (carried v) k (grammar-good v (carried v) (h .kept)) one)) in
+      let room = mask-room (the k (carried v)) (rw e at (obeyed-once (carried v) k (grammar-exactly v (carried v) .0 (h .kept) .1) one)) in
       (noted (h .notes) k small (omega arith), room .0, room .1)
 
   pub coverage-there : rightTimes (countIn seen) ≡ true

@@ -1,7 +1,7 @@
 -- What the set of fields of a request, and the rules of its keys, say of what it carries.
 -- Assumes nothing.
 use mathlib.Core.Path.{_≡_, refl, ap, _∙_}
-use mathlib.Core.Bool.{Bool, true, false, cond, _&&_}
+use mathlib.Core.Bool.{Bool, true, cond, _&&_}
 use mathlib.Core.List.{List}
 use mathlib.Core.Option.{some}
 use Prim.Native.Nat.{ℕ, zero, suc, _<_, _≤_}
@@ -13,15 +13,16 @@ use Rattle.armor.specs.declared.scanning.Seen.{Seen}
 use Rattle.armor.specs.declared.Answer.{Answer}
 use Rattle.armor.specs.declared.SetupRead.{SetupRead}
 use Rattle.armor.specs.Numerals.{maskOf}
-use Rattle.armor.specs.Keys.{Rule, mask, sized, obeys, keys, ruleAt, keyT, keyLt, keyN, keyH, keyAh, keyR, keyS, keyC, keyIv, keyTag, keyEah, otherKey}
+use Rattle.armor.specs.Keys.{sized, obeys, keys, ruleAt, keyT, keyLt, keyN, keyH, keyAh, keyR, keyS, keyC, keyIv, keyTag, keyEah, otherKey}
 use Rattle.armor.specs.Keys
 use Rattle.armor.specs.Value.{Field, allGood, grammar, carried}
 use Rattle.armor.specs.Fields.{times, the, rightTimes, nonceBit, requestFields, setupFields}
 use Rattle.armor.specs.Answers.{requestFrom, requestAnswer, setupFrom, setupAnswer}
 use Rattle.armor.specs.Scan.{Sound, Sizes, Ready}
 use Rattle.armor.proofs.Numerals.{both}
+use Rattle.armor.proofs.Value.{grammar-exactly}
 use Rattle.armor.proofs.Texts.{number-room, mask-room, sized-room}
-use Rattle.armor.proofs.Fields.{noted, obeyed-once, none-held, grammar-good}
+use Rattle.armor.proofs.Fields.{noted, obeyed-once, none-held}
 
 -- how often each key stands
 pub record Required (n : ℕ → ℕ) : Type 0 where
@@ -137,7 +138,7 @@ pub ready : {v : List ℕ} {seen : Seen} → Sound v seen → requestFields (car
 ready {v} h e = record {
   notes = h .notes;
   noted = λ k small. noted (h .notes) k small (once-or-not (carried v) e k small);
-  sizes = sizes (carried v) (grammar-good v (carried v) (h .kept)) e;
+  sizes = sizes (carried v) (grammar-exactly v (carried v) .0 (h .kept) .1) e;
 }
 
 -- what a value that keeps its grammar comes to

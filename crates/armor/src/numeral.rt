@@ -4,7 +4,7 @@ ghost use Prim.Native.Nat.{_+_, _≤_};
 ghost use lib.ListN.{length, take};
 ghost use Rattle.cells.specs.Runs.{spliced};
 ghost use Rattle.cells.specs.Numbers.{number};
-ghost use Rattle.armor.specs.Numerals.{plain, numberBytes, maskBytes};
+ghost use Rattle.armor.specs.Numerals.{plain, numberBytes, isNumeral, maskBytes};
 
 pub struct NumberBytes {
     pub bytes: [u8; 4],
@@ -79,13 +79,21 @@ pub fn mask_bytes(m: u64) -> MaskBytes
 }
 
 // Whether a run has no leading zero byte, or is one byte.
-pub fn is_plain(bytes: &[u8]) -> bool
+fn is_plain(bytes: &[u8]) -> bool
     ensures { λ r. ⌜ r ≡ plain (now (bytes .entry)) ⌝ }
 {
     if bytes.len() < 2 {
         return true;
     }
     bytes[0] != 0
+}
+
+// Whether a run is the bytes of a number, of which there are 1 to most.
+pub fn is_numeral(bytes: &[u8], most: usize) -> bool
+    ensures { λ r. ⌜ r ≡ isNumeral most (now (bytes .entry)) ⌝ }
+{
+    let len = bytes.len();
+    (1 <= len) & ((len <= most) & is_plain(bytes))
 }
 
 // The number of at most eight bytes.

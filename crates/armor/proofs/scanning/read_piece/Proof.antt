@@ -8,15 +8,15 @@ use borrow.Author.Needs.{needs}
 use borrow.Author.Tests.{not-true, not-false}
 use Rattle.armor.specs.declared.scanning.Piece.{Piece}
 use Rattle.armor.proofs.Keys.{keyNumber-within}
-use Rattle.armor.proofs.Scan.{answer-no-key, answer-no-colon, answer-bad, answer-good, piece-read}
+use Rattle.armor.proofs.Scan.{answer-no-key, answer-no-colon, answer-bad, answer-good, piece-read, piece-is}
 use Rattle.armor.proofs.scanning.read_piece.Statement.{statement}
 use Rattle.armor.proofs.scanning.read_piece.Tie as tie
 
 returns : tie.Need-returns
-returns c = sym (answer-no-key (c .before .before .before .args .text .now) (sym (c .before .find .ensures) ∙ c .if1 .taken))
+returns c = piece-is _ _ (sym (answer-no-key (c .before .before .before .args .text .now) (sym (c .before .find .ensures) ∙ c .if1 .taken)))
 
 returns-2 : tie.Need-returns-2
-returns-2 c = sym (answer-no-colon (c .before .before .before .before .args .text .now) (omega (arith, c .before .before .find .ensures, c .if2 .taken)))
+returns-2 c = piece-is _ _ (sym (answer-no-colon (c .before .before .before .before .args .text .now) (omega (arith, c .before .before .find .ensures, c .if2 .taken))))
 
 slice-aggregate-key-number : tie.Need-slice-aggregate-key-number
 slice-aggregate-key-number c = sym (length-take-le (c .before .before .before .find .result) (c .before .before .before .before .before .args .text .now) (omega arith))
@@ -31,7 +31,7 @@ returns-3 c =
     let number = c .before .before .before .key-number in
     let good = c .before .is-good in
     let is = piece-read p (find .result) (number .result) (good .result) (find .ensures) (number .ensures) (good .ensures) in
-    sym (answer-bad p (sym (is .good-is) ∙ not-true (good .result) (c .if3 .taken)))
+    piece-is p _ (sym (answer-bad p (sym (is .good-is) ∙ not-true (good .result) (c .if3 .taken))))
 
 returns-4 : tie.Need-returns-4
 returns-4 c =
@@ -40,8 +40,9 @@ returns-4 c =
     let number = c .before .before .before .key-number in
     let good = c .before .is-good in
     let is = piece-read p (find .result) (number .result) (good .result) (find .ensures) (number .ensures) (good .ensures) in
-    ap₂ Piece.Field (is .key-is) (is .start-is)
-    ∙ sym (answer-good p (omega (arith, find .ensures, c .before .before .before .before .before .before .if1 .left)) (sym (is .good-is) ∙ not-false (good .result) (c .if3 .left)))
+    piece-is p _
+    (ap₂ Piece.Field (is .key-is) (is .start-is)
+    ∙ sym (answer-good p (omega (arith, find .ensures, c .before .before .before .before .before .before .if1 .left)) (sym (is .good-is) ∙ not-false (good .result) (c .if3 .left))))
 
 pub read-piece-spec : {M : Type 1} → statement M
 read-piece-spec =
