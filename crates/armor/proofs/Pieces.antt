@@ -1,7 +1,7 @@
 -- Laws of a run cut at a byte.
 -- Assumes nothing.
 use mathlib.Core.Path.{_≡_, refl, ap, _∙_}
-use mathlib.Core.Bool.{Bool, true, false, cond}
+use mathlib.Core.Bool.{Bool, true, false, cond, not}
 use mathlib.Core.List.{List, [], _∷_, _++_}
 use Prim.Native.Nat.{ℕ, zero, suc, _<_, _≤_}
 use native.Mathlib.Nat.{not-suc-le-zero, le-of-suc-le-suc}
@@ -9,6 +9,7 @@ use native.Mathlib.Omega.{arith}
 use lib.Dec.{eqb}
 use lib.ListN.{length, take, drop}
 use borrow.Author.Tests.{eqb-true, eqb-false, eq-eqb, ne-eqb}
+use Rattle.cells.specs.Spans.{leading}
 use Rattle.armor.specs.Pieces.{upTo, after, onto, pieces, Without, semicolon}
 
 -- at the first byte
@@ -27,6 +28,17 @@ after-here b x xs e = simp (eq-eqb x b e)
 pub after-on : (b x : ℕ) (xs : List ℕ) → (x ≡ b → ⊥) → after b (x ∷ xs) ≡ after b xs
 unfolding after
 after-on b x xs e = simp (ne-eqb x b e)
+
+-- as many bytes stand before b as are not b at the front
+pub leading-upTo : (b : ℕ) (xs : List ℕ) → leading (λ x. not (eqb x b)) xs ≡ length (upTo b xs)
+unfolding leading upTo
+leading-upTo b [] = refl
+leading-upTo b (x ∷ xs) = by (eqb x b) (leading-upTo b xs)
+  where
+    by : (t : Bool) → leading (λ y. not (eqb y b)) xs ≡ length (upTo b xs)
+        → cond (not t) (suc (leading (λ y. not (eqb y b)) xs)) 0 ≡ length (cond t [] (x ∷ upTo b xs))
+    by true e = refl
+    by false e = ap suc e
 
 -- what stands before b is a part of the run, and so is what stands after it
 taken-by : (b x : ℕ) (xs : List ℕ) (t : Bool) → take (length (upTo b xs)) xs ≡ upTo b xs

@@ -1,17 +1,18 @@
 -- Laws of a scan: what a piece is, and how notes grow by one field.
 -- Assumes nothing.
 use mathlib.Core.Path.{_≡_, refl, sym, ap, ap₂, subst, _∙_}
-use mathlib.Core.Bool.{Bool, true, false, cond, _&&_, and-false}
+use mathlib.Core.Bool.{Bool, true, false, cond, _&&_}
 use mathlib.Core.List.{List, [], _∷_, _++_, append-assoc, append-nil}
 use mathlib.Core.Option.{Option, none, some, Option·getD}
 use Prim.Native.Nat.{ℕ, zero, suc, _+_, _-_, _<_, _≤_, min}
 use native.Mathlib.Nat.{not-suc-le-zero, sub-zero, zero-sub, suc-sub-suc}
 use native.Mathlib.Numerals.{add-one}
+use native.Mathlib.Decide.{decLt}
 use native.Mathlib.Omega.{arith}
 use lib.Dec.{eqb, leb}
 use lib.ListN.{length, getD, take, drop, set, length-append, length-set, length-take, length-drop, getD-replicate, drop-of-length-le}
 use lib.Seq.{getD-set-same, getD-set-other, drop-drop, take-nil, take-all}
-use borrow.Author.Tests.{eqb-true, eqb-false, eq-eqb, ne-eqb, le-leb, lt-leb}
+use borrow.Author.Tests.{eqb-true, eqb-false, eq-eqb, ne-eqb}
 use Rattle.cells.specs.Runs.{cut}
 use Rattle.base64.specs.Decoding.{bytes, decoded}
 use Rattle.armor.specs.declared.scanning.Seen.{Seen}
@@ -258,55 +259,6 @@ carried-is v fs e = ap (λ (o : Option (List Field)). Option·getD o []) e
 pub kept-is : (v : List ℕ) (fs : List Field) → grammar v ≡ some fs → grammar v ≡ some (carried v)
 kept-is v fs e = e ∙ ap some (sym (carried-is v fs e))
 
--- what the code answers of a piece
-pub answer-no-key : (p : List ℕ) → length (upTo colon p) ≡ 0 → pieceAnswer p ≡ Piece.Bad
-unfolding pieceAnswer pieceGood
-answer-no-key p e = simp (lt-leb 1 (length (upTo colon p)) (omega arith))
-
-unbroken : (p : List ℕ) → length p ≤ length (upTo colon p) → after colon p ≡ []
-unbroken p h = sym (dropped-after colon p) ∙ drop-of-length-le p {i = suc (length (upTo colon p))} (omega arith)
-
-pub answer-no-colon : (p : List ℕ) → length p ≤ length (upTo colon p) → pieceAnswer p ≡ Piece.Bad
-unfolding pieceAnswer pieceGood textObeys decoded
-answer-no-colon p h =
-    ap
-    (λ (text : List ℕ). cond (leb 1 (length (upTo colon p)) && textObeys (ruleOf (upTo colon p)) text) (Piece.Field (keyNumber (upTo colon p)) (length (upTo colon p) + 1)) Piece.Bad)
-    (unbroken p h)
-    ∙ simp and-false
-
-pub answer-bad : (p : List ℕ) → textObeys (ruleOf (upTo colon p)) (after colon p) ≡ false → pieceAnswer p ≡ Piece.Bad
-unfolding pieceAnswer pieceGood
-answer-bad p e = simp (e, and-false)
-
-pub answer-good : (p : List ℕ) → 1 ≤ length (upTo colon p) → textObeys (ruleOf (upTo colon p)) (after colon p) ≡ true
-    → pieceAnswer p ≡ Piece.Field (keyNumber (upTo colon p)) (length (upTo colon p) + 1)
-unfolding pieceAnswer pieceGood
-answer-good p h e = simp (e, le-leb 1 (length (upTo colon p)) h)
-
--- the text of a piece
-text-is : (p : List ℕ) (start : ℕ) → start ≡ length (upTo colon p) + 1 → take (length p - start) (drop start p) ≡ after colon p
-text-is p start e =
-    let next : start ≡ suc (length (upTo colon p)) = e ∙ add-one (length (upTo colon p)) in
-    take-all (length p - start) (drop start p) (omega (arith, length-drop start p)) ∙ ap (λ (i : ℕ). drop i p) next ∙ dropped-after colon p
-
--- a piece as the code reads it: cut at its first colon, the key by its number
-pub record PieceRead (p : List ℕ) (at key : ℕ) (good : Bool) : Type 0 where
-  pub key-is : key ≡ keyNumber (upTo colon p)
-  pub start-is : at + 1 ≡ length (upTo colon p) + 1
-  pub good-is : good ≡ textObeys (ruleOf (upTo colon p)) (after colon p)
-
-pub piece-read : (p : List ℕ) (at key : ℕ) (good : Bool) → at ≡ length (upTo colon p) → key ≡ keyNumber (take at p)
-    → good ≡ textObeys (ruleAt key) (take (length p - (at + 1)) (drop (at + 1) p)) → PieceRead p at key good
-unfolding ruleOf
-piece-read p at key good e k g =
-    let key-is : key ≡ keyNumber (upTo colon p) = k ∙ ap keyNumber (ap (λ (i : ℕ). take i p) e ∙ taken-upTo colon p) in
-    let start-is : at + 1 ≡ length (upTo colon p) + 1 = ap (λ (i : ℕ). i + 1) e in
-    record {
-      key-is = key-is;
-      start-is = start-is;
-      good-is = g ∙ ap₂ (λ (i : ℕ) (t : List ℕ). textObeys (ruleAt i) t) key-is (text-is p (at + 1) start-is);
-    }
-
 -- a value without pieces
 pub nothing-read : (v : List ℕ) → length v ≡ 0 → grammar v ≡ none
 unfolding grammar
@@ -321,13 +273,42 @@ ends v at size inside e =
     in
     record { is = ap (λ (n : ℕ). at + n) whole; within = omega (arith, length-upTo semicolon (drop at v), length-drop at v) }
 
-pub piece-is : (p : List ℕ) (r : Piece) → r ≡ pieceAnswer p → PieceIs p r
+piece-is : (p : List ℕ) (r : Piece) → r ≡ pieceAnswer p → PieceIs p r
 piece-is p r e = record {
   is = e;
   within = λ key start f.
       let a = answered p key start (sym e ∙ f) in
       (omega (arith, a .1, keyNumber-within (upTo colon p)), omega (arith, a .2, good-inside p (a .0)));
 }
+
+-- a piece as the code reads it: the text starts after the first colon, or at the end
+text-is : (p : List ℕ) (at start : ℕ) → at ≡ length (upTo colon p) → start ≡ min (at + 1) (length p)
+    → take (length p - start) (drop start p) ≡ after colon p
+text-is p at start e s =
+    let moved : drop start p ≡ drop (suc (length (upTo colon p))) p = elim (decLt at (length p)) [
+      | yes h ↦ let next : start ≡ suc (length (upTo colon p)) = omega arith in ap (λ (i : ℕ). drop i p) next
+      | no h ↦
+          drop-of-length-le p {i = start} (omega arith) ∙ sym (drop-of-length-le p {i = suc (length (upTo colon p))} (omega arith))
+    ] in
+    take-all (length p - start) (drop start p) (omega (arith, length-drop start p)) ∙ moved ∙ dropped-after colon p
+
+answer-by : (p : List ℕ) (key start : ℕ) (t : Bool) → pieceGood p ≡ t → key ≡ keyNumber (upTo colon p) → start ≡ min (length (upTo colon p) + 1) (length p)
+    → cond t (Piece.Field key start) Piece.Bad ≡ pieceAnswer p
+unfolding pieceAnswer
+answer-by p key start true g k s =
+    let inside : start ≡ length (upTo colon p) + 1 = omega (arith, good-inside p g) in
+    rw g (ap₂ Piece.Field k inside)
+answer-by p key start false g k s = rw g
+
+pub piece-read : (p : List ℕ) (at start key : ℕ) (good t : Bool) → at ≡ length (upTo colon p) → start ≡ min (at + 1) (length p) → key ≡ keyNumber (take at p)
+    → good ≡ textObeys (ruleAt key) (take (length p - start) (drop start p)) → (leb 1 at && good) ≡ t → PieceIs p (cond t (Piece.Field key start) Piece.Bad)
+unfolding pieceGood ruleOf
+piece-read p at start key good t e s k g both =
+    let key-is : key ≡ keyNumber (upTo colon p) = k ∙ ap keyNumber (ap (λ (i : ℕ). take i p) e ∙ taken-upTo colon p) in
+    let good-is : good ≡ textObeys (ruleAt (keyNumber (upTo colon p))) (after colon p) =
+    g ∙ ap₂ (λ (i : ℕ) (x : List ℕ). textObeys (ruleAt i) x) key-is (text-is p at start e s)
+    in
+    piece-is p _ (answer-by p key start t (sym (ap₂ (λ (n : ℕ) (u : Bool). leb 1 n && u) e good-is) ∙ both) key-is (s ∙ ap (λ (n : ℕ). min (n + 1) (length p)) e))
 
 abbrev pub notedAs : Seen → ℕ → ℕ → ℕ → ℕ → ℕ → Seen
 notedAs seen key start end count total = record {

@@ -71,22 +71,28 @@ enum Piece {
     Bad,
 }
 
+// The place after byte at, or the end.
+fn past(at: usize, len: usize) -> usize
+    requires { ⌜ at ≤ len ⌝ }
+    ensures { λ r. ⌜ r ≡ min (at + 1) len ⌝ }
+{
+    if at < len {
+        return at + 1;
+    }
+    len
+}
+
 fn read_piece(text: &[u8]) -> Piece
     ensures { λ r. ⌜ PieceIs (now (text .entry)) r ⌝ }
 {
     let colon = find(text, b':');
-    if colon == 0 {
-        return Piece::Bad;
-    }
-    if colon >= text.len() {
-        return Piece::Bad;
-    }
-    let start = colon + 1;
+    let start = past(colon, text.len());
     let key = key::key_number(&text[..colon]);
-    if !key::is_good(&text[start..], key) {
-        return Piece::Bad;
+    let good = (1 <= colon) & key::is_good(&text[start..], key);
+    if good {
+        return Piece::Field { key, start };
     }
-    Piece::Field { key, start }
+    Piece::Bad
 }
 
 // Where the piece that starts at byte at ends.
