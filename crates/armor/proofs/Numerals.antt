@@ -2,20 +2,20 @@
 -- Assumes nothing.
 use mathlib.Core.Path.{_≡_, refl, sym, ap, ap₂, _∙_}
 use mathlib.Core.Bool.{Bool, true, false, cond, not, _&&_}
-use mathlib.Core.List.{List, [], _∷_, _++_}
+use mathlib.Core.List.{List, [], _∷_, _++_, append-nil}
 use Prim.Native.Nat.{ℕ, zero, suc, _+_, _*_, _/_, _%_, _^_, _-_, _<_, _≤_}
 use native.Mathlib.Nat.{div-eq-of-lt, zero-div, zero-mul, zero-add, le-div-iff-mul-le, div-lt-iff-lt-mul, mod-eq-of-lt, one-mul, lt-of-lt-of-le, sub-self}
 use native.Mathlib.Numerals.{add-one}
 use native.Mathlib.Omega.{arith}
-use lib.Dec.{eqb, leb, lit<}
+use lib.Dec.{eqb, leb}
 use lib.Pow.{pow-pos, pow-add, pow-mono}
-use lib.ListN.{length, getD, take, drop, set, replicate, length-take}
-use lib.Seq.{take-all, take-suc, take-at}
+use lib.ListN.{length, take, drop, set, replicate, length-drop, drop-of-length-le}
+use lib.Seq.{take-all, take-at}
 use borrow.Author.Tests.{eqb-true, leb-true, le-leb, eq-eqb, ne-eqb}
-use Rattle.cells.specs.Runs.{Bytes, spliced}
+use Rattle.cells.specs.Runs.{Bytes, spliced, part}
 use Rattle.cells.specs.Numbers.{bytesOf, number}
 use Rattle.cells.proofs.Numbers.{length-bytesOf, bytes-rest, number-below, number-of, bytesOf-number, bytesOf-append, number-append}
-use Rattle.cells.proofs.Runs.{spliced-front, fronted-whole}
+use Rattle.cells.proofs.Runs.{spliced-front, fronted-whole, length-spliced}
 use Rattle.armor.specs.Numerals.{shortest, plain, numberBytes, isNumeral, isNumber, maskBytes, isMask, maskOf}
 
 plain-by : (b c : ℕ) (bs : List ℕ) (t : Bool) → eqb b 0 ≡ t → plain (shortest (c ∷ bs)) ≡ true
@@ -153,12 +153,6 @@ both false b h = absurd (let z : _≡_ {A = ℕ} 0 1 = cc in omega arith)
 pub at-once : {a b : Bool} → a ≡ true → b ≡ true → (a && b) ≡ true
 at-once p q = simp (p, q)
 
-bytes-take : (i : ℕ) (bs : List ℕ) → Bytes bs → Bytes (take i bs)
-bytes-take zero bs h k = lit< tt
-bytes-take (suc i) [] h k = h k
-bytes-take (suc i) (b ∷ bs) h zero = h 0
-bytes-take (suc i) (b ∷ bs) h (suc k) = bytes-take i bs (bytes-rest b bs h) k
-
 -- what `isNumeral` says
 pub numeral-parts : (k : ℕ) (bs : List ℕ) → isNumeral k bs ≡ true → (1 ≤ length bs) × (length bs ≤ k) × (plain bs ≡ true)
 unfolding isNumeral
@@ -243,20 +237,26 @@ mask-fits (n ∷ bs) h t = number-fits 8 bs (bytes-rest n bs h) (mask-parts n bs
 pub maskBytes-injective : (l m : ℕ) → l < 2 ^ 64 → m < 2 ^ 64 → maskBytes l ≡ maskBytes m → l ≡ m
 maskBytes-injective l m hl hm e = sym (maskOf-maskBytes l hl) ∙ ap maskOf e ∙ maskOf-maskBytes m hm
 
--- a number with one byte more
-pub number-more : (bs : List ℕ) (i : ℕ) → i < length bs → number (take (i + 1) bs) ≡ number (take i bs) * 256 + getD bs i 0
+-- the number of bytes at the end of eight
+number-zeros : (k n : ℕ) → number (take k (replicate n 0)) ≡ 0
 unfolding number
-number-more bs i h =
-    ap (λ (j : ℕ). number (take j bs)) (add-one i)
-    ∙ ap number (take-suc bs i 0 h)
-    ∙ number-append (take i bs) (getD bs i 0 ∷ [])
-    ∙ omega arith
+number-zeros zero n = refl
+number-zeros (suc k) zero = refl
+number-zeros (suc k) (suc n) = omega (arith, number-zeros k n)
 
--- the number of up to eight bytes, and of fewer
-pub number-room : (bs : List ℕ) (i : ℕ) → Bytes bs → length bs ≤ 8 → i ≤ length bs → number (take i bs) < 2 ^ 64
-number-room bs i h few e =
-    let more : 8 * length (take i bs) ≤ 64 = omega (arith, length-take i bs) in
-    lt-of-lt-of-le (number-below (take i bs) (bytes-take i bs h)) (pow-mono more)
+pub number-eight : (bs : List ℕ) (k : ℕ) {eight : List ℕ} → k + length bs ≡ 8 → eight ≡ spliced (replicate 8 0) k bs → number (part eight 0 8) ≡ number bs
+unfolding spliced
+number-eight bs k e p =
+    let zeros : List ℕ = replicate 8 0 in
+    let long : length (spliced zeros k bs) ≡ 8 = length-spliced zeros bs k (omega arith) in
+    let rest : drop (length bs) (drop k zeros) ≡ [] = drop-of-length-le (drop k zeros) {i = length bs} (omega (arith, length-drop k zeros)) in
+    ap (λ (l : List ℕ). number (take 8 l)) p
+    ∙ ap number (take-all 8 (spliced zeros k bs) (omega arith))
+    ∙ ap (λ (l : List ℕ). number (take k zeros ++ (bs ++ l))) rest
+    ∙ ap (λ (l : List ℕ). number (take k zeros ++ l)) (append-nil bs)
+    ∙ number-append (take k zeros) bs
+    ∙ ap (λ (n : ℕ). n * 2 ^ (8 * length bs) + number bs) (number-zeros k 8)
+    ∙ omega arith
 
 pub number-small : (bs : List ℕ) → Bytes bs → length bs ≤ 4 → number bs < 2 ^ 32
 number-small bs h few =

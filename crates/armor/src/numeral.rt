@@ -101,13 +101,9 @@ pub fn number_of(bytes: &[u8]) -> u64
     requires { ⌜ length (now bytes) ≤ 8 ⌝ }
     ensures { λ r. ⌜ r ≡ number (now (bytes .entry)) ⌝ }
 {
-    let mut n: u64 = 0;
-    let mut i = 0;
-    while i < bytes.len() {
-        n = n * 256 + wide(bytes[i]);
-        i += 1;
-    }
-    n
+    let mut eight = [0u8; 8];
+    cells::put_at(&mut eight, 8 - bytes.len(), bytes);
+    cells::load64(&eight, 0)
 }
 
 // The number of at most four bytes.
