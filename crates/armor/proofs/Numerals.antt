@@ -1,6 +1,6 @@
 -- A number and its bytes, and a mask and its bytes, determine each other.
 -- Assumes nothing.
-use mathlib.Core.Path.{_≡_, refl, sym, ap, ap₂, _∙_}
+use mathlib.Core.Path.{_≡_, refl, sym, ap, ap₂, subst, _∙_}
 use mathlib.Core.Bool.{Bool, true, false, cond, not, _&&_}
 use mathlib.Core.List.{List, [], _∷_, _++_, append-nil}
 use Prim.Native.Nat.{ℕ, zero, suc, _+_, _*_, _/_, _%_, _^_, _-_, _<_, _≤_}
@@ -18,40 +18,42 @@ use Rattle.cells.proofs.Numbers.{length-bytesOf, bytes-rest, number-below, numb
 use Rattle.cells.proofs.Runs.{spliced-front, fronted-whole, length-spliced}
 use Rattle.armor.specs.Numerals.{shortest, plain, numberBytes, isNumeral, isNumber, maskBytes, isMask, maskOf}
 
-plain-by : (b c : ℕ) (bs : List ℕ) (t : Bool) → eqb b 0 ≡ t → plain (shortest (c ∷ bs)) ≡ true
-    → plain (cond t (shortest (c ∷ bs)) (b ∷ c ∷ bs)) ≡ true
-unfolding plain
-plain-by b c bs true e h = h
-plain-by b c bs false e h = ap not e
+-- what holds of a run and its shortest form
+by-shortest : (P : List ℕ → List ℕ → Type 0) → P [] [] → ((b : ℕ) → P (b ∷ []) (b ∷ [])) → ((c : ℕ) (bs s : List ℕ) → P (c ∷ bs) s → P (0 ∷ c ∷ bs) s)
+    → ((b c : ℕ) (bs : List ℕ) → eqb b 0 ≡ false → P (b ∷ c ∷ bs) (b ∷ c ∷ bs)) → (bs : List ℕ) → P bs (shortest bs)
+unfolding shortest
+by-shortest P none one skip keep [] = none
+by-shortest P none one skip keep (b ∷ []) = one b
+by-shortest P none one skip keep (b ∷ c ∷ bs) = go (eqb b 0) refl (by-shortest P none one skip keep (c ∷ bs))
+  where
+    go : (t : Bool) → eqb b 0 ≡ t → P (c ∷ bs) (shortest (c ∷ bs)) → P (b ∷ c ∷ bs) (cond t (shortest (c ∷ bs)) (b ∷ c ∷ bs))
+    go true e h = subst (λ (x : ℕ). P (x ∷ c ∷ bs) (shortest (c ∷ bs))) (sym (eqb-true b 0 e)) (skip c bs (shortest (c ∷ bs)) h)
+    go false e h = keep b c bs e
 
 plain-shortest : (bs : List ℕ) → plain (shortest bs) ≡ true
-unfolding shortest plain
-plain-shortest [] = refl
-plain-shortest (b ∷ []) = refl
-plain-shortest (b ∷ c ∷ bs) = plain-by b c bs (eqb b 0) refl (plain-shortest (c ∷ bs))
-
-number-by : (b c : ℕ) (bs : List ℕ) (t : Bool) → eqb b 0 ≡ t → number (shortest (c ∷ bs)) ≡ number (c ∷ bs)
-    → number (cond t (shortest (c ∷ bs)) (b ∷ c ∷ bs)) ≡ number (b ∷ c ∷ bs)
-unfolding number
-number-by b c bs true e h =
-    h ∙ sym (ap (λ (x : ℕ). x * 2 ^ (8 * length (c ∷ bs)) + number (c ∷ bs)) (eqb-true b 0 e) ∙ rw (zero-mul, zero-add))
-number-by b c bs false e h = refl
+unfolding plain
+plain-shortest = by-shortest (λ xs s. plain s ≡ true) refl (λ b. refl) (λ c bs s h. h) (λ b c bs e. ap not e)
 
 number-shortest : (bs : List ℕ) → number (shortest bs) ≡ number bs
-unfolding shortest
-number-shortest [] = refl
-number-shortest (b ∷ []) = refl
-number-shortest (b ∷ c ∷ bs) = number-by b c bs (eqb b 0) refl (number-shortest (c ∷ bs))
+unfolding number
+number-shortest =
+    by-shortest (λ xs s. number s ≡ number xs) refl (λ b. refl) (λ c bs s h. h ∙ sym (rw (zero-mul, zero-add))) (λ b c bs e. refl)
 
-length-by : (b c : ℕ) (bs : List ℕ) (t : Bool) → (1 ≤ length (shortest (c ∷ bs))) × (length (shortest (c ∷ bs)) ≤ length (c ∷ bs))
-    → (1 ≤ length (cond t (shortest (c ∷ bs)) (b ∷ c ∷ bs))) × (length (cond t (shortest (c ∷ bs)) (b ∷ c ∷ bs)) ≤ length (b ∷ c ∷ bs))
-length-by b c bs true h = (h .0, omega arith)
-length-by b c bs false h = (omega arith, omega arith)
+-- it stands at the run's end, and is not empty where the run is not
+suffix : (bs : List ℕ) → (length (shortest bs) ≤ length bs) × (drop (length bs - length (shortest bs)) bs ≡ shortest bs)
+suffix =
+    by-shortest (λ xs s. (length s ≤ length xs) × (drop (length xs - length s) xs ≡ s)) (omega arith, refl) (λ b. (omega arith, refl))
+    (λ c bs s h.
+    let e : length (0 ∷ c ∷ bs) - length s ≡ suc (length (c ∷ bs) - length s) = omega (arith, h .0) in
+    (omega (arith, h .0), ap (λ (i : ℕ). drop i (0 ∷ c ∷ bs)) e ∙ h .1))
+    (λ b c bs e. (omega arith, ap (λ (i : ℕ). drop i (b ∷ c ∷ bs)) (sub-self (length (b ∷ c ∷ bs)))))
+
+some-shortest : (b : ℕ) (bs : List ℕ) → 1 ≤ length (shortest (b ∷ bs))
+some-shortest b bs =
+    by-shortest (λ xs s. 1 ≤ length xs → 1 ≤ length s) (λ h. h) (λ b h. h) (λ c bs s h more. h (omega arith)) (λ b c bs e h. h) (b ∷ bs) (omega arith)
 
 length-shortest : (b : ℕ) (bs : List ℕ) → (1 ≤ length (shortest (b ∷ bs))) × (length (shortest (b ∷ bs)) ≤ length (b ∷ bs))
-unfolding shortest
-length-shortest b [] = (omega arith, omega arith)
-length-shortest b (c ∷ bs) = length-by b c bs (eqb b 0) (length-shortest c bs)
+length-shortest b bs = (some-shortest b bs, suffix (b ∷ bs) .0)
 
 plain-same : (b c : ℕ) (bs : List ℕ) (t : Bool) → not t ≡ true → cond t (shortest (c ∷ bs)) (b ∷ c ∷ bs) ≡ b ∷ c ∷ bs
 plain-same b c bs true h = let z : true ≡ false = sym h in ap (λ (t : Bool). cond t (shortest (c ∷ bs)) (b ∷ c ∷ bs)) z
@@ -110,20 +112,6 @@ pub number-numberBytes : (n : ℕ) → n < 2 ^ 64 → number (numberBytes n) ≡
 unfolding numberBytes
 number-numberBytes n h = number-shortest (bytesOf 8 n) ∙ number-of 8 n h
 
--- a run's shortest form stands at its end
-suffix-by : (b c : ℕ) (bs : List ℕ) (t : Bool) → drop (length (c ∷ bs) - length (shortest (c ∷ bs))) (c ∷ bs) ≡ shortest (c ∷ bs)
-    → drop (length (b ∷ c ∷ bs) - length (cond t (shortest (c ∷ bs)) (b ∷ c ∷ bs))) (b ∷ c ∷ bs) ≡ cond t (shortest (c ∷ bs)) (b ∷ c ∷ bs)
-suffix-by b c bs true h =
-    let e : length (b ∷ c ∷ bs) - length (shortest (c ∷ bs)) ≡ suc (length (c ∷ bs) - length (shortest (c ∷ bs))) = omega (arith, length-shortest c bs .1) in
-    ap (λ (i : ℕ). drop i (b ∷ c ∷ bs)) e ∙ h
-suffix-by b c bs false h = ap (λ (i : ℕ). drop i (b ∷ c ∷ bs)) (sub-self (length (b ∷ c ∷ bs)))
-
-suffix : (bs : List ℕ) → drop (length bs - length (shortest bs)) bs ≡ shortest bs
-unfolding shortest
-suffix [] = refl
-suffix (b ∷ []) = refl
-suffix (b ∷ c ∷ bs) = suffix-by b c bs (eqb b 0) (suffix (c ∷ bs))
-
 pub length-numberBytes : (n : ℕ) → (1 ≤ length (numberBytes n)) × (length (numberBytes n) ≤ 8)
 unfolding numberBytes bytesOf
 length-numberBytes n = length-shortest (n / 2 ^ (8 * 7) % 256) (bytesOf 7 n)
@@ -142,7 +130,7 @@ cut-bytes n k p q =
     let same : length (numberBytes n) ≡ 8 - (8 - k) = omega arith in
     ap (λ (l : List ℕ). take (8 - (8 - k)) (drop (8 - k) l)) whole
     ∙ ap (λ (j : ℕ). take (8 - (8 - k)) (drop (8 - j) (bytesOf 8 n))) q
-    ∙ ap (take (8 - (8 - k))) (suffix (bytesOf 8 n))
+    ∙ ap (take (8 - (8 - k))) (suffix (bytesOf 8 n) .1)
     ∙ take-all (8 - (8 - k)) (numberBytes n) (omega arith)
 
 -- two tests in a row
