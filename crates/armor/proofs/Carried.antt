@@ -14,13 +14,13 @@ use Rattle.armor.specs.declared.Answer.{Answer}
 use Rattle.armor.specs.Numerals.{numberBytes, maskBytes, maskOf}
 use Rattle.armor.specs.Keys.{mask, obeys, keys, keyNumber, ruleAt, keyT, keyLt, keyN, keyH, keyAh}
 use Rattle.armor.specs.Keys
-use Rattle.armor.specs.Value.{Field, AllFormed, fieldsOf, allGood, goodOnly, grammar, carried}
+use Rattle.armor.specs.Value.{Field, AllFormed, allGood, grammar, carried}
 use Rattle.armor.specs.Fields.{contents, times, the, nonceBit, requestFields}
 use Rattle.armor.specs.Answers.{requestFrom, requestAnswer}
 use Rattle.armor.specs.Scan.{Sizes}
 use Rattle.armor.proofs.Numerals.{numberBytes-number, maskBytes-maskOf}
-use Rattle.armor.proofs.Value.{fields-exactly}
-use Rattle.armor.proofs.Fields.{grammar-good, obeyed-once}
+use Rattle.armor.proofs.Value.{grammar-exactly}
+use Rattle.armor.proofs.Fields.{obeyed-once}
 use Rattle.armor.proofs.Scan.{carried-is}
 use Rattle.armor.proofs.Requests.{Required, request-parts, sizes}
 
@@ -34,21 +34,8 @@ unfolding the contents
 held-bytes k [] h = λ i. lit< tt
 held-bytes k (f ∷ fs) h = first-bytes (f .bytes) (contents k fs) (eqb (keyNumber (f .key)) k) (h .0 .of-bytes) (held-bytes k fs (h .1))
 
--- the fields of a value that keeps its grammar are its fields
-only-by : (gs fs : List Field) (t : Bool) → cond t (some gs) none ≡ some fs → gs ≡ fs
-only-by gs fs true e = cc
-only-by gs fs false e = absurd (let z : _≡_ {A = ℕ} 0 1 = cc in omega arith)
-
-only-from : (o : Option (List Field)) (fs : List Field) → goodOnly o ≡ some fs → o ≡ some fs
-only-from none fs e = absurd (let z : _≡_ {A = ℕ} 0 1 = cc in omega arith)
-only-from (some gs) fs e = ap some (only-by gs fs (allGood gs) e)
-
-pub grammar-fields : (v : List ℕ) (fs : List Field) → grammar v ≡ some fs → fieldsOf v ≡ some fs
-unfolding grammar
-grammar-fields v fs e = only-from (fieldsOf v) fs e
-
 pub carried-bytes : (v : List ℕ) (fs : List Field) (k : ℕ) → grammar v ≡ some fs → Bytes (the k fs)
-carried-bytes v fs k e = held-bytes k fs (fields-exactly v fs .0 (grammar-fields v fs e) .formed)
+carried-bytes v fs k e = held-bytes k fs (grammar-exactly v fs .0 e .0 .formed)
 
 -- a good request
 good-by : (fs : List Field) (t : Bool) → requestFields fs ≡ t → cond t Answer.Good Answer.Fields ≡ Answer.Good → t ≡ true
@@ -71,7 +58,7 @@ module _ (v : List ℕ) (good : requestAnswer v ≡ Answer.Good) where
   kept = request-given v good .0
 
   sound : allGood (carried v) ≡ true
-  sound = grammar-good v (carried v) kept
+  sound = grammar-exactly v (carried v) .0 kept .1
 
   -- how often each key is carried: n exactly if bit 0 of ah is set
   pub request-has : Required (λ k. times k (carried v))

@@ -1,9 +1,8 @@
 -- What notes of a value's fields say of its set of fields.
 -- Assumes nothing.
-use mathlib.Core.Path.{_≡_, refl, sym, ap, ap₂, _∙_}
-use mathlib.Core.Bool.{Bool, true, false, cond, _&&_}
+use mathlib.Core.Path.{_≡_, refl, sym, ap₂, _∙_}
+use mathlib.Core.Bool.{Bool, true, false, cond}
 use mathlib.Core.List.{List, [], _∷_}
-use mathlib.Core.Option.{Option, none, some}
 use Prim.Native.Nat.{ℕ, _<_, _≤_, min}
 use native.Mathlib.Omega.{arith}
 use lib.Dec.{eqb, leb, lit<}
@@ -11,7 +10,7 @@ use lib.ListN.{length, getD}
 use borrow.Author.Tests.{eqb-true, eqb-false, eq-eqb, ne-eqb, leb-true, leb-false, le-leb, lt-leb}
 use Rattle.armor.specs.declared.scanning.Seen.{Seen}
 use Rattle.armor.specs.Keys.{obeys, keyNumber, ruleAt, ruleOf}
-use Rattle.armor.specs.Value.{Field, fieldGood, allGood, goodOnly, grammar, fieldsOf, carried}
+use Rattle.armor.specs.Value.{Field, allGood, carried}
 use Rattle.armor.specs.Fields.{contents, times, the, rightTimes}
 use Rattle.armor.specs.Scan.{Notes, Noted, countIn}
 use Rattle.armor.proofs.Numerals.{both}
@@ -68,8 +67,8 @@ noted h k small few =
 
 -- what the fields of a good value hold keeps the rule of its key
 obey-by : (k : ℕ) (f : Field) (cs bs : List (List ℕ)) (b : List ℕ) (t : Bool) → eqb (keyNumber (f .key)) k ≡ t
-    → fieldGood f ≡ true → (cs ≡ b ∷ bs → obeys (ruleAt k) b ≡ true) → cond t (f .bytes ∷ cs) cs ≡ b ∷ bs → obeys (ruleAt k) b ≡ true
-unfolding fieldGood ruleOf
+    → obeys (ruleOf (f .key)) (f .bytes) ≡ true → (cs ≡ b ∷ bs → obeys (ruleAt k) b ≡ true) → cond t (f .bytes ∷ cs) cs ≡ b ∷ bs → obeys (ruleAt k) b ≡ true
+unfolding ruleOf
 obey-by k f cs bs b true t g rest e =
     let same : f .bytes ≡ b = cc in
     let number : keyNumber (f .key) ≡ k = eqb-true (keyNumber (f .key)) k t in
@@ -80,7 +79,7 @@ all-obey : (k : ℕ) (fs : List Field) (b : List ℕ) (bs : List (List ℕ)) →
 unfolding allGood contents
 all-obey k [] b bs g e = absurd (let z : _≡_ {A = ℕ} 0 1 = cc in omega arith)
 all-obey k (f ∷ fs) b bs g e =
-    let h = both (fieldGood f) (allGood fs) g in
+    let h = both (obeys (ruleOf (f .key)) (f .bytes)) (allGood fs) g in
     obey-by k f (contents k fs) bs b (eqb (keyNumber (f .key)) k) refl (h .0) (all-obey k fs b bs (h .1)) e
 
 -- the only content of a key
@@ -101,15 +100,3 @@ none-held k fs e = none-in (contents k fs) e
     none-in : (cs : List (List ℕ)) → length cs ≡ 0 → getD cs 0 [] ≡ []
     none-in [] e = refl
     none-in (c ∷ cs) e = absurd (omega arith)
-
-good-by : (gs fs : List Field) (t : Bool) → allGood gs ≡ t → cond t (some gs) none ≡ some fs → allGood fs ≡ true
-good-by gs fs true t e = let same : gs ≡ fs = cc in ap allGood (sym same) ∙ t
-good-by gs fs false t e = absurd (let z : _≡_ {A = ℕ} 0 1 = cc in omega arith)
-
-good-only : (o : Option (List Field)) (fs : List Field) → goodOnly o ≡ some fs → allGood fs ≡ true
-good-only none fs e = absurd (let z : _≡_ {A = ℕ} 0 1 = cc in omega arith)
-good-only (some gs) fs e = good-by gs fs (allGood gs) refl e
-
-pub grammar-good : (v : List ℕ) (fs : List Field) → grammar v ≡ some fs → allGood fs ≡ true
-unfolding grammar
-grammar-good v fs e = good-only (fieldsOf v) fs e

@@ -8,6 +8,5 @@ pub mod Fields
 pub mod Texts
 pub mod Requests
 pub mod Cases
-pub mod Readings
 pub mod Carried
 pub mod Laying

@@ -1,67 +1,59 @@
 -- A number and its bytes, and a mask and its bytes, determine each other.
 -- Assumes nothing.
-use mathlib.Core.Path.{_≡_, refl, sym, ap, ap₂, _∙_}
+use mathlib.Core.Path.{_≡_, refl, sym, ap, ap₂, subst, _∙_}
 use mathlib.Core.Bool.{Bool, true, false, cond, not, _&&_}
-use mathlib.Core.List.{List, [], _∷_, _++_}
+use mathlib.Core.List.{List, [], _∷_, _++_, append-nil}
 use Prim.Native.Nat.{ℕ, zero, suc, _+_, _*_, _/_, _%_, _^_, _-_, _<_, _≤_}
 use native.Mathlib.Nat.{div-eq-of-lt, zero-div, zero-mul, zero-add, le-div-iff-mul-le, div-lt-iff-lt-mul, mod-eq-of-lt, one-mul, lt-of-lt-of-le, sub-self}
 use native.Mathlib.Numerals.{add-one}
 use native.Mathlib.Omega.{arith}
-use lib.Dec.{eqb, leb, lit<}
+use lib.Dec.{eqb, leb}
 use lib.Pow.{pow-pos, pow-add, pow-mono}
-use lib.ListN.{length, getD, take, drop, set, replicate, length-take}
-use lib.Seq.{take-all, take-suc, take-at}
+use lib.ListN.{length, take, drop, set, replicate, length-drop, drop-of-length-le}
+use lib.Seq.{take-all, take-at}
 use borrow.Author.Tests.{eqb-true, leb-true, le-leb, eq-eqb, ne-eqb}
-use Rattle.cells.specs.Runs.{Bytes, spliced}
+use Rattle.cells.specs.Runs.{Bytes, spliced, part}
 use Rattle.cells.specs.Numbers.{bytesOf, number}
-use Rattle.cells.proofs.Numbers.{length-bytesOf, bytes-bytesOf, bytes-rest, number-below, number-of, bytesOf-number, bytesOf-append, number-append}
-use Rattle.cells.proofs.Runs.{spliced-front, fronted-whole}
+use Rattle.cells.proofs.Numbers.{length-bytesOf, bytes-rest, number-below, number-of, bytesOf-number, bytesOf-append, number-append}
+use Rattle.cells.proofs.Runs.{spliced-front, fronted-whole, length-spliced}
 use Rattle.armor.specs.Numerals.{shortest, plain, numberBytes, isNumeral, isNumber, maskBytes, isMask, maskOf}
 
-plain-by : (b c : ℕ) (bs : List ℕ) (t : Bool) → eqb b 0 ≡ t → plain (shortest (c ∷ bs)) ≡ true
-    → plain (cond t (shortest (c ∷ bs)) (b ∷ c ∷ bs)) ≡ true
-unfolding plain
-plain-by b c bs true e h = h
-plain-by b c bs false e h = ap not e
+-- what holds of a run and its shortest form
+by-shortest : (P : List ℕ → List ℕ → Type 0) → P [] [] → ((b : ℕ) → P (b ∷ []) (b ∷ [])) → ((c : ℕ) (bs s : List ℕ) → P (c ∷ bs) s → P (0 ∷ c ∷ bs) s)
+    → ((b c : ℕ) (bs : List ℕ) → eqb b 0 ≡ false → P (b ∷ c ∷ bs) (b ∷ c ∷ bs)) → (bs : List ℕ) → P bs (shortest bs)
+unfolding shortest
+by-shortest P none one skip keep [] = none
+by-shortest P none one skip keep (b ∷ []) = one b
+by-shortest P none one skip keep (b ∷ c ∷ bs) = go (eqb b 0) refl (by-shortest P none one skip keep (c ∷ bs))
+  where
+    go : (t : Bool) → eqb b 0 ≡ t → P (c ∷ bs) (shortest (c ∷ bs)) → P (b ∷ c ∷ bs) (cond t (shortest (c ∷ bs)) (b ∷ c ∷ bs))
+    go true e h = subst (λ (x : ℕ). P (x ∷ c ∷ bs) (shortest (c ∷ bs))) (sym (eqb-true b 0 e)) (skip c bs (shortest (c ∷ bs)) h)
+    go false e h = keep b c bs e
 
 plain-shortest : (bs : List ℕ) → plain (shortest bs) ≡ true
-unfolding shortest plain
-plain-shortest [] = refl
-plain-shortest (b ∷ []) = refl
-plain-shortest (b ∷ c ∷ bs) = plain-by b c bs (eqb b 0) refl (plain-shortest (c ∷ bs))
-
-number-by : (b c : ℕ) (bs : List ℕ) (t : Bool) → eqb b 0 ≡ t → number (shortest (c ∷ bs)) ≡ number (c ∷ bs)
-    → number (cond t (shortest (c ∷ bs)) (b ∷ c ∷ bs)) ≡ number (b ∷ c ∷ bs)
-unfolding number
-number-by b c bs true e h =
-    h ∙ sym (ap (λ (x : ℕ). x * 2 ^ (8 * length (c ∷ bs)) + number (c ∷ bs)) (eqb-true b 0 e) ∙ rw (zero-mul, zero-add))
-number-by b c bs false e h = refl
+unfolding plain
+plain-shortest = by-shortest (λ xs s. plain s ≡ true) refl (λ b. refl) (λ c bs s h. h) (λ b c bs e. ap not e)
 
 number-shortest : (bs : List ℕ) → number (shortest bs) ≡ number bs
-unfolding shortest
-number-shortest [] = refl
-number-shortest (b ∷ []) = refl
-number-shortest (b ∷ c ∷ bs) = number-by b c bs (eqb b 0) refl (number-shortest (c ∷ bs))
+unfolding number
+number-shortest =
+    by-shortest (λ xs s. number s ≡ number xs) refl (λ b. refl) (λ c bs s h. h ∙ sym (rw (zero-mul, zero-add))) (λ b c bs e. refl)
 
-length-by : (b c : ℕ) (bs : List ℕ) (t : Bool) → (1 ≤ length (shortest (c ∷ bs))) × (length (shortest (c ∷ bs)) ≤ length (c ∷ bs))
-    → (1 ≤ length (cond t (shortest (c ∷ bs)) (b ∷ c ∷ bs))) × (length (cond t (shortest (c ∷ bs)) (b ∷ c ∷ bs)) ≤ length (b ∷ c ∷ bs))
-length-by b c bs true h = (h .0, omega arith)
-length-by b c bs false h = (omega arith, omega arith)
+-- it stands at the run's end, and is not empty where the run is not
+suffix : (bs : List ℕ) → (length (shortest bs) ≤ length bs) × (drop (length bs - length (shortest bs)) bs ≡ shortest bs)
+suffix =
+    by-shortest (λ xs s. (length s ≤ length xs) × (drop (length xs - length s) xs ≡ s)) (omega arith, refl) (λ b. (omega arith, refl))
+    (λ c bs s h.
+    let e : length (0 ∷ c ∷ bs) - length s ≡ suc (length (c ∷ bs) - length s) = omega (arith, h .0) in
+    (omega (arith, h .0), ap (λ (i : ℕ). drop i (0 ∷ c ∷ bs)) e ∙ h .1))
+    (λ b c bs e. (omega arith, ap (λ (i : ℕ). drop i (b ∷ c ∷ bs)) (sub-self (length (b ∷ c ∷ bs)))))
+
+some-shortest : (b : ℕ) (bs : List ℕ) → 1 ≤ length (shortest (b ∷ bs))
+some-shortest b bs =
+    by-shortest (λ xs s. 1 ≤ length xs → 1 ≤ length s) (λ h. h) (λ b h. h) (λ c bs s h more. h (omega arith)) (λ b c bs e h. h) (b ∷ bs) (omega arith)
 
 length-shortest : (b : ℕ) (bs : List ℕ) → (1 ≤ length (shortest (b ∷ bs))) × (length (shortest (b ∷ bs)) ≤ length (b ∷ bs))
-unfolding shortest
-length-shortest b [] = (omega arith, omega arith)
-length-shortest b (c ∷ bs) = length-by b c bs (eqb b 0) (length-shortest c bs)
-
-bytes-by : (b c : ℕ) (bs : List ℕ) (t : Bool) → Bytes (shortest (c ∷ bs)) → Bytes (b ∷ c ∷ bs) → Bytes (cond t (shortest (c ∷ bs)) (b ∷ c ∷ bs))
-bytes-by b c bs true p q = p
-bytes-by b c bs false p q = q
-
-bytes-shortest : (bs : List ℕ) → Bytes bs → Bytes (shortest bs)
-unfolding shortest
-bytes-shortest [] h = h
-bytes-shortest (b ∷ []) h = h
-bytes-shortest (b ∷ c ∷ bs) h = bytes-by b c bs (eqb b 0) (bytes-shortest (c ∷ bs) (bytes-rest b (c ∷ bs) h)) h
+length-shortest b bs = (some-shortest b bs, suffix (b ∷ bs) .0)
 
 plain-same : (b c : ℕ) (bs : List ℕ) (t : Bool) → not t ≡ true → cond t (shortest (c ∷ bs)) (b ∷ c ∷ bs) ≡ b ∷ c ∷ bs
 plain-same b c bs true h = let z : true ≡ false = sym h in ap (λ (t : Bool). cond t (shortest (c ∷ bs)) (b ∷ c ∷ bs)) z
@@ -120,24 +112,6 @@ pub number-numberBytes : (n : ℕ) → n < 2 ^ 64 → number (numberBytes n) ≡
 unfolding numberBytes
 number-numberBytes n h = number-shortest (bytesOf 8 n) ∙ number-of 8 n h
 
-pub bytes-numberBytes : (n : ℕ) → Bytes (numberBytes n)
-unfolding numberBytes
-bytes-numberBytes n = bytes-shortest (bytesOf 8 n) (bytes-bytesOf 8 n)
-
--- a run's shortest form stands at its end
-suffix-by : (b c : ℕ) (bs : List ℕ) (t : Bool) → drop (length (c ∷ bs) - length (shortest (c ∷ bs))) (c ∷ bs) ≡ shortest (c ∷ bs)
-    → drop (length (b ∷ c ∷ bs) - length (cond t (shortest (c ∷ bs)) (b ∷ c ∷ bs))) (b ∷ c ∷ bs) ≡ cond t (shortest (c ∷ bs)) (b ∷ c ∷ bs)
-suffix-by b c bs true h =
-    let e : length (b ∷ c ∷ bs) - length (shortest (c ∷ bs)) ≡ suc (length (c ∷ bs) - length (shortest (c ∷ bs))) = omega (arith, length-shortest c bs .1) in
-    ap (λ (i : ℕ). drop i (b ∷ c ∷ bs)) e ∙ h
-suffix-by b c bs false h = ap (λ (i : ℕ). drop i (b ∷ c ∷ bs)) (sub-self (length (b ∷ c ∷ bs)))
-
-suffix : (bs : List ℕ) → drop (length bs - length (shortest bs)) bs ≡ shortest bs
-unfolding shortest
-suffix [] = refl
-suffix (b ∷ []) = refl
-suffix (b ∷ c ∷ bs) = suffix-by b c bs (eqb b 0) (suffix (c ∷ bs))
-
 pub length-numberBytes : (n : ℕ) → (1 ≤ length (numberBytes n)) × (length (numberBytes n) ≤ 8)
 unfolding numberBytes bytesOf
 length-numberBytes n = length-shortest (n / 2 ^ (8 * 7) % 256) (bytesOf 7 n)
@@ -156,7 +130,7 @@ cut-bytes n k p q =
     let same : length (numberBytes n) ≡ 8 - (8 - k) = omega arith in
     ap (λ (l : List ℕ). take (8 - (8 - k)) (drop (8 - k) l)) whole
     ∙ ap (λ (j : ℕ). take (8 - (8 - k)) (drop (8 - j) (bytesOf 8 n))) q
-    ∙ ap (take (8 - (8 - k))) (suffix (bytesOf 8 n))
+    ∙ ap (take (8 - (8 - k))) (suffix (bytesOf 8 n) .1)
     ∙ take-all (8 - (8 - k)) (numberBytes n) (omega arith)
 
 -- two tests in a row
@@ -166,12 +140,6 @@ both false b h = absurd (let z : _≡_ {A = ℕ} 0 1 = cc in omega arith)
 
 pub at-once : {a b : Bool} → a ≡ true → b ≡ true → (a && b) ≡ true
 at-once p q = simp (p, q)
-
-bytes-take : (i : ℕ) (bs : List ℕ) → Bytes bs → Bytes (take i bs)
-bytes-take zero bs h k = lit< tt
-bytes-take (suc i) [] h k = h k
-bytes-take (suc i) (b ∷ bs) h zero = h 0
-bytes-take (suc i) (b ∷ bs) h (suc k) = bytes-take i bs (bytes-rest b bs h) k
 
 -- what `isNumeral` says
 pub numeral-parts : (k : ℕ) (bs : List ℕ) → isNumeral k bs ≡ true → (1 ≤ length bs) × (length bs ≤ k) × (plain bs ≡ true)
@@ -223,12 +191,9 @@ number-fits k bs h t =
     let more : 8 * length bs ≤ 8 * k = omega (arith, p .1) in
     lt-of-lt-of-le (number-below bs h) (pow-mono more)
 
--- no two numbers have the same bytes, and no two runs the same number
+-- no two numbers have the same bytes
 pub numberBytes-injective : (m n : ℕ) → m < 2 ^ 64 → n < 2 ^ 64 → numberBytes m ≡ numberBytes n → m ≡ n
 numberBytes-injective m n hm hn e = sym (number-numberBytes m hm) ∙ ap number e ∙ number-numberBytes n hn
-
-pub number-injective : (bs cs : List ℕ) → Bytes bs → Bytes cs → isNumber bs ≡ true → isNumber cs ≡ true → number bs ≡ number cs → bs ≡ cs
-number-injective bs cs hb hc tb tc e = sym (numberBytes-number bs hb tb) ∙ ap numberBytes e ∙ numberBytes-number cs hc tc
 
 -- masks
 pub mask-is : (m : ℕ) → m < 2 ^ 64 → isMask (maskBytes m) ≡ true
@@ -260,23 +225,26 @@ mask-fits (n ∷ bs) h t = number-fits 8 bs (bytes-rest n bs h) (mask-parts n bs
 pub maskBytes-injective : (l m : ℕ) → l < 2 ^ 64 → m < 2 ^ 64 → maskBytes l ≡ maskBytes m → l ≡ m
 maskBytes-injective l m hl hm e = sym (maskOf-maskBytes l hl) ∙ ap maskOf e ∙ maskOf-maskBytes m hm
 
-pub maskOf-injective : (bs cs : List ℕ) → Bytes bs → Bytes cs → isMask bs ≡ true → isMask cs ≡ true → maskOf bs ≡ maskOf cs → bs ≡ cs
-maskOf-injective bs cs hb hc tb tc e = sym (maskBytes-maskOf bs hb tb) ∙ ap maskBytes e ∙ maskBytes-maskOf cs hc tc
-
--- a number with one byte more
-pub number-more : (bs : List ℕ) (i : ℕ) → i < length bs → number (take (i + 1) bs) ≡ number (take i bs) * 256 + getD bs i 0
+-- the number of bytes at the end of eight
+number-zeros : (k n : ℕ) → number (take k (replicate n 0)) ≡ 0
 unfolding number
-number-more bs i h =
-    ap (λ (j : ℕ). number (take j bs)) (add-one i)
-    ∙ ap number (take-suc bs i 0 h)
-    ∙ number-append (take i bs) (getD bs i 0 ∷ [])
-    ∙ omega arith
+number-zeros zero n = refl
+number-zeros (suc k) zero = refl
+number-zeros (suc k) (suc n) = omega (arith, number-zeros k n)
 
--- the number of up to eight bytes, and of fewer
-pub number-room : (bs : List ℕ) (i : ℕ) → Bytes bs → length bs ≤ 8 → i ≤ length bs → number (take i bs) < 2 ^ 64
-number-room bs i h few e =
-    let more : 8 * length (take i bs) ≤ 64 = omega (arith, length-take i bs) in
-    lt-of-lt-of-le (number-below (take i bs) (bytes-take i bs h)) (pow-mono more)
+pub number-eight : (bs : List ℕ) (k : ℕ) {eight : List ℕ} → k + length bs ≡ 8 → eight ≡ spliced (replicate 8 0) k bs → number (part eight 0 8) ≡ number bs
+unfolding spliced
+number-eight bs k e p =
+    let zeros : List ℕ = replicate 8 0 in
+    let long : length (spliced zeros k bs) ≡ 8 = length-spliced zeros bs k (omega arith) in
+    let rest : drop (length bs) (drop k zeros) ≡ [] = drop-of-length-le (drop k zeros) {i = length bs} (omega (arith, length-drop k zeros)) in
+    ap (λ (l : List ℕ). number (take 8 l)) p
+    ∙ ap number (take-all 8 (spliced zeros k bs) (omega arith))
+    ∙ ap (λ (l : List ℕ). number (take k zeros ++ (bs ++ l))) rest
+    ∙ ap (λ (l : List ℕ). number (take k zeros ++ l)) (append-nil bs)
+    ∙ number-append (take k zeros) bs
+    ∙ ap (λ (n : ℕ). n * 2 ^ (8 * length bs) + number bs) (number-zeros k 8)
+    ∙ omega arith
 
 pub number-small : (bs : List ℕ) → Bytes bs → length bs ≤ 4 → number bs < 2 ^ 32
 number-small bs h few =

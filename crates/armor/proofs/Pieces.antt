@@ -1,7 +1,7 @@
 -- Laws of a run cut at a byte.
 -- Assumes nothing.
-use mathlib.Core.Path.{_≡_, refl, ap, _∙_}
-use mathlib.Core.Bool.{Bool, true, false, cond}
+use mathlib.Core.Path.{_≡_, refl, ap}
+use mathlib.Core.Bool.{Bool, true, false, cond, not}
 use mathlib.Core.List.{List, [], _∷_, _++_}
 use Prim.Native.Nat.{ℕ, zero, suc, _<_, _≤_}
 use native.Mathlib.Nat.{not-suc-le-zero, le-of-suc-le-suc}
@@ -9,24 +9,19 @@ use native.Mathlib.Omega.{arith}
 use lib.Dec.{eqb}
 use lib.ListN.{length, take, drop}
 use borrow.Author.Tests.{eqb-true, eqb-false, eq-eqb, ne-eqb}
+use Rattle.cells.specs.Spans.{leading}
 use Rattle.armor.specs.Pieces.{upTo, after, onto, pieces, Without, semicolon}
 
--- at the first byte
-pub upTo-here : (b x : ℕ) (xs : List ℕ) → x ≡ b → upTo b (x ∷ xs) ≡ []
-unfolding upTo
-upTo-here b x xs e = simp (eq-eqb x b e)
-
-pub upTo-on : (b x : ℕ) (xs : List ℕ) → (x ≡ b → ⊥) → upTo b (x ∷ xs) ≡ x ∷ upTo b xs
-unfolding upTo
-upTo-on b x xs e = simp (ne-eqb x b e)
-
-pub after-here : (b x : ℕ) (xs : List ℕ) → x ≡ b → after b (x ∷ xs) ≡ xs
-unfolding after
-after-here b x xs e = simp (eq-eqb x b e)
-
-pub after-on : (b x : ℕ) (xs : List ℕ) → (x ≡ b → ⊥) → after b (x ∷ xs) ≡ after b xs
-unfolding after
-after-on b x xs e = simp (ne-eqb x b e)
+-- as many bytes stand before b as are not b at the front
+pub leading-upTo : (b : ℕ) (xs : List ℕ) → leading (λ x. not (eqb x b)) xs ≡ length (upTo b xs)
+unfolding leading upTo
+leading-upTo b [] = refl
+leading-upTo b (x ∷ xs) = by (eqb x b) (leading-upTo b xs)
+  where
+    by : (t : Bool) → leading (λ y. not (eqb y b)) xs ≡ length (upTo b xs)
+        → cond (not t) (suc (leading (λ y. not (eqb y b)) xs)) 0 ≡ length (cond t [] (x ∷ upTo b xs))
+    by true e = refl
+    by false e = ap suc e
 
 -- what stands before b is a part of the run, and so is what stands after it
 taken-by : (b x : ℕ) (xs : List ℕ) (t : Bool) → take (length (upTo b xs)) xs ≡ upTo b xs
@@ -85,25 +80,24 @@ pub without-rest : (b x : ℕ) (xs : List ℕ) → Without b (x ∷ xs) → With
 without-rest b x xs h i inside = h (suc i) (omega arith)
 
 pub upTo-joined : (b : ℕ) (xs ys : List ℕ) → Without b xs → upTo b (xs ++ b ∷ ys) ≡ xs
-upTo-joined b [] ys h = upTo-here b b ys refl
-upTo-joined b (x ∷ xs) ys h =
-    upTo-on b x (xs ++ b ∷ ys) (h 0 (omega arith)) ∙ ap (λ (l : List ℕ). x ∷ l) (upTo-joined b xs ys (without-rest b x xs h))
+unfolding upTo
+upTo-joined b [] ys h = simp (eq-eqb b b refl)
+upTo-joined b (x ∷ xs) ys h = simp (ne-eqb x b (h 0 (omega arith)), upTo-joined b xs ys (without-rest b x xs h))
 
 pub after-joined : (b : ℕ) (xs ys : List ℕ) → Without b xs → after b (xs ++ b ∷ ys) ≡ ys
-after-joined b [] ys h = after-here b b ys refl
-after-joined b (x ∷ xs) ys h =
-    after-on b x (xs ++ b ∷ ys) (h 0 (omega arith)) ∙ after-joined b xs ys (without-rest b x xs h)
+unfolding after
+after-joined b [] ys h = simp (eq-eqb b b refl)
+after-joined b (x ∷ xs) ys h = simp (ne-eqb x b (h 0 (omega arith)), after-joined b xs ys (without-rest b x xs h))
 
 pub upTo-whole : (b : ℕ) (xs : List ℕ) → Without b xs → upTo b xs ≡ xs
 unfolding upTo
 upTo-whole b [] h = refl
-upTo-whole b (x ∷ xs) h =
-    upTo-on b x xs (h 0 (omega arith)) ∙ ap (λ (l : List ℕ). x ∷ l) (upTo-whole b xs (without-rest b x xs h))
+upTo-whole b (x ∷ xs) h = simp (ne-eqb x b (h 0 (omega arith)), upTo-whole b xs (without-rest b x xs h))
 
 pub after-whole : (b : ℕ) (xs : List ℕ) → Without b xs → after b xs ≡ []
 unfolding after
 after-whole b [] h = refl
-after-whole b (x ∷ xs) h = after-on b x xs (h 0 (omega arith)) ∙ after-whole b xs (without-rest b x xs h)
+after-whole b (x ∷ xs) h = simp (ne-eqb x b (h 0 (omega arith)), after-whole b xs (without-rest b x xs h))
 
 -- the first piece, and those after it
 cut-by : (x : ℕ) (xs : List ℕ) (t : Bool) → pieces xs ≡ upTo semicolon xs ∷ pieces (after semicolon xs)

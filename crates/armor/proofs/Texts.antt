@@ -1,14 +1,14 @@
 -- What measuring or decoding a text says of the rules that it keeps.
 -- Assumes nothing.
-use mathlib.Core.Path.{_≡_, refl, sym, ap, _∙_}
+use mathlib.Core.Path.{_≡_, refl, sym, ap, ap₂, _∙_}
 use mathlib.Core.Bool.{Bool, true, false, _&&_, and-false}
 use mathlib.Core.List.{List, [], _∷_}
-use Prim.Native.Nat.{ℕ, _-_, _<_, _≤_}
+use Prim.Native.Nat.{ℕ, _-_, _≤_}
 use native.Mathlib.Omega.{arith}
 use lib.Dec.{eqb, leb}
 use lib.ListN.{length, getD, take, drop, replicate, length-replicate}
 use lib.Seq.{take-at}
-use borrow.Author.Tests.{leb-true, leb-false, le-leb, lt-leb, eq-eqb, ne-eqb}
+use borrow.Author.Tests.{leb-true, leb-false, le-leb, lt-leb}
 use Rattle.cells.specs.Runs.{fronted}
 use Rattle.cells.specs.Numbers
 use Rattle.cells.proofs.Runs.{length-fronted, fronted-whole}
@@ -16,9 +16,9 @@ use Rattle.base64.specs.declared.Measured.{Measured}
 use Rattle.base64.specs.declared.Decoded.{Decoded}
 use Rattle.base64.specs.Decoding.{Decoding, nothing, bytes, decoded}
 use Rattle.base64.specs.Answers.{sizeOf, measured, Outcome, outcome, pickOutcome, into, decodedInto}
-use Rattle.armor.specs.Numerals.{plain, isNumeral, isNumber, isMask, maskOf}
+use Rattle.armor.specs.Numerals.{isNumeral, isNumber, isMask, maskOf}
 use Rattle.armor.specs.Keys.{Rule, number, mask, sized, free, obeys}
-use Rattle.armor.specs.Scan.{decodedObeys, textObeys}
+use Rattle.armor.specs.Value.{decodedObeys, textObeys}
 use Rattle.armor.proofs.Numerals.{both, numeral-parts, mask-parts}
 
 -- by its size
@@ -137,41 +137,25 @@ pub obeys-run : (rule : Rule) (text run : List ℕ) → decoded text ≡ bytes r
 unfolding textObeys
 obeys-run rule text run e = ap (decodedObeys rule) e
 
-pub number-none : (run : List ℕ) (n : ℕ) → n ≡ length run → n ≡ 0 → (leb 1 (length run) && obeys number run) ≡ false
-number-none run n s z = simp (lt-leb 1 (length run) (omega arith))
-
-pub number-plain : (run : List ℕ) (n : ℕ) → n ≡ length run → (n ≡ 0 → ⊥) → length run ≤ 4 → (leb 1 (length run) && obeys number run) ≡ plain run
+-- the bytes of a number are one at least
+pub number-test : (run : List ℕ) → (leb 1 (length run) && obeys number run) ≡ isNumeral 4 run
 unfolding obeys isNumber isNumeral
-number-plain run n s more few =
-    let one : 1 ≤ length run = omega arith in
-    simp (le-leb 1 (length run) one, le-leb (length run) 4 few)
+number-test [] = refl
+number-test (b ∷ bs) = simp (le-leb 1 (length (b ∷ bs)) (omega arith))
 
 -- masks: a length byte first
-pub mask-few : (run : List ℕ) (n : ℕ) → n ≡ length run → n < 2 → (leb 1 (length run) && obeys mask run) ≡ false
-unfolding obeys isMask isNumeral
-mask-few [] n s few = refl
-mask-few (b ∷ []) n s few = and-false (eqb b 0)
-mask-few (b ∷ c ∷ bs) n s few = absurd (omega arith)
+pub mask-none : (run : List ℕ) (n : ℕ) → n ≡ length run → n ≡ 0 → (leb 1 (length run) && obeys mask run) ≡ false
+mask-none run n s z = simp (lt-leb 1 (length run) (omega arith))
 
-pub mask-wrong : (run out : List ℕ) (n : ℕ) {left : List ℕ} → left ≡ fronted run out → n ≡ length run → 2 ≤ n → (getD left 0 0 ≡ n - 1 → ⊥)
-    → (leb 1 (length run) && obeys mask run) ≡ false
+pub mask-test : (run out : List ℕ) (n : ℕ) {left : List ℕ} → left ≡ fronted run out → n ≡ length run → (n ≡ 0 → ⊥)
+    → (leb 1 (length run) && obeys mask run) ≡ (eqb (getD left 0 0) (n - 1) && isNumeral 8 (take (n - 1) (drop 1 left)))
 unfolding obeys isMask fronted
-mask-wrong [] out n e s more wrong = refl
-mask-wrong (b ∷ bs) out n {left} e s more wrong =
-    let first : getD left 0 0 ≡ b = ap (λ (l : List ℕ). getD l 0 0) e in
-    simp (ne-eqb b (length bs) (λ p. wrong (omega arith)), and-false)
-
-pub mask-plain : (run out : List ℕ) (n : ℕ) {left : List ℕ} → left ≡ fronted run out → n ≡ length run → 2 ≤ n → length run ≤ 9 → getD left 0 0 ≡ n - 1
-    → (leb 1 (length run) && obeys mask run) ≡ plain (take (n - 1) (drop 1 left))
-unfolding obeys isMask isNumeral fronted
-mask-plain [] out n e s more few right = absurd (omega arith)
-mask-plain (b ∷ bs) out n {left} e s more few right =
-    let first : getD left 0 0 ≡ b = ap (λ (l : List ℕ). getD l 0 0) e in
-    let one : 1 ≤ length bs = omega arith in
-    let eight : length bs ≤ 8 = omega arith in
-    let head : b ≡ length bs = omega arith in
-    simp (le-leb 1 (length (b ∷ bs)) (omega arith), eq-eqb b (length bs) head, le-leb 1 (length bs) one, le-leb (length bs) 8 eight)
-    (sym (ap plain (ap (λ (l : List ℕ). take (n - 1) (drop 1 l)) e ∙ take-at bs (drop (length (b ∷ bs)) out) (n - 1) (omega arith))))
+mask-test [] out n e s more = absurd (more s)
+mask-test (b ∷ bs) out n {left} e s more =
+    let size : n - 1 ≡ length bs = omega arith in
+    simp (le-leb 1 (length (b ∷ bs)) (omega arith))
+    (sym (ap₂ (λ (l : List ℕ) (k : ℕ). eqb (getD l 0 0) k && isNumeral 8 (take k (drop 1 l))) e size
+    ∙ ap (λ (l : List ℕ). eqb b (length bs) && isNumeral 8 l) (take-at bs (drop (length (b ∷ bs)) out) (length bs) refl)))
 
 -- a text whose bytes fit is decoded
 pub decoded-fits : (text out left bs : List ℕ) (r : Decoded) → outcome r left ≡ decodedInto text out → decoded text ≡ bytes bs → length bs ≤ length out
@@ -191,14 +175,13 @@ bytes-same p q = cc
 pub filled-within : {text out left : List ℕ} {n : ℕ} → Filled text out left n → n ≤ length left
 filled-within {out = out} f = omega (arith, f .size, f .fits, ap length (f .front), length-fronted (f .run) out (f .fits))
 
--- sizes that were measured
-pub sized-short : (n low high : ℕ) → n < low → (leb 1 n && (leb low n && leb n high)) ≡ false
-sized-short n low high h = simp (lt-leb low n h, and-false)
-
-pub sized-long : (n low high : ℕ) → 1 ≤ low → low ≤ n → (leb 1 n && (leb low n && leb n high)) ≡ leb n high
-sized-long n low high one h =
-    let more : 1 ≤ n = omega arith in
-    simp (le-leb 1 n more, le-leb low n h)
+-- a size that was measured
+pub sized-test : (n low high : ℕ) → 1 ≤ low → (leb 1 n && (leb low n && leb n high)) ≡ (leb low n && leb n high)
+sized-test n low high one = by (leb low n) refl
+  where
+    by : (t : Bool) → leb low n ≡ t → (leb 1 n && (t && leb n high)) ≡ (t && leb n high)
+    by true e = let more : 1 ≤ n = omega (arith, leb-true low n e) in simp (le-leb 1 n more)
+    by false e = and-false (leb 1 n)
 
 -- a mask's bytes after its length byte
 pub mask-taken : (bs out : List ℕ) (n : ℕ) {left : List ℕ} → 1 ≤ length bs → left ≡ fronted bs out → n ≡ length bs

@@ -5,65 +5,71 @@ use mathlib.Core.Logic.{_↔_, _⊎_, inl, inr}
 use mathlib.Core.Bool.{Bool, true, false, cond}
 use mathlib.Core.List.{List, [], _∷_, _++_, append-assoc}
 use mathlib.Core.Option.{Option, none, some}
-use Prim.Native.Nat.{ℕ, zero, suc, _<_}
+use Prim.Native.Nat.{ℕ, zero, suc, _<_, _≤_}
 use native.Mathlib.Nat.{not-suc-le-zero, le-of-suc-le-suc}
 use native.Mathlib.Omega.{arith}
-use lib.Dec.{eqb}
+use lib.Dec.{eqb, leb}
 use lib.ListN.{length, length-append, List·getD-append}
-use borrow.Author.Tests.{eqb-true, eqb-false}
+use borrow.Author.Tests.{eqb-true, eqb-false, leb-true, le-leb}
 use Rattle.base64.specs.Encoding.{encoded}
 use Rattle.base64.specs.Decoding.{Decoding, nothing, bytes, decoded}
 use Rattle.base64.proofs.Exactly.{decoded-exactly, decoded-bytes}
 use Rattle.base64.proofs.Encoded.{length-encoded, encoded-no-semicolon}
 use Rattle.armor.specs.Pieces.{colon, semicolon, upTo, after, onto, pieces, Without}
-use Rattle.armor.specs.Value.{Field, Formed, AllFormed, fieldText, joined, textsOf, ValueOf, fieldFrom, fieldOf, withField, fieldsIn, fieldsOf}
+use Rattle.armor.specs.Keys.{Rule, obeys, ruleOf}
+use Rattle.armor.specs.Value.{Field, Formed, AllFormed, fieldText, joined, textsOf, allGood, ValueOf, decodedObeys, textObeys, pieceGood, pieceField, fieldOf, withField, fieldsIn, grammar}
+use Rattle.armor.specs.Value
+use Rattle.armor.proofs.Numerals.{both, at-once}
 use Rattle.armor.proofs.Pieces.{upTo-without, split-at-first, upTo-joined, after-joined, upTo-whole, after-whole, pieces-cut, without-rest}
 
 -- what a piece has to be for it to be a field
-record Cut (p : List ℕ) (f : Field) : Type 0 where
-  key-is : upTo colon p ≡ f .key
-  bytes-are : decoded (after colon p) ≡ bytes (f .bytes)
-  named : 0 < length (f .key)
-  held : 0 < length (f .bytes)
+pub record Cut (p : List ℕ) (f : Field) : Type 0 where
+  pub key-is : upTo colon p ≡ f .key
+  pub bytes-are : decoded (after colon p) ≡ bytes (f .bytes)
+  pub named : 0 < length (f .key)
+  pub held : 0 < length (f .bytes)
+  pub good : obeys (ruleOf (f .key)) (f .bytes) ≡ true
 
-some-same : (f g : Field) → _≡_ {A = Option Field} (some f) (some g) → f ≡ g
-some-same f g e = cc
+obeyed-parts : (rule : Rule) (d : Decoding) → decodedObeys rule d ≡ true
+    → (d ≡ bytes (Value.held d)) × (1 ≤ length (Value.held d)) × (obeys rule (Value.held d) ≡ true)
+obeyed-parts rule nothing e = absurd (let z : _≡_ {A = ℕ} 0 1 = cc in omega arith)
+obeyed-parts rule (bytes bs) e =
+    let p = both (leb 1 (length bs)) (obeys rule bs) e in
+    (refl, leb-true 1 (length bs) (p .0), p .1)
 
-cut-by : (key : List ℕ) (d : Decoding) (f : Field) → fieldFrom key d ≡ some f
-    → (key ≡ f .key) × (d ≡ bytes (f .bytes)) × (0 < length (f .key)) × (0 < length (f .bytes))
-cut-by [] d f e = absurd (let z : _≡_ {A = ℕ} 0 1 = cc in omega arith)
-cut-by (k ∷ ks) nothing f e = absurd (let z : _≡_ {A = ℕ} 0 1 = cc in omega arith)
-cut-by (k ∷ ks) (bytes []) f e = absurd (let z : _≡_ {A = ℕ} 0 1 = cc in omega arith)
-cut-by (k ∷ ks) (bytes (b ∷ bs)) f e =
-    let same : record { key = k ∷ ks; bytes = b ∷ bs } ≡ f = some-same _ f e in
-    let keys : k ∷ ks ≡ f .key = ap (λ (g : Field). g .key) same in
-    let held : b ∷ bs ≡ f .bytes = ap (λ (g : Field). g .bytes) same in
-    (keys, ap bytes held, rw (← keys) (omega arith), rw (← held) (omega arith))
+pub piece-cut : (p : List ℕ) → pieceGood p ≡ true → Cut p (pieceField p)
+unfolding pieceGood textObeys
+piece-cut p e =
+    let key = upTo colon p in
+    let h = both (leb 1 (length key)) (decodedObeys (ruleOf key) (decoded (after colon p))) e in
+    let d = obeyed-parts (ruleOf key) (decoded (after colon p)) (h .1) in
+    record { key-is = refl; bytes-are = d .0; named = leb-true 1 (length key) (h .0); held = d .1; good = d .2 }
+
+cut-by : (p : List ℕ) (f : Field) (t : Bool) → pieceGood p ≡ t → cond t (some (pieceField p)) none ≡ some f → Cut p f
+cut-by p f true g e = let same : pieceField p ≡ f = cc in subst (Cut p) same (piece-cut p g)
+cut-by p f false g e = absurd (let z : _≡_ {A = ℕ} 0 1 = cc in omega arith)
 
 cut-of : (p : List ℕ) (f : Field) → fieldOf p ≡ some f → Cut p f
 unfolding fieldOf
-cut-of p f e =
-    let parts = cut-by (upTo colon p) (decoded (after colon p)) f e in
-    record { key-is = parts .0; bytes-are = parts .1; named = parts .2; held = parts .3 }
-
-field-from : (key bs : List ℕ) → 0 < length key → 0 < length bs → fieldFrom key (bytes bs) ≡ some (record { key = key; bytes = bs })
-field-from [] bs named held = absurd (not-suc-le-zero named)
-field-from (k ∷ ks) [] named held = absurd (not-suc-le-zero held)
-field-from (k ∷ ks) (b ∷ bs) named held = refl
+cut-of p f e = cut-by p f (pieceGood p) refl e
 
 of-cut : (p : List ℕ) (f : Field) → Cut p f → fieldOf p ≡ some f
-unfolding fieldOf
-of-cut p f h = ap₂ fieldFrom (h .key-is) (h .bytes-are) ∙ field-from (f .key) (f .bytes) (h .named) (h .held)
+unfolding fieldOf pieceGood textObeys
+of-cut p f h =
+    let named : 1 ≤ length (f .key) = h .named in
+    let held : 1 ≤ length (f .bytes) = h .held in
+    rw (h .key-is, h .bytes-are) (simp (le-leb 1 (length (f .key)) named, le-leb 1 (length (f .bytes)) held, h .good))
 
 -- a field's text is cut into that field
-cut-text : (f : Field) → Formed f → Cut (fieldText f) f
+cut-text : (f : Field) → Formed f → obeys (ruleOf (f .key)) (f .bytes) ≡ true → Cut (fieldText f) f
 unfolding fieldText
-cut-text f h = record {
+cut-text f h good = record {
   key-is = upTo-joined colon (f .key) (encoded (f .bytes)) (h .no-colon);
   bytes-are =
       ap decoded (after-joined colon (f .key) (encoded (f .bytes)) (h .no-colon)) ∙ decoded-exactly (encoded (f .bytes)) (f .bytes) (h .of-bytes) .1 refl;
   named = h .named;
   held = h .held;
+  good = good;
 }
 
 -- runs without a byte, joined and taken apart
@@ -140,10 +146,12 @@ pieces-closed (f ∷ g ∷ fs) more h =
     ∙ pieces-next (fieldText f) (joined (textsOf (g ∷ fs)) ++ semicolon ∷ []) (text-without f (h .0))
     ∙ ap (λ (ps : List (List ℕ)). fieldText f ∷ ps) (pieces-closed (g ∷ fs) (omega arith) (h .1))
 
-fields-texts : (fs : List Field) → AllFormed fs → fieldsIn (textsOf fs) ≡ some fs
-unfolding fieldsIn textsOf
-fields-texts [] h = refl
-fields-texts (f ∷ fs) h = ap₂ withField (of-cut (fieldText f) f (cut-text f (h .0))) (fields-texts fs (h .1))
+fields-texts : (fs : List Field) → AllFormed fs → allGood fs ≡ true → fieldsIn (textsOf fs) ≡ some fs
+unfolding fieldsIn textsOf allGood
+fields-texts [] h good = refl
+fields-texts (f ∷ fs) h good =
+    let g = both (obeys (ruleOf (f .key)) (f .bytes)) (allGood fs) good in
+    ap₂ withField (of-cut (fieldText f) f (cut-text f (h .0) (g .0))) (fields-texts fs (h .1) (g .1))
 
 joined-some : (fs : List Field) → 0 < length fs → AllFormed fs → 0 < length (joined (textsOf fs))
 unfolding joined textsOf
@@ -151,20 +159,20 @@ joined-some [] more h = absurd (not-suc-le-zero more)
 joined-some (f ∷ []) more h = text-some f (h .0)
 joined-some (f ∷ g ∷ fs) more h = omega (arith, text-some f (h .0), length-append (fieldText f) (semicolon ∷ joined (textsOf (g ∷ fs))))
 
-fields-some : (v : List ℕ) → 0 < length v → fieldsOf v ≡ fieldsIn (pieces v)
-unfolding fieldsOf
-fields-some [] h = absurd (not-suc-le-zero h)
-fields-some (x ∷ xs) h = refl
+pub grammar-some : (v : List ℕ) → 0 < length v → grammar v ≡ fieldsIn (pieces v)
+unfolding grammar
+grammar-some [] h = absurd (not-suc-le-zero h)
+grammar-some (x ∷ xs) h = refl
 
-fields-by : (v : List ℕ) (fs : List Field) → 0 < length fs → AllFormed fs
-    → (v ≡ joined (textsOf fs)) ⊎ (v ≡ joined (textsOf fs) ++ semicolon ∷ []) → fieldsOf v ≡ some fs
-fields-by v fs more h (inl e) =
-    ap fieldsOf e ∙ fields-some _ (joined-some fs more h) ∙ ap fieldsIn (pieces-texts fs h) ∙ fields-texts fs h
-fields-by v fs more h (inr e) =
-    ap fieldsOf e
-    ∙ fields-some _ (omega (arith, length-append (joined (textsOf fs)) (semicolon ∷ [])))
+grammar-by : (v : List ℕ) (fs : List Field) → 0 < length fs → AllFormed fs → allGood fs ≡ true
+    → (v ≡ joined (textsOf fs)) ⊎ (v ≡ joined (textsOf fs) ++ semicolon ∷ []) → grammar v ≡ some fs
+grammar-by v fs more h good (inl e) =
+    ap grammar e ∙ grammar-some _ (joined-some fs more h) ∙ ap fieldsIn (pieces-texts fs h) ∙ fields-texts fs h good
+grammar-by v fs more h good (inr e) =
+    ap grammar e
+    ∙ grammar-some _ (omega (arith, length-append (joined (textsOf fs)) (semicolon ∷ [])))
     ∙ ap fieldsIn (pieces-closed fs more h)
-    ∙ fields-texts fs h
+    ∙ fields-texts fs h good
 
 -- pieces have no ;
 abbrev AllWithout : List (List ℕ) → Type 0
@@ -223,24 +231,25 @@ joins (x ∷ y ∷ ys) =
     subst (λ (ps : List (List ℕ)). Joins (x ∷ y ∷ ys) (cond (eqb x semicolon) ([] ∷ ps) (onto x ps))) (sym next)
     (joins-by x (y ∷ ys) _ _ (eqb x semicolon) refl (subst (Joins (y ∷ ys)) next (joins (y ∷ ys))))
 
--- pieces that are fields are the texts of these
+-- pieces that are fields are the texts of these, and these keep their rules
+abbrev Texts : List (List ℕ) → List Field → Type 0
+Texts ps fs = (ps ≡ textsOf fs) × AllFormed fs × (allGood fs ≡ true)
+
 texts-by : (p : List ℕ) (ps : List (List ℕ)) (fs : List Field) (o : Option Field) (os : Option (List Field)) → fieldOf p ≡ o
-    → Without semicolon p → ((gs : List Field) → os ≡ some gs → (ps ≡ textsOf gs) × AllFormed gs) → withField o os ≡ some fs
-    → (p ∷ ps ≡ textsOf fs) × AllFormed fs
-unfolding textsOf
+    → Without semicolon p → ((gs : List Field) → os ≡ some gs → Texts ps gs) → withField o os ≡ some fs → Texts (p ∷ ps) fs
+unfolding textsOf allGood
 texts-by p ps fs none os e w rest h = absurd (let z : _≡_ {A = ℕ} 0 1 = cc in omega arith)
 texts-by p ps fs (some f) none e w rest h = absurd (let z : _≡_ {A = ℕ} 0 1 = cc in omega arith)
 texts-by p ps fs (some f) (some gs) e w rest h =
-    let one = text-cut p f w (cut-of p f e) in
+    let cut = cut-of p f e in
+    let one = text-cut p f w cut in
     let more = rest gs refl in
     let are : f ∷ gs ≡ fs = cc in
-    subst (λ (hs : List Field). (p ∷ ps ≡ textsOf hs) × AllFormed hs) are (ap₂ _∷_ (one .0) (more .0), (one .1, more .1))
+    subst (Texts (p ∷ ps)) are (ap₂ _∷_ (one .0) (more .0), (one .1, more .1), at-once (cut .good) (more .2))
 
-texts-of : (ps : List (List ℕ)) → AllWithout ps → (fs : List Field) → fieldsIn ps ≡ some fs → (ps ≡ textsOf fs) × AllFormed fs
-unfolding fieldsIn textsOf
-texts-of [] w fs e =
-    let are : _≡_ {A = List Field} [] fs = cc in
-    subst (λ (hs : List Field). ([] ≡ textsOf hs) × AllFormed hs) are (refl, tt)
+texts-of : (ps : List (List ℕ)) → AllWithout ps → (fs : List Field) → fieldsIn ps ≡ some fs → Texts ps fs
+unfolding fieldsIn textsOf allGood
+texts-of [] w fs e = let are : _≡_ {A = List Field} [] fs = cc in subst (Texts []) are (refl, tt, refl)
 texts-of (p ∷ ps) w fs e = texts-by p ps fs (fieldOf p) (fieldsIn ps) refl (w .0) (texts-of ps (w .1)) e
 
 texts-some : (fs : List Field) {p : List ℕ} {ps : List (List ℕ)} → p ∷ ps ≡ textsOf fs → 0 < length fs
@@ -248,25 +257,20 @@ unfolding textsOf
 texts-some [] e = absurd (let z : _≡_ {A = ℕ} 0 1 = cc in omega arith)
 texts-some (f ∷ fs) e = omega arith
 
-value-of : (v : List ℕ) (fs : List Field) → fieldsOf v ≡ some fs → ValueOf v fs
-unfolding fieldsOf
+value-of : (v : List ℕ) (fs : List Field) → grammar v ≡ some fs → ValueOf v fs × (allGood fs ≡ true)
+unfolding grammar
 value-of [] fs e = absurd (let z : _≡_ {A = ℕ} 0 1 = cc in omega arith)
 value-of (x ∷ xs) fs e =
     let v = x ∷ xs in
-    let parts = texts-of (pieces v) (pieces-without v) fs e in
-    record {
-      one-or-more = texts-some fs (sym (pieces-cut x xs) ∙ parts .0);
-      formed = parts .1;
-      text = subst (Joins v) (parts .0) (joins v);
-    }
+    let parts = texts-of (pieces v) (pieces-without v) fs e in (
+      record {
+        one-or-more = texts-some fs (sym (pieces-cut x xs) ∙ parts .0);
+        formed = parts .1;
+        text = subst (Joins v) (parts .0) (joins v);
+      },
+      parts .2,
+    )
 
--- the fields that are found are those whose text the value is
-pub fields-exactly : (v : List ℕ) (fs : List Field) → (fieldsOf v ≡ some fs) ↔ ValueOf v fs
-fields-exactly v fs = (value-of v fs, λ h. fields-by v fs (h .one-or-more) (h .formed) (h .text))
-
--- so a value has the fields of one list at most
-pub fields-determined : (v : List ℕ) (fs gs : List Field) → ValueOf v fs → ValueOf v gs → fs ≡ gs
-fields-determined v fs gs h k =
-    let left = fields-exactly v fs .1 h in
-    let right = fields-exactly v gs .1 k in
-    cc
+-- the fields that are found are those whose text the value is, where they keep their rules
+pub grammar-exactly : (v : List ℕ) (fs : List Field) → (grammar v ≡ some fs) ↔ (ValueOf v fs × (allGood fs ≡ true))
+grammar-exactly v fs = (value-of v fs, λ h. grammar-by v fs (h .0 .one-or-more) (h .0 .formed) (h .1) (h .0 .text))

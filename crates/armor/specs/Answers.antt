@@ -25,11 +25,6 @@ answerNumber Answer.Good = 0
 answerNumber Answer.Grammar = 4
 answerNumber Answer.Fields = 5
 
-abbrev pub setupNumber : SetupRead → ℕ
-setupNumber (SetupRead.Mask m) = 0
-setupNumber SetupRead.Grammar = 4
-setupNumber SetupRead.Fields = 5
-
 abbrev pub requestFrom : Option (List Field) → Answer
 requestFrom none = Answer.Grammar
 requestFrom (some fs) = cond (requestFields fs) Answer.Good Answer.Fields

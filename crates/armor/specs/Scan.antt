@@ -1,40 +1,36 @@
 -- Invariants of the code: what a scan of a value has seen.
 -- Assumes nothing.
 use mathlib.Core.Path.{_≡_}
-use mathlib.Core.Bool.{Bool, true, false, cond, _&&_}
-use mathlib.Core.List.{List, [], _∷_}
+use mathlib.Core.Bool.{Bool, true, false, cond}
+use mathlib.Core.List.{List, []}
 use mathlib.Core.Option.{Option, none, some}
 use Prim.Native.Nat.{ℕ, _+_, _<_, _≤_, min}
-use lib.Dec.{leb}
-use lib.ListN.{length, getD, set, replicate}
+use lib.ListN.{length, getD, drop, set, replicate}
 use Rattle.cells.specs.Runs.{cut}
 use Rattle.cells.specs.Numbers.{number}
-use Rattle.base64.specs.Decoding.{Decoding, nothing, bytes, decoded}
+use Rattle.base64.specs.Decoding.{bytes, decoded}
 use Rattle.armor.specs.declared.scanning.Seen.{Seen}
 use Rattle.armor.specs.declared.scanning.ScanRead.{ScanRead}
 use Rattle.armor.specs.declared.scanning.Piece.{Piece}
 use Rattle.armor.specs.declared.contents.Numbers.{Numbers}
-use Rattle.armor.specs.Pieces.{colon, upTo, after}
-use Rattle.armor.specs.Keys.{Rule, obeys, keyNumber, ruleOf, keyT, keyLt, keyN, keyH, keyAh, keyS, keyC, keyIv, keyTag}
+use Rattle.armor.specs.Pieces.{colon, semicolon, upTo}
+use Rattle.armor.specs.Keys.{keyNumber, keyT, keyLt, keyN, keyH, keyAh, keyS, keyC, keyIv, keyTag}
 use Rattle.armor.specs.Numerals.{maskOf}
-use Rattle.armor.specs.Value.{Field, grammar, carried}
+use Rattle.armor.specs.Value.{Field, pieceGood, grammar, carried}
 use Rattle.armor.specs.Fields.{contents, the}
 
--- whether what a text encodes is not empty and keeps a rule
-abbrev pub decodedObeys : Rule → Decoding → Bool
-decodedObeys rule nothing = false
-decodedObeys rule (bytes bs) = leb 1 (length bs) && obeys rule bs
-
-unfoldable pub textObeys : Rule → List ℕ → Bool
-textObeys rule text = decodedObeys rule (decoded text)
-
--- whether a piece has a key and what the key's rule asks
-unfoldable pub pieceGood : List ℕ → Bool
-pieceGood piece = leb 1 (length (upTo colon piece)) && textObeys (ruleOf (upTo colon piece)) (after colon piece)
-
--- the key's number and where the text starts
+-- what the code answers of a piece: the key's number and where the text starts
 unfoldable pub pieceAnswer : List ℕ → Piece
 pieceAnswer piece = cond (pieceGood piece) (Piece.Field (keyNumber (upTo colon piece)) (length (upTo colon piece) + 1)) Piece.Bad
+
+pub record PieceIs (piece : List ℕ) (r : Piece) : Type 0 where
+  pub is : r ≡ pieceAnswer piece
+  pub within : (key start : ℕ) → r ≡ Piece.Field key start → (key < 12) × (start ≤ length piece)
+
+-- the piece that starts at byte at ends before byte r
+pub record Ends (v : List ℕ) (at r : ℕ) : Type 0 where
+  pub is : r ≡ at + length (upTo semicolon (drop at v))
+  pub within : r ≤ length v
 
 -- what has been noted of contents: how many there are, up to two, and where the last one's text is; nowhere where there is none
 pub record Kept (v : List ℕ) (count start end : ℕ) (held : List (List ℕ)) : Type 0 where

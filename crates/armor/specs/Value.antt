@@ -1,18 +1,19 @@
 -- The fields of an X-S-Armor value: document 01, The X-S-Armor value.
--- `ValueOf` says what the text of some fields is; `fieldsOf` finds the fields, and `fields-exactly` of proofs/Value.antt says that the two agree.
+-- `ValueOf` says what the text of some fields is; `grammar` finds the fields, and `grammar-exactly` of proofs/Value.antt says that the two agree.
 -- Assumes nothing.
 use mathlib.Core.Path.{_≡_}
 use mathlib.Core.Logic.{_⊎_}
-use mathlib.Core.Bool.{Bool, true, cond, _&&_}
+use mathlib.Core.Bool.{Bool, true, false, cond, _&&_}
 use mathlib.Core.List.{List, [], _∷_, _++_}
 use mathlib.Core.Option.{Option, none, some, Option·getD}
 use Prim.Native.Nat.{ℕ, _<_}
+use lib.Dec.{leb}
 use lib.ListN.{length}
 use Rattle.cells.specs.Runs.{Bytes}
 use Rattle.base64.specs.Encoding.{encoded}
 use Rattle.base64.specs.Decoding.{Decoding, nothing, bytes, decoded}
 use Rattle.armor.specs.Pieces.{colon, semicolon, upTo, after, pieces, Without}
-use Rattle.armor.specs.Keys.{obeys, ruleOf}
+use Rattle.armor.specs.Keys.{Rule, obeys, ruleOf}
 
 pub record Field : Type 0 where
   pub key : List ℕ
@@ -52,22 +53,39 @@ unfoldable pub following : List Field → List ℕ
 following [] = []
 following (f ∷ fs) = semicolon ∷ (fieldText f ++ following fs)
 
+-- whether fields keep their keys' rules
+unfoldable pub allGood : List Field → Bool
+allGood [] = true
+allGood (f ∷ fs) = obeys (ruleOf (f .key)) (f .bytes) && allGood fs
+
 -- a value has one or more fields; one closing ; is allowed
 pub record ValueOf (v : List ℕ) (fs : List Field) : Type 0 where
   pub one-or-more : 0 < length fs
   pub formed : AllFormed fs
   pub text : (v ≡ joined (textsOf fs)) ⊎ (v ≡ joined (textsOf fs) ++ semicolon ∷ [])
 
--- a field of a key and a decoded text, neither of them empty
-abbrev pub fieldFrom : List ℕ → Decoding → Option Field
-fieldFrom [] d = none
-fieldFrom (k ∷ ks) nothing = none
-fieldFrom (k ∷ ks) (bytes []) = none
-fieldFrom (k ∷ ks) (bytes (b ∷ bs)) = some (record { key = k ∷ ks; bytes = b ∷ bs })
+-- whether what a text encodes is not empty and keeps a rule
+abbrev pub decodedObeys : Rule → Decoding → Bool
+decodedObeys rule nothing = false
+decodedObeys rule (bytes bs) = leb 1 (length bs) && obeys rule bs
 
--- the field of a piece: its key ends at the first colon
+unfoldable pub textObeys : Rule → List ℕ → Bool
+textObeys rule text = decodedObeys rule (decoded text)
+
+abbrev pub held : Decoding → List ℕ
+held nothing = []
+held (bytes bs) = bs
+
+-- whether a piece has a key, which ends at the first colon, and after it what the key's rule asks
+unfoldable pub pieceGood : List ℕ → Bool
+pieceGood piece = leb 1 (length (upTo colon piece)) && textObeys (ruleOf (upTo colon piece)) (after colon piece)
+
+-- the field of a good piece
+abbrev pub pieceField : List ℕ → Field
+pieceField piece = field (upTo colon piece) (held (decoded (after colon piece)))
+
 unfoldable pub fieldOf : List ℕ → Option Field
-fieldOf piece = fieldFrom (upTo colon piece) (decoded (after colon piece))
+fieldOf piece = cond (pieceGood piece) (some (pieceField piece)) none
 
 abbrev pub withField : Option Field → Option (List Field) → Option (List Field)
 withField none o = none
@@ -78,25 +96,10 @@ unfoldable pub fieldsIn : List (List ℕ) → Option (List Field)
 fieldsIn [] = some []
 fieldsIn (p ∷ ps) = withField (fieldOf p) (fieldsIn ps)
 
-unfoldable pub fieldsOf : List ℕ → Option (List Field)
-fieldsOf [] = none
-fieldsOf (x ∷ xs) = fieldsIn (pieces (x ∷ xs))
-
--- whether a field keeps its key's rule
-unfoldable pub fieldGood : Field → Bool
-fieldGood f = obeys (ruleOf (f .key)) (f .bytes)
-
-unfoldable pub allGood : List Field → Bool
-allGood [] = true
-allGood (f ∷ fs) = fieldGood f && allGood fs
-
-abbrev pub goodOnly : Option (List Field) → Option (List Field)
-goodOnly none = none
-goodOnly (some fs) = cond (allGood fs) (some fs) none
-
 -- the fields of a value that keeps its grammar
 unfoldable pub grammar : List ℕ → Option (List Field)
-grammar v = goodOnly (fieldsOf v)
+grammar [] = none
+grammar (x ∷ xs) = fieldsIn (pieces (x ∷ xs))
 
 unfoldable pub carried : List ℕ → List Field
 carried v = Option·getD (grammar v) []

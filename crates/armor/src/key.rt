@@ -4,7 +4,7 @@ ghost use mathlib.Core.List.{[], _∷_};
 ghost use Prim.Native.Nat.{_≤_};
 ghost use Rattle.cells.specs.Runs.{same};
 ghost use Rattle.armor.specs.Keys.{keyNumber, number, mask, sized, free, ruleAt};
-ghost use Rattle.armor.specs.Scan.{textObeys};
+ghost use Rattle.armor.specs.Value.{textObeys};
 use super::numeral;
 use base64::Decoded;
 use base64::Measured;
@@ -112,10 +112,7 @@ fn is_sized(text: &[u8], low: usize, high: usize) -> bool
     let Measured::Bytes(n) = base64::measure(text) else {
         return false;
     };
-    if n < low {
-        return false;
-    }
-    n <= high
+    (low <= n) & (n <= high)
 }
 
 // Whether a text encodes any bytes.
@@ -136,10 +133,7 @@ fn is_number(text: &[u8]) -> bool
     let Decoded::Bytes(n) = base64::decode(text, &mut out) else {
         return false;
     };
-    if n == 0 {
-        return false;
-    }
-    numeral::is_plain(&out[..n])
+    numeral::is_numeral(&out[..n], 4)
 }
 
 // Whether a text encodes a mask.
@@ -150,13 +144,10 @@ fn is_mask(text: &[u8]) -> bool
     let Decoded::Bytes(n) = base64::decode(text, &mut out) else {
         return false;
     };
-    if n < 2 {
+    if n == 0 {
         return false;
     }
-    if numeral::wide(out[0]) != (n - 1) as u64 {
-        return false;
-    }
-    numeral::is_plain(&out[1..n])
+    (numeral::wide(out[0]) == (n - 1) as u64) & numeral::is_numeral(&out[1..n], 8)
 }
 
 // Whether a text encodes what the rule of key number key asks.

@@ -4,7 +4,7 @@ ghost use Prim.Native.Nat.{_+_, _≤_};
 ghost use lib.ListN.{length, take};
 ghost use Rattle.cells.specs.Runs.{spliced};
 ghost use Rattle.cells.specs.Numbers.{number};
-ghost use Rattle.armor.specs.Numerals.{plain, numberBytes, maskBytes};
+ghost use Rattle.armor.specs.Numerals.{plain, numberBytes, isNumeral, maskBytes};
 
 pub struct NumberBytes {
     pub bytes: [u8; 4],
@@ -79,7 +79,7 @@ pub fn mask_bytes(m: u64) -> MaskBytes
 }
 
 // Whether a run has no leading zero byte, or is one byte.
-pub fn is_plain(bytes: &[u8]) -> bool
+fn is_plain(bytes: &[u8]) -> bool
     ensures { λ r. ⌜ r ≡ plain (now (bytes .entry)) ⌝ }
 {
     if bytes.len() < 2 {
@@ -88,18 +88,22 @@ pub fn is_plain(bytes: &[u8]) -> bool
     bytes[0] != 0
 }
 
+// Whether a run is the bytes of a number, of which there are 1 to most.
+pub fn is_numeral(bytes: &[u8], most: usize) -> bool
+    ensures { λ r. ⌜ r ≡ isNumeral most (now (bytes .entry)) ⌝ }
+{
+    let len = bytes.len();
+    (1 <= len) & ((len <= most) & is_plain(bytes))
+}
+
 // The number of at most eight bytes.
 pub fn number_of(bytes: &[u8]) -> u64
     requires { ⌜ length (now bytes) ≤ 8 ⌝ }
     ensures { λ r. ⌜ r ≡ number (now (bytes .entry)) ⌝ }
 {
-    let mut n: u64 = 0;
-    let mut i = 0;
-    while i < bytes.len() {
-        n = n * 256 + wide(bytes[i]);
-        i += 1;
-    }
-    n
+    let mut eight = [0u8; 8];
+    cells::put_at(&mut eight, 8 - bytes.len(), bytes);
+    cells::load64(&eight, 0)
 }
 
 // The number of at most four bytes.

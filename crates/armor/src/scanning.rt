@@ -3,7 +3,7 @@ ghost use mathlib.Core.Path.{_≡_};
 ghost use Prim.Native.Nat.{_+_, _≤_, _<_, min};
 ghost use lib.ListN.{length};
 ghost use Rattle.armor.specs.Pieces.{upTo};
-ghost use Rattle.armor.specs.Scan.{pieceAnswer, noneSeen, notedIn, Scanned};
+ghost use Rattle.armor.specs.Scan.{Ends, PieceIs, noneSeen, notedIn, Scanned};
 use super::key;
 
 // Where the first b stands, or how long the text is.
@@ -71,22 +71,36 @@ enum Piece {
     Bad,
 }
 
+// The place after byte at, or the end.
+fn past(at: usize, len: usize) -> usize
+    requires { ⌜ at ≤ len ⌝ }
+    ensures { λ r. ⌜ r ≡ min (at + 1) len ⌝ }
+{
+    if at < len {
+        return at + 1;
+    }
+    len
+}
+
 fn read_piece(text: &[u8]) -> Piece
-    ensures { λ r. ⌜ r ≡ pieceAnswer (now (text .entry)) ⌝ }
+    ensures { λ r. ⌜ PieceIs (now (text .entry)) r ⌝ }
 {
     let colon = find(text, b':');
-    if colon == 0 {
-        return Piece::Bad;
-    }
-    if colon >= text.len() {
-        return Piece::Bad;
-    }
-    let start = colon + 1;
+    let start = past(colon, text.len());
     let key = key::key_number(&text[..colon]);
-    if !key::is_good(&text[start..], key) {
-        return Piece::Bad;
+    let good = (1 <= colon) & key::is_good(&text[start..], key);
+    if good {
+        return Piece::Field { key, start };
     }
-    Piece::Field { key, start }
+    Piece::Bad
+}
+
+// Where the piece that starts at byte at ends.
+fn piece_end(value: &[u8], at: usize) -> usize
+    requires { ⌜ (at < length (now value)) × (length (now value) ≤ 4096) ⌝ }
+    ensures { λ r. ⌜ Ends (now (value .entry)) at r ⌝ }
+{
+    at + find(&value[at..], b';')
 }
 
 // The grammar of a value, piece by piece.
@@ -100,7 +114,7 @@ pub fn scan_value(value: &[u8]) -> ScanRead
     }
     let mut at = 0;
     while at < value.len() {
-        let end = at + find(&value[at..], b';');
+        let end = piece_end(value, at);
         let Piece::Field { key, start } = read_piece(&value[at..end]) else {
             return ScanRead { good: false, seen };
         };

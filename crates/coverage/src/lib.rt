@@ -16,22 +16,15 @@ pub fn as_ordered(value: &[u8], request: Request, mask: u64, extra: &[u8]) -> bo
     requires { ⌜ (requestFields (carried (now value)) ≡ true) × Holds (now value) (carried (now value)) request × (length (now extra) ≤ 128) ⌝ }
     ensures { λ r. ⌜ r ≡ asOrdered mask (now (extra .entry)) (carried (now (value .entry))) ⌝ }
 {
-    if request.h != armor::HASH_MASK {
-        return false;
-    }
-    if request.ah != mask {
-        return false;
-    }
+    let hash_good = request.h == armor::HASH_MASK;
+    let mask_good = request.ah == mask;
     let with_eah = request.with_eah;
     if extra.len() == 0 {
-        return !with_eah;
-    }
-    if !with_eah {
-        return false;
+        return hash_good & (mask_good & !with_eah);
     }
     let start = request.eah_start;
     let end = request.eah_end;
-    is_text_of(&value[start..end], extra)
+    hash_good & (mask_good & (with_eah & is_text_of(&value[start..end], extra)))
 }
 
 // Whether a text is the base64 of at most 128 bytes.

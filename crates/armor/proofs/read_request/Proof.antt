@@ -4,8 +4,7 @@ use mathlib.Core.Path.{sym, _∙_}
 use mathlib.Core.Bool.{true, false}
 use borrow.Author.Needs.{needs}
 use borrow.Author.Tests.{not-true, not-false}
-use Rattle.armor.proofs.Requests.{ready, request-by}
-use Rattle.armor.proofs.Readings.{request-breaks, not-good-grammar, not-good-fields}
+use Rattle.armor.proofs.Requests.{ready, request-by, request-breaks, not-good-grammar, not-good-fields}
 use Rattle.armor.proofs.read_request.Statement.{statement}
 use Rattle.armor.proofs.read_request.Tie as tie
 

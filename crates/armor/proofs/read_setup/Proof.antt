@@ -5,8 +5,7 @@ use mathlib.Core.Bool.{true, false}
 use borrow.Author.Needs.{needs}
 use borrow.Author.Tests.{not-true, not-false}
 use Rattle.armor.specs.declared.SetupRead.{SetupRead}
-use Rattle.armor.proofs.Requests.{setup-by}
-use Rattle.armor.proofs.Readings.{setup-breaks, setup-fields, client-there}
+use Rattle.armor.proofs.Requests.{setup-by, setup-breaks, setup-fields, client-there}
 use Rattle.armor.proofs.read_setup.Statement.{statement}
 use Rattle.armor.proofs.read_setup.Tie as tie
 

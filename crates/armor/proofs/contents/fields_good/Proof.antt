@@ -6,7 +6,7 @@ use lib.Dec.{eqb}
 use borrow.Author.Needs.{needs}
 use borrow.Author.Tests.{not-true, not-false}
 use Rattle.armor.specs.Fields.{nonceBit}
-use Rattle.armor.proofs.Readings.{request-fields, coverage-there}
+use Rattle.armor.proofs.Requests.{request-fields, coverage-there}
 use Rattle.armor.proofs.contents.fields_good.Statement.{statement}
 use Rattle.armor.proofs.contents.fields_good.Tie as tie
 

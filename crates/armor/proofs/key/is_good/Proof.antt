@@ -4,7 +4,7 @@ use mathlib.Core.Path.{sym, ap, _∙_}
 use Prim.Native.Nat.{ℕ}
 use borrow.Author.Needs.{needs}
 use Rattle.armor.specs.Keys.{Rule, keys, ruleAt}
-use Rattle.armor.specs.Scan.{textObeys}
+use Rattle.armor.specs.Value.{textObeys}
 use Rattle.armor.proofs.Keys.{numbers, masks, frees}
 use Rattle.armor.proofs.key.is_good.Statement.{statement}
 use Rattle.armor.proofs.key.is_good.Tie as tie

@@ -1,13 +1,15 @@
 -- `is_mask` meets its contract: what does not fit nine bytes is no mask.
 -- Assumes nothing.
-use mathlib.Core.Path.{_≡_, sym, _∙_}
+use mathlib.Core.Path.{_≡_, sym, ap₂, _∙_}
+use mathlib.Core.Bool.{Bool, _&&_}
 use mathlib.Core.Logic.{⊎-elim}
-use Prim.Native.Nat.{ℕ}
+use Prim.Native.Nat.{ℕ, _-_}
 use native.Mathlib.Omega.{arith}
+use lib.Dec.{eqb}
 use lib.ListN.{replicate}
 use borrow.Author.Needs.{needs}
 use Rattle.armor.specs.Keys.{mask}
-use Rattle.armor.proofs.Texts.{unfilled, filled, filled-within, mask-room, obeys-run, mask-few, mask-wrong, mask-plain}
+use Rattle.armor.proofs.Texts.{unfilled, filled, filled-within, mask-room, obeys-run, mask-none, mask-test}
 use Rattle.armor.proofs.key.is_mask.Statement.{statement}
 use Rattle.armor.proofs.key.is_mask.Tie as tie
 
@@ -20,37 +22,28 @@ returns c =
 
 returns-2 : tie.Need-returns-2
 returns-2 c =
-    let args = c .before .before .before .before .before .before .before .before .args in
+    let text = c .before .before .before .before .before .before .before .before .args .text .now in
     let n = c .before .before .n in
     let d = c .before .before .before .before .before .decode in
-    let f = filled (args .text .now) (replicate 9 0) (d .last .1 .0) (n .given .0 .0) (d .result) (n .given .1) (d .ensures) in
-    sym (obeys-run mask (args .text .now) (f .run) (f .is) ∙ mask-few (f .run) (n .given .0 .0) (f .size) (c .if1 .taken))
+    let f = filled text (replicate 9 0) (d .last .1 .0) (n .given .0 .0) (d .result) (n .given .1) (d .ensures) in
+    sym (obeys-run mask text (f .run) (f .is) ∙ mask-none (f .run) (n .given .0 .0) (f .size) (c .if1 .taken))
+
+part-is-numeral-end : tie.Need-part-is-numeral-end
+part-is-numeral-end c =
+    let text = c .before .before .before .before .before .before .before .before .before .before .args .text .now in
+    let n = c .before .before .before .before .n in
+    let d = c .before .before .before .before .before .before .before .decode in
+    let f = filled text (replicate 9 0) (d .last .1 .0) (n .given .0 .0) (d .result) (n .given .1) (d .ensures) in
+    omega (arith, filled-within f)
 
 returns-3 : tie.Need-returns-3
 returns-3 c =
-    let args = c .before .before .before .before .before .before .before .before .before .before .args in
-    let n = c .before .before .before .before .n in
-    let d = c .before .before .before .before .before .before .before .decode in
-    let f = filled (args .text .now) (replicate 9 0) (d .last .1 .0) (n .given .0 .0) (d .result) (n .given .1) (d .ensures) in
-    sym (obeys-run mask (args .text .now) (f .run) (f .is)
-    ∙ mask-wrong (f .run) (replicate 9 0) (n .given .0 .0) (f .front) (f .size) (c .before .before .if1 .left) (λ e. c .if2 .taken (c .before .wide .ensures ∙ e)))
-
-part-is-plain-end : tie.Need-part-is-plain-end
-part-is-plain-end c =
-    let args = c .before .before .before .before .before .before .before .before .before .before .before .args in
-    let n = c .before .before .before .before .before .n in
-    let d = c .before .before .before .before .before .before .before .before .decode in
-    omega (arith, filled-within (filled (args .text .now) (replicate 9 0) (d .last .1 .0) (n .given .0 .0) (d .result) (n .given .1) (d .ensures)))
-
-returns-4 : tie.Need-returns-4
-returns-4 c =
-    let args = c .before .before .before .before .before .before .before .before .before .before .before .before .before .args in
-    let n = c .before .before .before .before .before .before .before .n in
-    let d = c .before .before .before .before .before .before .before .before .before .before .decode in
-    let f = filled (args .text .now) (replicate 9 0) (d .last .1 .0) (n .given .0 .0) (d .result) (n .given .1) (d .ensures) in
-    c .is-plain .ensures
-    ∙ sym (obeys-run mask (args .text .now) (f .run) (f .is)
-    ∙ mask-plain (f .run) (replicate 9 0) (n .given .0 .0) (f .front) (f .size) (c .before .before .before .before .before .if1 .left) (f .fits) (sym (c .before .before .before .before .wide .ensures) ∙ c .before .before .before .if2 .left))
+    let text = c .before .before .before .before .before .before .before .before .before .before .before .before .args .text .now in
+    let n = c .before .before .before .before .before .before .n in
+    let d = c .before .before .before .before .before .before .before .before .before .decode in
+    let f = filled text (replicate 9 0) (d .last .1 .0) (n .given .0 .0) (d .result) (n .given .1) (d .ensures) in
+    ap₂ (λ (x : ℕ) (t : Bool). eqb x (n .given .0 .0 - 1) && t) (c .before .before .before .wide .ensures) (c .is-numeral .ensures)
+    ∙ sym (obeys-run mask text (f .run) (f .is) ∙ mask-test (f .run) (replicate 9 0) (n .given .0 .0) (f .front) (f .size) (c .before .before .before .before .if1 .left))
 
 pub is-mask-spec : {M : Type 1} → statement M
 is-mask-spec =
@@ -64,9 +57,8 @@ is-mask-spec =
     (λ c. search needs)
     (λ c κs. search needs)
     (λ c. search needs)
-    returns-3
     (λ c. search needs)
     (λ c. search needs)
-    part-is-plain-end
+    part-is-numeral-end
     (λ c κs. search needs)
-    returns-4)
+    returns-3)

@@ -2,7 +2,7 @@
 -- Assumes nothing.
 use mathlib.Core.Path.{sym, _∙_}
 use borrow.Author.Needs.{needs}
-use Rattle.armor.proofs.Texts.{measured-bad, measured-sized, sized-short, sized-long}
+use Rattle.armor.proofs.Texts.{measured-bad, measured-sized, sized-test}
 use Rattle.armor.proofs.key.is_sized.Statement.{statement}
 use Rattle.armor.proofs.key.is_sized.Tie as tie
 
@@ -11,15 +11,10 @@ returns c = sym (measured-bad _ _ (sym (c .before .before .measure .ensures) ∙
 
 returns-2 : tie.Need-returns-2
 returns-2 c =
-    let args = c .before .before .before .before .before .before .args in
-    let n = c .before .before .n in
-    sym (measured-sized (args .text .now) (n .given .0 .0) (args .low) (args .high) (sym (c .before .before .before .before .measure .ensures) ∙ n .given .1) ∙ sized-short (n .given .0 .0) (args .low) (args .high) (c .if1 .taken))
-
-returns-3 : tie.Need-returns-3
-returns-3 c =
-    let args = c .before .before .before .before .before .before .args in
-    let n = c .before .before .n in
-    sym (measured-sized (args .text .now) (n .given .0 .0) (args .low) (args .high) (sym (c .before .before .before .before .measure .ensures) ∙ n .given .1) ∙ sized-long (n .given .0 .0) (args .low) (args .high) (c .before .before .before .before .before .before .pre) (c .if1 .left))
+    let start = c .before .before .before .before .before in
+    let a = start .args in
+    let n = c .before .n .given in
+    sym (measured-sized (a .text .now) (n .0 .0) (a .low) (a .high) (sym (c .before .before .before .measure .ensures) ∙ n .1) ∙ sized-test (n .0 .0) (a .low) (a .high) (start .pre))
 
 pub is-sized-spec : {M : Type 1} → statement M
 is-sized-spec =
@@ -29,5 +24,4 @@ is-sized-spec =
     (λ c. search needs)
     (λ c. search needs)
     returns
-    returns-2
-    returns-3)
+    returns-2)
