@@ -6,7 +6,7 @@ use Prim.Native.Nat.{ℕ}
 use lib.Dec.{T, eqb, eqb→eq}
 use lib.ListN.{getD}
 use Rattle.aes.specs.Sbox.{subByte}
-use Rattle.aes.specs.Code.{Substitutes}
+use Rattle.aes.specs.InnerCode.{Substitutes}
 use Rattle.aes.proofs.Tests.{each, each-at}
 
 -- the entry of a table at b is the right one

@@ -2,4 +2,4 @@
 pub mod Field
 pub mod Sbox
 pub mod Cipher
-pub mod Code
+pub mod InnerCode

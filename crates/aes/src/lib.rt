@@ -7,7 +7,7 @@ ghost use Rattle.cells.specs.Runs.{spliced};
 ghost use Rattle.aes.specs.Field.{xtimes, powerOfX};
 ghost use Rattle.aes.specs.Sbox.{subByte};
 ghost use Rattle.aes.specs.Cipher as C;
-ghost use Rattle.aes.specs.Code.{Substitutes, bytes, listed, mixWord};
+ghost use Rattle.aes.specs.InnerCode.{Substitutes, bytes, listed, mixWord};
 
 // Four bytes: a column of a state, or a word of a schedule.
 struct Column {

@@ -16,8 +16,8 @@ use Rattle.armor.specs.Keys.{mask, obeys, keys, keyNumber, ruleAt, keyT,
 use Rattle.armor.specs.Keys
 use Rattle.armor.specs.Value.{Field, AllFormed, allGood, grammar, carried}
 use Rattle.armor.specs.Fields.{contents, times, the, nonceBit, requestFields}
-use Rattle.armor.specs.Answers.{requestFrom, requestAnswer}
-use Rattle.armor.specs.Scan.{Sizes}
+use Rattle.armor.specs.InnerAnswers.{requestFrom, requestAnswer}
+use Rattle.armor.specs.InnerScan.{Sizes}
 use Rattle.armor.proofs.Numerals.{numberBytes-number, maskBytes-maskOf}
 use Rattle.armor.proofs.Value.{grammar-exactly}
 use Rattle.armor.proofs.Fields.{obeyed-once}

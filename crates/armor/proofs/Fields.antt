@@ -12,7 +12,7 @@ use Rattle.armor.specs.declared.scanning.Seen.{Seen}
 use Rattle.armor.specs.Keys.{obeys, keyNumber, ruleAt, ruleOf}
 use Rattle.armor.specs.Value.{Field, allGood, carried}
 use Rattle.armor.specs.Fields.{contents, times, the, rightTimes}
-use Rattle.armor.specs.Scan.{Notes, Noted, countIn}
+use Rattle.armor.specs.InnerScan.{Notes, Noted, countIn}
 use Rattle.armor.proofs.Numerals.{both}
 
 -- counts that stop at two

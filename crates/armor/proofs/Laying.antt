@@ -6,7 +6,7 @@ use Prim.Native.Nat.{ℕ, _+_, _≤_}
 use native.Mathlib.Omega.{arith}
 use lib.ListN.{length}
 use Rattle.cells.specs.Runs.{spliced}
-use Rattle.cells.specs.Laid.{Laid}
+use Rattle.cells.specs.InnerLaid.{Laid}
 use Rattle.cells.proofs.Laid.{laid-more}
 use Rattle.base64.specs.Encoding.{encoded}
 use Rattle.armor.specs.Pieces.{colon, semicolon}

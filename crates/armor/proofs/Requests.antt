@@ -18,8 +18,8 @@ use Rattle.armor.specs.Keys.{sized, obeys, keys, ruleAt, keyT, keyLt, ke
 use Rattle.armor.specs.Keys
 use Rattle.armor.specs.Value.{Field, allGood, grammar, carried}
 use Rattle.armor.specs.Fields.{times, the, rightTimes, nonceBit, requestFields, setupFields}
-use Rattle.armor.specs.Answers.{requestFrom, requestAnswer, setupFrom, setupAnswer}
-use Rattle.armor.specs.Scan.{Sound, Sizes, Ready, Noted, countIn, isSome, Scanned}
+use Rattle.armor.specs.InnerAnswers.{requestFrom, requestAnswer, setupFrom, setupAnswer}
+use Rattle.armor.specs.InnerScan.{Sound, Sizes, Ready, Noted, countIn, isSome, Scanned}
 use Rattle.armor.proofs.Numerals.{both}
 use Rattle.armor.proofs.Value.{grammar-exactly}
 use Rattle.armor.proofs.Texts.{number-room, mask-room, sized-room}

@@ -21,7 +21,7 @@ use Rattle.armor.specs.Pieces.{colon, semicolon, upTo, after, pieces}
 use Rattle.armor.specs.Keys.{Rule, keyNumber, ruleAt, ruleOf}
 use Rattle.armor.specs.Value.{Field, textObeys, pieceGood, pieceField, fieldOf, withField, fieldsIn, grammar, carried}
 use Rattle.armor.specs.Fields.{contents}
-use Rattle.armor.specs.Scan.{pieceAnswer, PieceIs, Ends, Kept, Notes, noneSeen, notedIn}
+use Rattle.armor.specs.InnerScan.{pieceAnswer, PieceIs, Ends, Kept, Notes, noneSeen, notedIn}
 use Rattle.armor.proofs.Numerals.{both}
 use Rattle.armor.proofs.Value.{piece-cut, grammar-some}
 use Rattle.armor.proofs.Keys.{keyNumber-within}

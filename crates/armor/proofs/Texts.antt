@@ -15,7 +15,7 @@ use Rattle.cells.proofs.Runs.{length-fronted, fronted-whole}
 use Rattle.base64.specs.declared.Measured.{Measured}
 use Rattle.base64.specs.declared.Decoded.{Decoded}
 use Rattle.base64.specs.Decoding.{Decoding, nothing, bytes, decoded}
-use Rattle.base64.specs.Answers.{sizeOf, measured, Outcome, outcome, pickOutcome, into, decodedInto}
+use Rattle.base64.specs.InnerAnswers.{sizeOf, measured, Outcome, outcome, pickOutcome, into, decodedInto}
 use Rattle.armor.specs.Numerals.{isNumeral, isNumber, isMask, maskOf}
 use Rattle.armor.specs.Keys.{Rule, number, mask, sized, free, obeys}
 use Rattle.armor.specs.Value.{decodedObeys, textObeys}

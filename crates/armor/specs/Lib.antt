@@ -4,5 +4,5 @@ pub mod Pieces
 pub mod Keys
 pub mod Value
 pub mod Fields
-pub mod Answers
-pub mod Scan
+pub mod InnerAnswers
+pub mod InnerScan

@@ -2,7 +2,7 @@
 ghost use mathlib.Core.Path.{_≡_};
 ghost use Prim.Native.Nat.{_≤_};
 ghost use lib.ListN.{length};
-ghost use Rattle.armor.specs.Answers.{setupAnswer, ReadsRequest};
+ghost use Rattle.armor.specs.InnerAnswers.{setupAnswer, ReadsRequest};
 use window::Nonce;
 use window::time::Time;
 

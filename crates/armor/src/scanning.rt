@@ -3,7 +3,7 @@ ghost use mathlib.Core.Path.{_≡_};
 ghost use Prim.Native.Nat.{_+_, _≤_, _<_, min};
 ghost use lib.ListN.{length};
 ghost use Rattle.armor.specs.Pieces.{upTo};
-ghost use Rattle.armor.specs.Scan.{Ends, PieceIs, noneSeen, notedIn, Scanned};
+ghost use Rattle.armor.specs.InnerScan.{Ends, PieceIs, noneSeen, notedIn, Scanned};
 use super::key;
 
 // Where the first b stands, or how long the text is.

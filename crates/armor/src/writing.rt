@@ -3,7 +3,7 @@ ghost use mathlib.Core.Path.{_≡_};
 ghost use mathlib.Core.List.{[], _∷_};
 ghost use Prim.Native.Nat.{_+_, _*_, _/_, _≤_};
 ghost use lib.ListN.{length};
-ghost use Rattle.cells.specs.Laid.{Laid};
+ghost use Rattle.cells.specs.InnerLaid.{Laid};
 ghost use Rattle.armor.specs.Numerals.{maskBytes};
 ghost use Rattle.armor.specs.Value.{field, fieldText, following};
 use super::numeral;

@@ -14,8 +14,8 @@ use Rattle.base64.specs.declared.Measured.{Measured}
 use Rattle.base64.specs.Alphabet.{character, sixBits, pad}
 use Rattle.base64.specs.Encoding.{group, first, second, third, fourth, encoded}
 use Rattle.base64.specs.Decoding.{Decoding, nothing, bytes, pick, both, before, last, coded, joined, full, three, two, one, ending, decoded}
-use Rattle.base64.specs.Answers.{sizeOf, measured}
-use Rattle.base64.specs.Steps.{content}
+use Rattle.base64.specs.InnerAnswers.{sizeOf, measured}
+use Rattle.base64.specs.InnerSteps.{content}
 use Rattle.base64.proofs.Alphabet.{spelled, six, six-coded, six-not-pad, pad-uncoded}
 use Rattle.base64.proofs.Groups.{three-back, two-back, one-back, whole-one, whole-two, whole-three}
 

@@ -15,8 +15,8 @@ use Rattle.base64.specs.declared.Decoded.{Decoded}
 use Rattle.base64.specs.Alphabet.{character}
 use Rattle.base64.specs.Encoding.{encoded}
 use Rattle.base64.specs.Decoding.{Decoding, nothing, bytes, decoded}
-use Rattle.base64.specs.Answers.{sizeOf, measured, Outcome, outcome, pickOutcome, into, decodedInto}
-use Rattle.base64.specs.Steps.{content, byteOf, characterOf, placeOf}
+use Rattle.base64.specs.InnerAnswers.{sizeOf, measured, Outcome, outcome, pickOutcome, into, decodedInto}
+use Rattle.base64.specs.InnerSteps.{content, byteOf, characterOf, placeOf}
 use Rattle.base64.proofs.Alphabet.{six}
 use Rattle.base64.proofs.Groups.{in-two, in-bytes}
 

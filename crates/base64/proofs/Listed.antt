@@ -6,7 +6,7 @@ use Prim.Native.Nat.{ℕ, zero, suc, _+_, _<_}
 use native.Mathlib.Nat.{zero-add, not-suc-le-zero, le-of-suc-le-suc}
 use native.Mathlib.Omega.{arith}
 use lib.ListN.{getD}
-use Rattle.base64.specs.Steps.{Lists}
+use Rattle.base64.specs.InnerSteps.{Lists}
 
 -- the values of f at n numbers, counted up from i
 unfoldable pub listed : (ℕ → ℕ) → ℕ → ℕ → List ℕ

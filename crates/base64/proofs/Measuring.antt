@@ -13,8 +13,8 @@ use borrow.Author.Tests.{eq-eqb, ne-eqb}
 use Rattle.base64.specs.declared.Measured.{Measured}
 use Rattle.base64.specs.Alphabet.{pad}
 use Rattle.base64.specs.Decoding.{Decoding, nothing, bytes, pick, before, last, coded, full, three, two, one, ending, decoded}
-use Rattle.base64.specs.Answers.{sizeOf, measured}
-use Rattle.base64.specs.Steps.{plus, sizeFirst}
+use Rattle.base64.specs.InnerAnswers.{sizeOf, measured}
+use Rattle.base64.specs.InnerSteps.{plus, sizeFirst}
 
 -- a group of n bytes, if there are any, and what follows it
 abbrev pub counted : ℕ → Measured → Measured

@@ -2,5 +2,5 @@
 pub mod Alphabet
 pub mod Encoding
 pub mod Decoding
-pub mod Answers
-pub mod Steps
+pub mod InnerAnswers
+pub mod InnerSteps

@@ -4,7 +4,7 @@ ghost use mathlib.Core.Path.{_≡_};
 ghost use Prim.Native.Nat.{_+_, _-_, _*_, _/_, _%_, _<_};
 ghost use lib.ListN.{length, getD};
 ghost use Rattle.base64.specs.Alphabet.{character, sixBits};
-ghost use Rattle.base64.specs.Steps.{Lists, sixOf, characterOf};
+ghost use Rattle.base64.specs.InnerSteps.{Lists, sixOf, characterOf};
 
 // The characters by their six-bit values.
 const ALPHABET: [u8; 64] = [

@@ -16,9 +16,6 @@ use Rattle.cells.specs.Runs.{part, cut, Bytes}
 pub length-cut : (xs : List ℕ) (a e : ℕ) → e ≤ length xs → length (cut xs a e) ≡ e - a
 length-cut xs a e h = length-take-le (e - a) (drop a xs) (omega (arith, length-drop a xs))
 
-pub cut-below : (xs : List ℕ) (a e n : ℕ) → e ≤ length xs → length xs ≤ n → length (cut xs a e) ≤ n
-cut-below xs a e n h k = omega (arith, length-cut xs a e h)
-
 pub cut-none : (xs : List ℕ) (a e : ℕ) → e ≤ a → cut xs a e ≡ []
 cut-none xs a e h = let z : e - a ≡ 0 = omega arith in rw z
 

@@ -7,7 +7,7 @@ use native.Mathlib.Omega.{arith}
 use lib.ListN.{length, take, drop, length-append, length-drop, take-append-drop, drop-of-length-le}
 use lib.Seq.{take-all}
 use Rattle.cells.specs.Runs.{spliced, fronted}
-use Rattle.cells.specs.Laid.{Laid}
+use Rattle.cells.specs.InnerLaid.{Laid}
 use Rattle.cells.proofs.Runs.{joined}
 
 -- what is left of a buffer whose rest from byte a on was lent

@@ -5,7 +5,7 @@ ghost use Prim.Native.Nat.{_+_, _≤_};
 ghost use lib.ListN.{length};
 ghost use Rattle.cells.specs.Runs as R;
 ghost use Rattle.cells.specs.Runs.{spliced, fronted, part};
-ghost use Rattle.cells.specs.Laid.{Laid};
+ghost use Rattle.cells.specs.InnerLaid.{Laid};
 ghost use Rattle.cells.specs.Numbers.{bytesOf, number};
 
 pub mod decimal;

@@ -19,7 +19,7 @@ use Rattle.armor.specs.Numerals.{maskBytes, maskOf, hashMask}
 use Rattle.armor.specs.Keys.{keyH, keyAh, keyEah}
 use Rattle.armor.specs.Value.{Field, grammar, carried}
 use Rattle.armor.specs.Fields.{contents, times, the, rightTimes, requestFields}
-use Rattle.armor.specs.Answers.{requestFrom, requestAnswer, Holds}
+use Rattle.armor.specs.InnerAnswers.{requestFrom, requestAnswer, Holds}
 use Rattle.armor.proofs.Numerals.{maskOf-maskBytes}
 use Rattle.armor.proofs.Carried.{request-given, request-has, hash-bytes, coverage-bytes, carried-bytes}
 use Rattle.coverage.specs.Coverage.{extraAsOrdered, asOrdered}

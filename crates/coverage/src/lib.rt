@@ -7,7 +7,7 @@ ghost use Rattle.cells.specs.Runs.{same};
 ghost use Rattle.base64.specs.Encoding.{encoded};
 ghost use Rattle.armor.specs.Value.{carried};
 ghost use Rattle.armor.specs.Fields.{requestFields};
-ghost use Rattle.armor.specs.Answers.{Holds};
+ghost use Rattle.armor.specs.InnerAnswers.{Holds};
 ghost use Rattle.coverage.specs.Coverage.{asOrdered};
 use armor::Request;
 

@@ -22,13 +22,13 @@ use Rattle.stages.specs.Request.{Request}
 use Rattle.stages.specs.Checks.{Check, first, nowhere}
 use Rattle.table.specs.Session.{placeOf, heldAt, with-record}
 use Rattle.stages.specs.Parts.{ivOf, ordered, nextOf, readingPart, vouchingPart, admittingPart, invalidates}
-use Rattle.stages.specs.Stages.{tells, Settles}
+use Rattle.stages.specs.InnerStages.{tells, Settles}
 use Rattle.stages.proofs.Checks.{numbered, lacks, first-lacks, first-small, passed-by, stopped-by}
 use Rattle.stages.proofs.Parts.{reading-numbered, reading-ten, reading-thirteen}
 use Rattle.gate.specs.State.{State, holding, untouched, replied}
 use Rattle.gate.specs.Sizes.{longFrom, exactly, tableFits, lentFits, requestFits}
 use Rattle.gate.specs.Judge.{entryPart, requestChecks, tableAfter, answered, outcomeAt, judged}
-use Rattle.gate.specs.Decisions.{Decides, leftBy, answeredBy}
+use Rattle.gate.specs.InnerDecisions.{Decides, leftBy, answeredBy}
 use Rattle.gate.proofs.Numbers.{entry-numbered, entry-ten, entry-thirteen, request-small}
 
 -- the sizes of a request that passes check 1, as far as the later stages need them

@@ -11,7 +11,7 @@ use lib.Dec.{leb}
 use lib.ListN.{length}
 use Rattle.cells.specs.Runs.{fronted}
 use Rattle.armor.specs.declared.SetupRead.{SetupRead}
-use Rattle.armor.specs.Answers.{setupFrom, setupAnswer}
+use Rattle.armor.specs.InnerAnswers.{setupFrom, setupAnswer}
 use Rattle.armor.specs.Fields.{the, setupFields}
 use Rattle.armor.specs.Keys.{keyR}
 use Rattle.armor.specs.Numerals.{maskOf}
@@ -28,7 +28,7 @@ use Rattle.gate.specs.State.{State, outcome, replied}
 use Rattle.gate.specs.Calls.{Setup}
 use Rattle.gate.specs.Sizes.{tableFits, setupFits}
 use Rattle.gate.specs.Setup.{offered, expiryOf, entryPart, offerPart, lastingPart, roomPart, setupChecks, newToken, sealedOf, replyOf, withSession, setUp}
-use Rattle.gate.specs.Starts.{RefusedBy, LastsUntil, Lasts, Room, Starts, StartIs, startAt}
+use Rattle.gate.specs.InnerStarts.{RefusedBy, LastsUntil, Lasts, Room, Starts, StartIs, startAt}
 use Rattle.gate.proofs.Numbers.{Entered, entry-numbered, entry-passed, setup-small, offer-numbered, answer-is}
 
 -- reading a value decides 4 and 5, and leaves its mask to 19 and 20

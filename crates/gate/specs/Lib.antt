@@ -6,5 +6,5 @@ pub mod Entry
 pub mod Setup
 pub mod Judge
 pub mod End
-pub mod Decisions
-pub mod Starts
+pub mod InnerDecisions
+pub mod InnerStarts

@@ -1,12 +1,12 @@
 // What calls look at first: checks 1 to 3.
 ghost use mathlib.Core.Path.{_≡_};
 ghost use mathlib.Core.Bool.{true};
-ghost use Rattle.names.specs.Walk.{Known};
+ghost use Rattle.names.specs.InnerWalk.{Known};
 ghost use Rattle.orders.specs.Orders.{orders};
 ghost use Rattle.stages.specs.Checks.{first};
 ghost use Rattle.gate.specs.State.{holding};
 ghost use Rattle.gate.specs.Entry.{stateChecks};
-ghost use Rattle.gate.specs.Decisions.{EnterIs};
+ghost use Rattle.gate.specs.InnerDecisions.{EnterIs};
 use orders::Checked;
 use orders::Limits;
 use orders::Numbers;

@@ -1,6 +1,6 @@
 // Judging a request over one session's record, as a table of that one record would.
 ghost use mathlib.Core.Path.{_≡_};
-ghost use Rattle.names.specs.Walk.{Known};
+ghost use Rattle.names.specs.InnerWalk.{Known};
 ghost use Rattle.orders.specs.Orders.{orders, ordersOf};
 ghost use Rattle.table.specs.Record.{recordBytes};
 ghost use Rattle.table.specs.Table.{Within};
@@ -10,7 +10,7 @@ ghost use Rattle.table.specs.Session.{placeOf};
 ghost use Rattle.gate.specs.State.{holding, outcome};
 ghost use Rattle.gate.specs.Entry.{stateChecks};
 ghost use Rattle.gate.specs.Judge.{tableAfter, judged};
-ghost use Rattle.gate.specs.Decisions.{Decides};
+ghost use Rattle.gate.specs.InnerDecisions.{Decides};
 use super::entry;
 use super::judge;
 use super::sizes;

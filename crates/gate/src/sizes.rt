@@ -2,7 +2,7 @@
 ghost use mathlib.Core.Path.{_≡_};
 ghost use Rattle.gate.specs.State.{holding};
 ghost use Rattle.gate.specs.Sizes.{longFrom, tableFits, endFits};
-ghost use Rattle.gate.specs.Decisions.{SetupFits, RequestFits, LentFits};
+ghost use Rattle.gate.specs.InnerDecisions.{SetupFits, RequestFits, LentFits};
 use table::session::SIZE;
 
 // Records in a table, bytes in what a request brings, and bytes in a reply buffer.

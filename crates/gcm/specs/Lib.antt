@@ -3,4 +3,4 @@ pub mod Multiply
 pub mod Ghash
 pub mod Gctr
 pub mod Gcm
-pub mod Code
+pub mod InnerCode

@@ -10,7 +10,7 @@ ghost use Rattle.gcm.specs.Multiply as M;
 ghost use Rattle.gcm.specs.Ghash.{hashed, ghash};
 ghost use Rattle.gcm.specs.Gctr as G;
 ghost use Rattle.gcm.specs.Gcm as S;
-ghost use Rattle.gcm.specs.Code.{whole, Stepped, BitsFrom, answer, left};
+ghost use Rattle.gcm.specs.InnerCode.{whole, Stepped, BitsFrom, answer, left};
 
 // A block of 128 bits, the left half in high.
 struct Block {

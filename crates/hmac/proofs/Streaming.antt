@@ -9,7 +9,7 @@ use Rattle.sha2.specs.Hash.{sha512}
 use Rattle.sha2.proofs.Output.{length-sha512}
 use Rattle.hmac.specs.declared.Hmac.{Hmac}
 use Rattle.hmac.specs.Hmac.{innerKey, outerKey, hmac, hmacSha512}
-use Rattle.hmac.specs.Keyed.{KeyedOver, TookIn}
+use Rattle.hmac.specs.InnerKeyed.{KeyedOver, TookIn}
 
 module _ {S : Type 0} (Has : S → List ℕ → Type 0) (hash : List ℕ → List ℕ) (size : ℕ) where
   -- two states that have taken in their keys

@@ -5,7 +5,7 @@ ghost use Prim.Native.Nat.{ℕ, _+_, _^_, _<_};
 ghost use lib.ListN.{length};
 ghost use Rattle.sha2.specs.Hash.{sha512};
 ghost use Rattle.hmac.specs.Hmac.{keyBlock, xored, hmacSha512};
-ghost use Rattle.hmac.specs.Keyed.{Keyed, Made, TookIn};
+ghost use Rattle.hmac.specs.InnerKeyed.{Keyed, Made, TookIn};
 use sha2::Sha512;
 
 // A hash that has taken in the inner key and the text, and one that has taken in the outer key.

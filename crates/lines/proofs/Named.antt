@@ -8,7 +8,7 @@ use lib.Dec.{ltb}
 use lib.ListN.{length, drop, drop-of-length-le}
 use Rattle.lines.specs.Lines.{Line, linesIn, goodBlock}
 use Rattle.lines.specs.Values.{timesNamed, repeated}
-use Rattle.lines.specs.Places.{lineBetween, WholeLine}
+use Rattle.lines.specs.InnerPlaces.{lineBetween, WholeLine}
 use Rattle.lines.proofs.Lines.{lines-none, lines-more, good-none, good-more}
 
 -- a line, and the lines after it

@@ -12,7 +12,7 @@ use Rattle.cells.specs.Spans.{Spans}
 use Rattle.names.specs.Names.{tokenByte}
 use Rattle.cells.proofs.Spans.{span-all, stops}
 use Rattle.lines.specs.Lines.{Line, colon, CR, LF, valueByte, goodLine, lineText}
-use Rattle.lines.specs.Places.{lineBetween, WholeLine}
+use Rattle.lines.specs.InnerPlaces.{lineBetween, WholeLine}
 use Rattle.cells.proofs.Cuts.{length-cut, cut-split, inside, drop-at, stands, onward}
 use Rattle.lines.proofs.Lines.{good-parts, good-line, colon-ends, return-ends, line-parts}
 

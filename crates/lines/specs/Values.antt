@@ -1,15 +1,14 @@
 -- Names that stand twice, and covered values: document 01, number 7 and 'Header lines and the signed text'.
 -- Assumes nothing.
-use Prim.Native.Nat.{ℕ, _+_, max, _≤_}
-use mathlib.Core.Path.{_≡_}
+use Prim.Native.Nat.{ℕ, _+_}
 use mathlib.Core.List.{List, [], _∷_}
 use mathlib.Core.Bool.{Bool, false, cond, _||_}
 use mathlib.Core.Option.{Option, none, some}
-use lib.ListN.{length, drop}
+use lib.ListN.{drop}
 use lib.Dec.{eqb, ltb}
 use Rattle.cells.specs.Spans.{leading}
 use Rattle.names.specs.Names.{sameName}
-use Rattle.lines.specs.Lines.{Line, linesIn}
+use Rattle.lines.specs.Lines.{Line}
 
 -- a space or a tab
 abbrev pub blank : ℕ → Bool
@@ -54,8 +53,3 @@ orElse none other = other
 -- from the set-aside lines where the name stands there, and otherwise from the head; absent is empty
 unfoldable pub coveredValue : List Line → List Line → List ℕ → List ℕ
 coveredValue aside head name = orElse (valueIn aside name) (orElse (valueIn head name) [])
-
--- a covered value of two blocks, and how long it is at most
-pub record CoveredIs (aside head name r : List ℕ) : Type 0 where
-  pub is : r ≡ coveredValue (linesIn aside) (linesIn head) name
-  pub within : length r ≤ max (length aside) (length head)

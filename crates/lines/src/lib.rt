@@ -7,10 +7,10 @@ ghost use lib.Dec.{ltb};
 ghost use Rattle.cells.specs.Spans.{all, Spans, Passed};
 ghost use Rattle.names.specs.Extra.{goodExtra};
 ghost use Rattle.names.specs.Covered.{chosen, coveredNames};
-ghost use Rattle.names.specs.Walk.{Known, namesFrom};
+ghost use Rattle.names.specs.InnerWalk.{Known, namesFrom};
 ghost use Rattle.lines.specs.Lines.{valueByte, linesIn, goodBlock};
-ghost use Rattle.lines.specs.Values.{blank, timesNamed, repeated, CoveredIs};
-ghost use Rattle.lines.specs.Places.{PlaceIs, BackAt, TrimmedTo, FoundIs};
+ghost use Rattle.lines.specs.Values.{blank, timesNamed, repeated, coveredValue};
+ghost use Rattle.lines.specs.InnerPlaces.{PlaceIs, BackAt, TrimmedTo, FoundIs};
 use names::Next;
 use names::extra;
 use names::token;
@@ -68,7 +68,7 @@ fn twice(block: &[u8], name: &[u8]) -> bool
 
 // The value of a covered name: a part of one of the two blocks.
 pub fn covered<'a>(head: &'a [u8], aside: &'a [u8], name: &[u8]) -> &'a [u8]
-    ensures { λ r. ⌜ CoveredIs (now (aside .entry)) (now (head .entry)) (now (name .entry)) (now r) ⌝ }
+    ensures { λ r. ⌜ now r ≡ coveredValue (linesIn (now (aside .entry))) (linesIn (now (head .entry))) (now (name .entry)) ⌝ }
 {
     if let Found::At(start, end, _) = find(aside, 0, name) {
         return &aside[start..end];

@@ -9,7 +9,7 @@ use borrow.Author.Tests.{eqb-true}
 use lib.Dec.{eqb, lit≤}
 use lib.ListN.{length}
 use Rattle.names.specs.Extra.{comma, ontoFirst, namesIn}
-use Rattle.names.specs.Walk.{Known}
+use Rattle.names.specs.InnerWalk.{Known}
 
 -- names with commas between them
 abbrev rejoined : List (List ℕ) → List ℕ

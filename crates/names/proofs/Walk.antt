@@ -14,7 +14,7 @@ use Rattle.cells.specs.Spans.{leading, Spans}
 use Rattle.cells.specs.Runs.{cut}
 use Rattle.names.specs.Extra.{comma, ontoFirst, namesIn, extraNames}
 use Rattle.names.specs.Covered.{chosen, coveredNames}
-use Rattle.names.specs.Walk.{Known, noComma, namesFrom}
+use Rattle.names.specs.InnerWalk.{Known, noComma, namesFrom}
 
 pub names-start : (run : List ℕ) → namesFrom run 0 ≡ namesIn run
 unfolding namesFrom

@@ -2,4 +2,4 @@
 pub mod Names
 pub mod Extra
 pub mod Covered
-pub mod Walk
+pub mod InnerWalk

@@ -4,7 +4,7 @@ ghost use mathlib.Core.Bool.{true};
 ghost use lib.ListN.{length};
 ghost use Rattle.names.specs.Extra.{namesIn, extraNames, allowed, goodNames, goodExtra};
 ghost use Rattle.names.specs.Covered.{chosen};
-ghost use Rattle.names.specs.Walk.{namesFrom, Known};
+ghost use Rattle.names.specs.InnerWalk.{namesFrom, Known};
 use super::has_name;
 use super::name_end;
 use super::same_name;

@@ -4,7 +4,7 @@ ghost use Prim.Native.Nat.{_≤_};
 ghost use lib.ListN.{length};
 ghost use Rattle.cells.specs.Spans.{Spans};
 ghost use Rattle.names.specs.Names.{lower, sameName, hasName};
-ghost use Rattle.names.specs.Walk.{noComma, namesFrom, NextIs, Known};
+ghost use Rattle.names.specs.InnerWalk.{noComma, namesFrom, NextIs, Known};
 
 pub mod extra;
 pub mod token;

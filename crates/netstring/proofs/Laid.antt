@@ -10,7 +10,7 @@ use Rattle.cells.specs.Runs.{fronted}
 use Rattle.cells.specs.Decimal.{decimal, Shown}
 use Rattle.cells.specs.declared.decimal.Decimal.{Decimal}
 use Rattle.netstring.specs.Netstring.{colon, comma, netstring}
-use Rattle.netstring.specs.Opening.{opening, Opens}
+use Rattle.netstring.specs.InnerOpening.{opening, Opens}
 use Rattle.netstring.specs.declared.Prefix.{Prefix}
 
 pub netstring-pieces : (part : List ℕ) → (opening (length part) ++ part) ++ (comma ∷ []) ≡ netstring part

@@ -11,7 +11,7 @@ use Rattle.cells.specs.Runs.{part}
 use Rattle.cells.proofs.Runs.{length-part}
 use Rattle.cells.specs.Decimal.{decimal}
 use Rattle.netstring.specs.Netstring.{colon, comma, netstring}
-use Rattle.netstring.specs.Reading.{LengthAt, NoLength, PartAt, NoPart}
+use Rattle.netstring.specs.InnerReading.{LengthAt, NoLength, PartAt, NoPart}
 use Rattle.cells.proofs.Digits.{decimal-digits, decimal-injective}
 use Rattle.netstring.proofs.Determined.{at-colon, netstring-then}
 

@@ -12,7 +12,7 @@ use lib.ListN.{length, getD, take, drop, length-append, length-drop, List·getD-
 use lib.Seq.{take-append-le, getD-take, getD-drop, getD-append-seam, take-suc, length-take-le, drop-drop, drop-cons}
 use Rattle.cells.specs.Decimal.{decimal, valueAfter}
 use Rattle.netstring.specs.Netstring.{colon}
-use Rattle.netstring.specs.Reading.{ReadSo, LengthAt, NoLength}
+use Rattle.netstring.specs.InnerReading.{ReadSo, LengthAt, NoLength}
 use Rattle.cells.proofs.Digits.{decimal-small, decimal-more, value-append, value-decimal, decimal-digits, digit-at, decimal-some, decimal-lead}
 
 -- more digits make no smaller number, and one more makes it ten times as large at least

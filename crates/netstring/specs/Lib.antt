@@ -1,4 +1,4 @@
 -- The netstring layout (D. J. Bernstein, "Netstrings", 1997).
 pub mod Netstring
-pub mod Opening
-pub mod Reading
+pub mod InnerOpening
+pub mod InnerReading

@@ -1,9 +1,9 @@
 // Netstrings: the length in decimal, a colon, the bytes, and a comma.
 ghost use Prim.Native.Nat.{_+_, _≤_};
 ghost use lib.ListN.{length};
-ghost use Rattle.cells.specs.Laid.{Laid};
+ghost use Rattle.cells.specs.InnerLaid.{Laid};
 ghost use Rattle.netstring.specs.Netstring.{netstring};
-ghost use Rattle.netstring.specs.Opening.{Opens};
+ghost use Rattle.netstring.specs.InnerOpening.{Opens};
 use cells::decimal;
 
 mod reading;

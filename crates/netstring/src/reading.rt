@@ -2,7 +2,7 @@
 ghost use Prim.Native.Nat.{_+_, _≤_, _<_};
 ghost use lib.ListN.{length, getD};
 ghost use mathlib.Core.Path.{_≡_};
-ghost use Rattle.netstring.specs.Reading.{LengthIs, PartIs, ReadSo};
+ghost use Rattle.netstring.specs.InnerReading.{LengthIs, PartIs, ReadSo};
 
 // A length in decimal and the place of the colon after it.
 pub enum Length {

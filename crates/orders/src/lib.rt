@@ -1,6 +1,6 @@
 // The orders: whether what a site asks is good, and its limits.
 ghost use mathlib.Core.Path.{_≡_};
-ghost use Rattle.names.specs.Walk.{Known};
+ghost use Rattle.names.specs.InnerWalk.{Known};
 ghost use Rattle.orders.specs.Orders.{orders, orDefault, checkedOrders};
 use names::extra;
 

@@ -8,8 +8,8 @@ use Prim.Native.Nat.{ℕ, _-_, _^_, _≤_}
 use borrow.Author.Tests.{eqb-true, leb-true}
 use native.Mathlib.Omega.{arith}
 use lib.Dec.{eqb, leb}
-use Rattle.gcm.specs.Code.{left}
-use Rattle.gcm.specs.Code as C
+use Rattle.gcm.specs.InnerCode.{left}
+use Rattle.gcm.specs.InnerCode as C
 use Rattle.gcm.specs.declared.Opened.the-variants.{Text, Wrong}
 use Rattle.primitives.specs.Answer.{answer}
 use Rattle.primitives.specs.Sealing.{sizesFit, opening}

@@ -5,7 +5,7 @@ use mathlib.Core.List.{List, [], _∷_, _++_, append-assoc}
 use Prim.Native.Nat.{ℕ, _≤_}
 use native.Mathlib.Omega.{arith}
 use lib.ListN.{length}
-use Rattle.cells.specs.Laid.{Laid}
+use Rattle.cells.specs.InnerLaid.{Laid}
 use Rattle.cells.specs.Text.{codes}
 use Rattle.cells.proofs.Laid.{laid-more}
 use Rattle.armor.specs.Value.{field, fieldText, following}

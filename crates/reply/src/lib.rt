@@ -4,7 +4,7 @@ ghost use mathlib.Core.List.{_++_};
 ghost use Prim.Native.Nat.{_+_, _≤_};
 ghost use lib.ListN.{length};
 ghost use Rattle.cells.specs.Runs.{fronted};
-ghost use Rattle.cells.specs.Laid.{Laid};
+ghost use Rattle.cells.specs.InnerLaid.{Laid};
 ghost use Rattle.cells.specs.Text.{codes};
 ghost use Rattle.armor.specs.Value.{field, fieldText, following};
 ghost use Rattle.reply.specs.Replies.{extraField, tokenFields, orderFields, setupReply, invalidation};

@@ -8,7 +8,7 @@ use lib.ListN.{length, getD, set, length-set}
 use lib.Seq.{take-suc-set, getD-take, take-all}
 use borrow.Author.Tests.{lt-ltb, le-ltb}
 use Rattle.sha2.specs.Block.{M, mixed, schedule}
-use Rattle.sha2.specs.Scheduled.{Scheduled}
+use Rattle.sha2.specs.InnerScheduled.{Scheduled}
 
 -- t is the place of the next word, and n the place after it
 module _ (block w : List ℕ) (t n x : ℕ) (laid : Scheduled w block t) (fits : t < 80) (e : n ≡ suc t) where

@@ -14,7 +14,7 @@ use Rattle.sha2.specs.declared.Sha512.{Sha512}
 use Rattle.sha2.specs.Constants.{initial}
 use Rattle.sha2.specs.Block.{afterBlock}
 use Rattle.sha2.specs.Hash.{afterBlocks}
-use Rattle.sha2.specs.Taken.{Taken, TookIn}
+use Rattle.sha2.specs.InnerTaken.{Taken, TookIn}
 
 -- bytes after n whole blocks do not change what those give
 pub blocks-before : (v : Words) (m rest : List ℕ) (n : ℕ) → 128 * n ≤ length m → afterBlocks v (m ++ rest) n ≡ afterBlocks v m n

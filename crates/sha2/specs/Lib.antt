@@ -3,5 +3,5 @@ pub mod Word
 pub mod Constants
 pub mod Block
 pub mod Hash
-pub mod Taken
-pub mod Scheduled
+pub mod InnerTaken
+pub mod InnerScheduled

@@ -7,7 +7,7 @@ ghost use Rattle.sha2.specs.declared.block.Words as Declared;
 ghost use Rattle.sha2.specs.Constants as Constants;
 ghost use Rattle.sha2.specs.Block as Block;
 ghost use Rattle.sha2.specs.Hash as Hash;
-ghost use Rattle.sha2.specs.Scheduled.{Scheduled};
+ghost use Rattle.sha2.specs.InnerScheduled.{Scheduled};
 use crate::word::big_sigma0;
 use crate::word::big_sigma1;
 use crate::word::ch;

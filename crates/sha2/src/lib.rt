@@ -4,7 +4,7 @@ ghost use mathlib.Core.List.{List, []};
 ghost use Prim.Native.Nat.{ℕ, _+_, _%_, _^_, _<_};
 ghost use lib.ListN.{length};
 ghost use Rattle.sha2.specs.Hash as Hash;
-ghost use Rattle.sha2.specs.Taken.{Taken, TookIn};
+ghost use Rattle.sha2.specs.InnerTaken.{Taken, TookIn};
 use block::Words;
 use block::after_blocks;
 

@@ -20,7 +20,7 @@ use Rattle.names.proofs.Sizes.{short-extra, few-names}
 use Rattle.lines.specs.Lines.{Line, frontLine, startsLine, lineText, linesUpTo, linesIn}
 use Rattle.lines.specs.Values.{blank, trimFront, keeping, trimEnd, trimmed, valueIn, orElse, coveredValue}
 use Rattle.signed.specs.SignedText.{carried, ordersNonce, nonceOf, coveredValues}
-use Rattle.signed.specs.Streamed.{openingParts}
+use Rattle.signed.specs.InnerStreamed.{openingParts}
 use Rattle.signed.proofs.Streaming.{size, size-one, size-append, opening-size}
 
 part-short : (part : List ℕ) → length part ≤ 65536 → size (part ∷ []) ≤ length part + 7

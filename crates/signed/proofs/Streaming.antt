@@ -6,18 +6,18 @@ use Prim.Native.Nat.{ℕ, _+_, _/_}
 use native.Mathlib.Omega.{arith}
 use lib.ListN.{length, length-append}
 use Rattle.hmac.specs.declared.Hmac.{Hmac}
-use Rattle.hmac.specs.Keyed.{Keyed, TookIn}
+use Rattle.hmac.specs.InnerKeyed.{Keyed, TookIn}
 use Rattle.netstring.specs.Netstring.{netstring, netstrings}
 use Rattle.netstring.proofs.Determined.{netstrings-append}
 use Rattle.armor.specs.Numerals.{numberBytes, maskBytes, hashMask}
 use Rattle.names.specs.Extra.{extraNames}
 use Rattle.names.specs.Covered.{chosen}
-use Rattle.names.specs.Walk.{Known, namesFrom}
+use Rattle.names.specs.InnerWalk.{Known, namesFrom}
 use Rattle.names.proofs.Walk.{covered-names}
 use Rattle.lines.specs.Lines.{linesIn}
 use Rattle.lines.specs.Values.{coveredValue}
 use Rattle.signed.specs.SignedText.{carried, signedParts, signedText, nonceOf, coveredValues, signedOf, requestText}
-use Rattle.signed.specs.Streamed.{Room, TookParts, openingParts, valuesFrom}
+use Rattle.signed.specs.InnerStreamed.{Room, TookParts, openingParts, valuesFrom}
 
 -- two texts taken in one after the other
 pub took-both : {s t u : Hmac} {a b : List ℕ} → TookIn s a t → TookIn t b u → TookIn s (a ++ b) u

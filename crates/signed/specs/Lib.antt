@@ -1,3 +1,3 @@
 -- What the contracts of this crate, and of those above it, say of the signed text.
 pub mod SignedText
-pub mod Streamed
+pub mod InnerStreamed

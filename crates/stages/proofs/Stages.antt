@@ -14,13 +14,13 @@ use Rattle.armor.specs.declared.Answer.{Answer}
 use Rattle.armor.specs.declared.Request.{Request as ArmorRequest}
 use Rattle.armor.specs.Value.{Field, grammar, carried}
 use Rattle.armor.specs.Fields.{requestFields}
-use Rattle.armor.specs.Answers.{answerNumber, requestFrom, requestAnswer, Holds}
+use Rattle.armor.specs.InnerAnswers.{answerNumber, requestFrom, requestAnswer, Holds}
 use Rattle.signed.specs.SignedText.{requestText}
 use Rattle.table.specs.declared.session.Record.{Record}
 use Rattle.table.specs.declared.place.Place.{Place}
 use Rattle.table.specs.Record.{windowOf, withWindow}
 use Rattle.token.specs.Token.{Token, openedToken}
-use Rattle.token.specs.Held.{IsToken, Unseals}
+use Rattle.token.specs.InnerHeld.{IsToken, Unseals}
 use Rattle.token.specs.declared.Unsealed.{Unsealed}
 use Rattle.window.specs.declared.Window.{Window}
 use Rattle.window.specs.declared.Stepped.{Stepped}
@@ -35,7 +35,7 @@ use Rattle.stages.specs.Request.{Request}
 use Rattle.stages.specs.Checks.{first, missing, nowhere}
 use Rattle.table.specs.Session.{placeOf, heldAt}
 use Rattle.stages.specs.Parts.{fieldsOf, ivOf, nonceOf, timeOf, lastTimeOf, signatureOf, openedOf, tokenOf, limits, textOf, codeOf, ordered, stepped, nextOf, tokenPart, signaturePart, vouchingPart, sessionPart, noncePart, admittingPart}
-use Rattle.stages.specs.Stages.{tells, decisionOf, About, Vouches, StandsAt, Admits, Settles}
+use Rattle.stages.specs.InnerStages.{tells, decisionOf, About, Vouches, StandsAt, Admits, Settles}
 use Rattle.stages.proofs.Checks.{passed-by, stopped-by}
 use Rattle.stages.proofs.Parts.{vouching-numbered}
 

@@ -2,4 +2,4 @@
 pub mod Request
 pub mod Checks
 pub mod Parts
-pub mod Stages
+pub mod InnerStages

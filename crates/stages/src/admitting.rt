@@ -1,6 +1,6 @@
 // Whether the request's session admits it: checks 12 to 16, over the session's record.
 ghost use mathlib.Core.Path.{_≡_};
-ghost use Rattle.stages.specs.Stages.{AdmitIs};
+ghost use Rattle.stages.specs.InnerStages.{AdmitIs};
 use orders::Limits;
 use table::place::Place;
 use table::session::Record;

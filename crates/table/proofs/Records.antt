@@ -11,7 +11,7 @@ use lib.Seq.{take-all, take-at, drop-at, take-add, drop-drop, drop-cons, getD-at
 use Rattle.cells.specs.Runs.{spliced, part, Bytes}
 use Rattle.cells.specs.Numbers.{bytesOf, number}
 use Rattle.cells.proofs.Runs.{lent, spliced-front, fronted-whole, length-spliced, length-part}
-use Rattle.cells.specs.Laid.{Laid}
+use Rattle.cells.specs.InnerLaid.{Laid}
 use Rattle.cells.proofs.Laid.{laid-more}
 use Rattle.cells.proofs.Cuts.{bytes-part, part-part}
 use Rattle.cells.proofs.Numbers.{length-bytesOf, number-of, bytesOf-number}

@@ -13,7 +13,7 @@ use Rattle.cells.specs.declared.decimal.Decimal.{Decimal}
 use Rattle.cells.proofs.Digits.{value-append, value-decimal, decimal-injective}
 use Rattle.token.specs.declared.expiry.Expiry.{Expiry}
 use Rattle.token.specs.declared.expiry.Expiry.the-variants as E
-use Rattle.token.specs.Expiry.{ExpiryIs}
+use Rattle.token.specs.InnerExpiry.{ExpiryIs}
 
 pub one-more : (digits : List ℕ) (i v : ℕ) → i < length digits → v ≡ valueAfter 0 (take i digits)
     → v * 10 + (getD digits i 0 - 48) ≡ valueAfter 0 (take (i + 1) digits)

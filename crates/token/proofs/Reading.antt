@@ -10,14 +10,14 @@ use lib.ListN.{length, getD, take, drop, length-drop, take-append-drop, drop-of-
 use lib.Seq.{length-take-le, drop-cons}
 use Rattle.cells.specs.Runs.{part}
 use Rattle.gcm.specs.declared.Opened.the-variants as O
-use Rattle.gcm.specs.Code.{answer, left}
+use Rattle.gcm.specs.InnerCode.{answer, left}
 use Rattle.cells.specs.Decimal.{decimal}
 use Rattle.netstring.specs.Netstring.{netstrings}
-use Rattle.netstring.specs.Reading.{PartAt, NoPart}
+use Rattle.netstring.specs.InnerReading.{PartAt, NoPart}
 use Rattle.netstring.proofs.Determined.{netstrings-determined, netstrings-append}
 use Rattle.token.specs.declared.Unsealed.{Unsealed}
 use Rattle.token.specs.Token.{Token, tokenText, tokenIn, tokenFrom, given, theToken}
-use Rattle.token.specs.Held.{IsToken, Unseals}
+use Rattle.token.specs.InnerHeld.{IsToken, Unseals}
 use Rattle.token.proofs.Text.{Sized}
 use Rattle.token.proofs.Exactly.{fits-means, fits-so, token-found, no-token}
 

@@ -1,4 +1,4 @@
 -- The token: document 01, 'The X-S-Armor value', and what the contracts say by it.
 pub mod Token
-pub mod Held
-pub mod Expiry
+pub mod InnerHeld
+pub mod InnerExpiry

@@ -3,7 +3,7 @@ ghost use mathlib.Core.Path.{_≡_};
 ghost use Prim.Native.Nat.{_-_, _≤_};
 ghost use lib.ListN.{length};
 ghost use Rattle.cells.specs.Decimal.{valueAfter};
-ghost use Rattle.token.specs.Expiry.{ExpiryIs};
+ghost use Rattle.token.specs.InnerExpiry.{ExpiryIs};
 use cells::decimal;
 use window::time::Time;
 

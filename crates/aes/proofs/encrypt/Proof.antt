@@ -5,7 +5,7 @@ use mathlib.Core.Path.{_≡_, refl, ap, _∙_, ap₂}
 use Prim.Native.Nat.{_-_, _≤_, ℕ}
 use native.Mathlib.Omega.{arith}
 use Rattle.aes.specs.Cipher.{rounds, cipher, addRoundKey, shiftRows, subBytes}
-use Rattle.aes.specs.Code.{listed}
+use Rattle.aes.specs.InnerCode.{listed}
 use Rattle.aes.proofs.Cipher.{round-more}
 use Rattle.aes.proofs.encrypt.Statement.{statement}
 use Rattle.aes.proofs.encrypt.Tie as tie

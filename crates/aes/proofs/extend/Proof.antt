@@ -9,7 +9,7 @@ use borrow.Author.Needs.{needs}
 use Rattle.cells.specs.Runs.{spliced}
 use Rattle.cells.proofs.Runs.{stored}
 use Rattle.aes.specs.Cipher.{xorWord, temp, nextWord}
-use Rattle.aes.specs.Code.{bytes}
+use Rattle.aes.specs.InnerCode.{bytes}
 use Rattle.aes.proofs.extend.Statement.{statement}
 use Rattle.aes.proofs.extend.Tie as tie
 

@@ -3,7 +3,7 @@
 use mathlib.Core.Path.{ap, ap₂, _∙_}
 use borrow.Author.Needs.{needs}
 use Rattle.aes.specs.Cipher.{xorWord}
-use Rattle.aes.specs.Code.{mixWord}
+use Rattle.aes.specs.InnerCode.{mixWord}
 use Rattle.aes.proofs.full_column.Statement.{statement}
 use Rattle.aes.proofs.full_column.Tie as tie
 

@@ -1,7 +1,7 @@
 -- `mix` meets its contract: the four bytes of a mixed column.
 -- Assumes nothing.
 use borrow.Author.Needs.{needs}
-use Rattle.aes.specs.Code.{mixWord}
+use Rattle.aes.specs.InnerCode.{mixWord}
 use Rattle.aes.proofs.mix.Statement.{statement}
 use Rattle.aes.proofs.mix.Tie as tie
 

@@ -6,7 +6,7 @@ use Prim.Native.Nat.{ℕ, _*_}
 use native.Mathlib.Nat.{add-zero}
 use borrow.Author.Needs.{needs}
 use Rattle.aes.specs.Cipher.{subBytes, shiftRows, mixColumns, addRoundKey, fullRound, wordAt, xorWord, subWord}
-use Rattle.aes.specs.Code.{mixWord}
+use Rattle.aes.specs.InnerCode.{mixWord}
 use Rattle.aes.proofs.Cipher.{columns}
 use Rattle.aes.proofs.round.Statement.{statement}
 use Rattle.aes.proofs.round.Tie as tie

@@ -5,7 +5,7 @@ use native.Mathlib.Omega.{arith}
 use borrow.Author.Needs.{needs}
 use borrow.Author.Tests.{le-leb, lt-leb}
 use Rattle.base64.specs.declared.Decoded.{Decoded}
-use Rattle.base64.specs.Answers.{outcome}
+use Rattle.base64.specs.InnerAnswers.{outcome}
 use Rattle.base64.proofs.Filling.{answered}
 use Rattle.base64.proofs.decode.Statement.{statement}
 use Rattle.base64.proofs.decode.Tie as tie

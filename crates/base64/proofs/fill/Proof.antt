@@ -8,7 +8,7 @@ use lib.ListN.{length, set, length-set}
 use lib.Seq.{paste}
 use Rattle.cells.proofs.Runs.{copied-more, copied-all}
 use Rattle.base64.specs.Decoding.{decoded}
-use Rattle.base64.specs.Steps.{content, byteOf}
+use Rattle.base64.specs.InnerSteps.{content, byteOf}
 use Rattle.base64.proofs.Exactly.{known}
 use Rattle.base64.proofs.Encoded.{length-encoded}
 use Rattle.base64.proofs.Filling.{byte-encoded}

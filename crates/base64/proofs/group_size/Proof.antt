@@ -2,7 +2,7 @@
 -- Assumes nothing.
 use mathlib.Core.Path.{_≡_, sym, _∙_}
 use borrow.Author.Needs.{needs}
-use Rattle.base64.specs.Steps.{sizeOfGroup, sizeFirst}
+use Rattle.base64.specs.InnerSteps.{sizeOfGroup, sizeFirst}
 use Rattle.base64.proofs.group_size.Statement.{statement}
 use Rattle.base64.proofs.group_size.Tie as tie
 

@@ -5,8 +5,8 @@ use Prim.Native.Nat.{_-_, _≤_}
 use native.Mathlib.Omega.{arith}
 use borrow.Author.Tests.{eq-eqb, ne-eqb}
 use lib.ListN.{length, drop, length-take, length-drop}
-use Rattle.base64.specs.Answers.{measured}
-use Rattle.base64.specs.Steps.{plus}
+use Rattle.base64.specs.InnerAnswers.{measured}
+use Rattle.base64.specs.InnerSteps.{plus}
 use Rattle.base64.proofs.Measuring.{by-rest, by-none, no-more, plus-zero, plus-plus}
 use Rattle.base64.proofs.size.Statement.{statement}
 use Rattle.base64.proofs.size.Tie as tie

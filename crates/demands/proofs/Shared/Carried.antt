@@ -15,7 +15,7 @@ use Rattle.armor.specs.Numerals.{isNumber, maskBytes, maskOf, hashMask}
 use Rattle.armor.specs.Keys.{Rule, obeys, keyT, keyLt, keyN, keyH, keyAh, keyEah}
 use Rattle.armor.specs.Value.{Field, carried}
 use Rattle.armor.specs.Fields.{times, the, nonceBit}
-use Rattle.armor.specs.Answers.{requestAnswer}
+use Rattle.armor.specs.InnerAnswers.{requestAnswer}
 use Rattle.armor.proofs.Numerals.{number-fits, maskOf-maskBytes}
 use Rattle.armor.proofs.Keys.{numbers}
 use Rattle.armor.proofs.Fields.{grammar-good, obeyed-once, none-held}

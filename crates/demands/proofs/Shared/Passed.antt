@@ -11,7 +11,7 @@ use lib.ListN.{length}
 use Rattle.armor.specs.declared.Answer.{Answer}
 use Rattle.armor.specs.Value.{Field, grammar, carried}
 use Rattle.armor.specs.Fields.{requestFields}
-use Rattle.armor.specs.Answers.{requestAnswer}
+use Rattle.armor.specs.InnerAnswers.{requestAnswer}
 use Rattle.armor.proofs.Requests.{request-by}
 use Rattle.orders.specs.Orders.{ordersGood}
 use Rattle.lines.specs.Lines.{goodBlock}

@@ -7,7 +7,7 @@ use Rattle.names.proofs.Sizes.{short-extra}
 use Rattle.gate.specs.State.{holding}
 use Rattle.gate.specs.Calls.{Setup, setupOf}
 use Rattle.orders.specs.Orders.{ordersOf}
-use Rattle.gate.specs.Starts.{Starts}
+use Rattle.gate.specs.InnerStarts.{Starts}
 use Rattle.gate.proofs.Starting.{lent, opened, starts, refuses}
 use Rattle.gate.proofs.gate_setup.Statement.{statement}
 use Rattle.gate.proofs.gate_setup.Tie as tie

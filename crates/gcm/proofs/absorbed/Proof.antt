@@ -5,7 +5,7 @@ use Prim.Native.Nat.{ℕ}
 use borrow.Author.Needs.{needs}
 use lib.Bits.{bitXor}
 use Rattle.gcm.specs.Multiply.{product}
-use Rattle.gcm.specs.Code.{whole}
+use Rattle.gcm.specs.InnerCode.{whole}
 use Rattle.gcm.proofs.absorbed.Statement.{statement}
 use Rattle.gcm.proofs.absorbed.Tie as tie
 

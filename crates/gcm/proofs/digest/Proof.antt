@@ -7,7 +7,7 @@ use borrow.Author.Needs.{needs}
 use lib.Bits.{bitXor}
 use lib.ListN.{length}
 use Rattle.gcm.specs.Multiply.{product}
-use Rattle.gcm.specs.Code.{whole}
+use Rattle.gcm.specs.InnerCode.{whole}
 use Rattle.gcm.proofs.Hashing.{digested}
 use Rattle.gcm.proofs.digest.Statement.{statement}
 use Rattle.gcm.proofs.digest.Tie as tie

@@ -6,7 +6,7 @@ use native.Mathlib.Nat.{add-zero, mod-lt}
 use native.Mathlib.Omega.{arith}
 use borrow.Author.Needs.{needs}
 use Rattle.gcm.specs.Multiply.{zAt, vAt}
-use Rattle.gcm.specs.Code.{Stepped, BitsFrom}
+use Rattle.gcm.specs.InnerCode.{Stepped, BitsFrom}
 use Rattle.gcm.proofs.Product.{z-more, v-more}
 use Rattle.gcm.proofs.half.Statement.{statement}
 use Rattle.gcm.proofs.half.Tie as tie

@@ -6,7 +6,7 @@ use native.Mathlib.Omega.{arith}
 use borrow.Author.Needs.{needs}
 use Rattle.gcm.specs.Ghash.{hashed}
 use Rattle.gcm.specs.Gcm.{padded}
-use Rattle.gcm.specs.Code.{whole}
+use Rattle.gcm.specs.InnerCode.{whole}
 use Rattle.gcm.proofs.Masking.{length-lent}
 use Rattle.gcm.proofs.Hashing.{hashed-more}
 use Rattle.gcm.proofs.hash.Statement.{statement}

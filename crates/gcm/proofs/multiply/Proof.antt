@@ -4,7 +4,7 @@ use mathlib.Core.Path.{refl}
 use Prim.Native.Nat.{_<_, _^_}
 use borrow.Author.Needs.{needs}
 use Rattle.gcm.specs.Multiply.{product, zAt, vAt}
-use Rattle.gcm.specs.Code.{whole}
+use Rattle.gcm.specs.InnerCode.{whole}
 use Rattle.gcm.proofs.Product.{bit-high, bit-low}
 use Rattle.gcm.proofs.multiply.Statement.{statement}
 use Rattle.gcm.proofs.multiply.Tie as tie

@@ -11,7 +11,7 @@ use Rattle.cells.specs.Numbers.{bytesOf}
 use Rattle.aes.proofs.Cipher.{length-cipher}
 use Rattle.cells.proofs.Runs.{lent, length-spliced}
 use Rattle.gcm.specs.Gctr.{added, counterAt, masked}
-use Rattle.gcm.specs.Code.{whole}
+use Rattle.gcm.specs.InnerCode.{whole}
 use Rattle.gcm.proofs.Masking.{length-lent, length-added-lent, masked-more, masked-all, mask-expanded, counter-more}
 use Rattle.gcm.proofs.stream.Statement.{statement}
 use Rattle.gcm.proofs.stream.Tie as tie

@@ -4,7 +4,7 @@ use mathlib.Core.Path.{ap, ap₂, _∙_}
 use Prim.Native.Nat.{ℕ, _+_, _*_, _^_}
 use borrow.Author.Needs.{needs}
 use lib.Bits.{bitXor}
-use Rattle.gcm.specs.Code.{whole}
+use Rattle.gcm.specs.InnerCode.{whole}
 use Rattle.gcm.proofs.Product.{chosen-whole}
 use Rattle.gcm.proofs.turned.Statement.{statement}
 use Rattle.gcm.proofs.turned.Tie as tie

@@ -7,7 +7,7 @@ use borrow.Author.Needs.{needs}
 use borrow.Author.Tests.{not-true, not-false}
 use Rattle.gcm.specs.Gcm.{crypted, tagOf, given, opened}
 use Rattle.cells.specs.Runs.{same}
-use Rattle.gcm.specs.Code.{answer, left}
+use Rattle.gcm.specs.InnerCode.{answer, left}
 use Rattle.gcm.proofs.Masking.{crypted-by}
 use Rattle.gcm.proofs.unseal.Statement.{statement}
 use Rattle.gcm.proofs.unseal.Tie as tie

@@ -4,9 +4,8 @@ use borrow.Author.Needs.{needs}
 use mathlib.Core.Path.{ap}
 use native.Mathlib.Omega.{arith}
 use Rattle.lines.specs.Values.{coveredValue}
-use Rattle.lines.specs.Places.{Within}
+use Rattle.lines.specs.InnerPlaces.{Within}
 use Rattle.lines.specs.declared.Found.the-variants.{At}
-use Rattle.cells.proofs.Cuts.{cut-below}
 use Rattle.lines.proofs.covered.Statement.{statement}
 use Rattle.lines.proofs.covered.Tie as tie
 
@@ -23,10 +22,7 @@ returns : tie.Need-returns
 unfolding coveredValue
 returns c =
     let found = c .before .before in
-    record {
-      is = simp (ap (λ p. p .0) (found .before .before .find .ensures .told), found .start .given .1);
-      within = cut-below _ (found .start .given .0 .0) _ _ (apart found .1) (omega arith);
-    }
+    simp (ap (λ p. p .0) (found .before .before .find .ensures .told), found .start .given .1)
 
 returns-2 : tie.Need-returns-2
 unfolding coveredValue
@@ -34,20 +30,14 @@ returns-2 c =
     let found = c .before .before in
     let none = found .before .before .before in
     let told = ap (λ p. p .0) (found .before .before .find2 .ensures .told) in
-    record {
-      is = simp (ap (λ p. p .0) (none .before .before .find .ensures .told), none .enum-told .given .1, told, found .start2 .given .1);
-      within = cut-below _ (found .start2 .given .0 .0) _ _ (ahead found .1) (omega arith);
-    }
+    simp (ap (λ p. p .0) (none .before .before .find .ensures .told), none .enum-told .given .1, told, found .start2 .given .1)
 
 returns-3 : tie.Need-returns-3
 unfolding coveredValue
 returns-3 c =
     let none = c .before .before .before .before in
     let told = ap (λ p. p .0) (c .before .before .before .find2 .ensures .told) in
-    record {
-      is = simp (ap (λ p. p .0) (none .before .before .find .ensures .told), none .enum-told .given .1, told, c .before .enum-told2 .given .1);
-      within = omega arith;
-    }
+    simp (ap (λ p. p .0) (none .before .before .find .ensures .told), none .enum-told .given .1, told, c .before .enum-told2 .given .1)
 
 pub covered-spec : {M : Type 1} → statement M
 covered-spec =

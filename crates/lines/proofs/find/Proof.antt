@@ -9,7 +9,7 @@ use native.Mathlib.Omega.{arith}
 use lib.ListN.{length, drop}
 use Rattle.lines.specs.Lines.{linesIn}
 use Rattle.lines.specs.Values.{timesNamed, valueIn}
-use Rattle.lines.specs.Places.{toldOf, WholeLine}
+use Rattle.lines.specs.InnerPlaces.{toldOf, WholeLine}
 use Rattle.lines.proofs.Lines.{lines-stop}
 use Rattle.lines.proofs.Named.{lines-at, lines-end}
 use Rattle.lines.proofs.find.Statement.{statement}

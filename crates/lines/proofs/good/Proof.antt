@@ -6,7 +6,7 @@ use Prim.Native.Nat.{_≤_, _-_}
 use native.Mathlib.Omega.{arith}
 use lib.ListN.{length, drop, length-drop}
 use Rattle.lines.specs.Lines.{goodBlock}
-use Rattle.lines.specs.Places.{WholeLine}
+use Rattle.lines.specs.InnerPlaces.{WholeLine}
 use Rattle.lines.proofs.Lines.{good-stop}
 use Rattle.lines.proofs.Named.{good-at, good-end}
 use Rattle.lines.proofs.good.Statement.{statement}

@@ -7,9 +7,8 @@ use borrow.Author.Needs.{needs}
 use borrow.Author.Tests.{not-false}
 use lib.ListN.{length}
 use Rattle.cells.specs.Spans.{Passed}
-use Rattle.cells.proofs.Spans.{passed-none}
+use Rattle.cells.proofs.Spans.{passed-none, passed-part}
 use Rattle.lines.specs.Lines.{valueByte}
-use Rattle.cells.proofs.Spans.{passed-part}
 use Rattle.lines.proofs.past_sixteens.Statement.{statement}
 use Rattle.lines.proofs.past_sixteens.Tie as tie
 

@@ -6,7 +6,7 @@ use Prim.Native.Nat.{_+_, _-_}
 use native.Mathlib.Omega.{arith}
 use lib.ListN.{length}
 use Rattle.names.specs.Covered.{chosen}
-use Rattle.names.specs.Walk.{namesFrom, FirstName}
+use Rattle.names.specs.InnerWalk.{namesFrom, FirstName}
 use Rattle.lines.specs.Lines.{linesIn}
 use Rattle.lines.specs.Values.{repeated}
 use Rattle.lines.proofs.repeats_in.Statement.{statement}

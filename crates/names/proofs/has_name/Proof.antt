@@ -6,7 +6,7 @@ use mathlib.Core.List.{List}
 use Prim.Native.Nat.{ℕ, _+_, _-_}
 use lib.ListN.{length}
 use Rattle.names.specs.Names.{hasName}
-use Rattle.names.specs.Walk.{namesFrom}
+use Rattle.names.specs.InnerWalk.{namesFrom}
 use Rattle.names.proofs.Walk.{Reached, reached-first, reached-end}
 use Rattle.names.proofs.has_name.Statement.{statement}
 use Rattle.names.proofs.has_name.Tie as tie

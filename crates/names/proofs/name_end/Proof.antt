@@ -7,7 +7,7 @@ use mathlib.Core.Bool.{not}
 use Prim.Native.Nat.{_-_}
 use lib.ListN.{length}
 use Rattle.cells.specs.Spans.{Passed}
-use Rattle.names.specs.Walk.{noComma}
+use Rattle.names.specs.InnerWalk.{noComma}
 use Rattle.cells.proofs.Spans.{passed-none, passed-more, passed-stop, passed-end}
 use Rattle.names.proofs.name_end.Statement.{statement}
 use Rattle.names.proofs.name_end.Tie as tie

@@ -7,7 +7,7 @@ use Prim.Native.Nat.{ℕ, _+_, _-_, _≤_}
 use native.Mathlib.Omega.{arith}
 use lib.ListN.{length}
 use Rattle.names.specs.Covered.{chosen}
-use Rattle.names.specs.Walk.{namesFrom}
+use Rattle.names.specs.InnerWalk.{namesFrom}
 use Rattle.names.proofs.Walk.{Reached, reached-first, reached-end, chosen-set, chosen-clear, chosen-end, chosen-none}
 use Rattle.names.proofs.next_name.Statement.{statement}
 use Rattle.names.proofs.next_name.Tie as tie

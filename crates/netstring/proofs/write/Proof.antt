@@ -7,7 +7,7 @@ use Prim.Native.Nat.{ℕ, _+_, _-_, _≤_}
 use native.Mathlib.Omega.{arith}
 use lib.ListN.{length, take, drop}
 use Rattle.cells.proofs.Laid.{laid-more}
-use Rattle.cells.specs.Laid.{Laid}
+use Rattle.cells.specs.InnerLaid.{Laid}
 use Rattle.netstring.specs.Netstring.{comma}
 use Rattle.netstring.proofs.Laid.{netstring-pieces, length-pieces, opening-piece}
 use Rattle.netstring.proofs.write.Statement.{statement}

@@ -5,7 +5,7 @@ use mathlib.Core.Path.{sym, subst}
 use mathlib.Core.List.{List}
 use Prim.Native.Nat.{ℕ}
 use native.Mathlib.Omega.{arith}
-use Rattle.cells.specs.Laid.{Laid}
+use Rattle.cells.specs.InnerLaid.{Laid}
 use Rattle.cells.specs.Text.{codes}
 use Rattle.cells.proofs.Laid.{laid-none}
 use Rattle.armor.specs.Value.{Field, following}

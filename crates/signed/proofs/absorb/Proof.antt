@@ -6,7 +6,7 @@ use Prim.Native.Nat.{ℕ, _+_, _-_}
 use native.Mathlib.Omega.{arith}
 use borrow.Author.Needs.{needs}
 use lib.ListN.{length, take, drop}
-use Rattle.hmac.specs.Keyed.{TookIn}
+use Rattle.hmac.specs.InnerKeyed.{TookIn}
 use Rattle.netstring.specs.Netstring.{comma}
 use Rattle.netstring.proofs.Laid.{netstring-pieces, length-pieces, opening-piece}
 use Rattle.signed.proofs.Streaming.{size, size-one, netstrings-one, took-both}

@@ -5,9 +5,9 @@ use mathlib.Core.Path.{subst}
 use mathlib.Core.List.{List, [], _∷_, _++_}
 use Prim.Native.Nat.{ℕ, _+_, _≤_}
 use native.Mathlib.Omega.{arith}
-use Rattle.hmac.specs.Keyed.{Keyed}
+use Rattle.hmac.specs.InnerKeyed.{Keyed}
 use Rattle.signed.specs.SignedText.{coveredValues}
-use Rattle.signed.specs.Streamed.{openingParts}
+use Rattle.signed.specs.InnerStreamed.{openingParts}
 use Rattle.signed.proofs.Streaming.{size, took-then, parts-joined}
 use Rattle.signed.proofs.Short.{request-short}
 use Rattle.signed.proofs.code.Statement.{statement}

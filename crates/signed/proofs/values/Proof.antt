@@ -5,7 +5,7 @@ use mathlib.Core.Path.{_≡_}
 use mathlib.Core.List.{List, _++_}
 use Prim.Native.Nat.{ℕ, _/_}
 use Rattle.signed.specs.SignedText.{coveredValues}
-use Rattle.signed.specs.Streamed.{valuesFrom}
+use Rattle.signed.specs.InnerStreamed.{valuesFrom}
 use Rattle.signed.proofs.Streaming.{room-first, room-rest, took-then, extraValues, values-joined}
 use Rattle.signed.proofs.values.Statement.{statement}
 use Rattle.signed.proofs.values.Tie as tie

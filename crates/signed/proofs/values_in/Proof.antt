@@ -6,8 +6,8 @@ use Prim.Native.Nat.{_+_, _-_, _≤_}
 use native.Mathlib.Omega.{arith}
 use lib.ListN.{length}
 use Rattle.hmac.specs.declared.Hmac.{Hmac}
-use Rattle.names.specs.Walk.{FirstName}
-use Rattle.signed.specs.Streamed.{Room, TookParts, valuesFrom}
+use Rattle.names.specs.InnerWalk.{FirstName}
+use Rattle.signed.specs.InnerStreamed.{Room, TookParts, valuesFrom}
 use Rattle.signed.proofs.Streaming.{room-first, room-rest, took-none, took-then}
 use Rattle.signed.proofs.values_in.Statement.{statement}
 use Rattle.signed.proofs.values_in.Tie as tie
@@ -34,13 +34,13 @@ name c = rw (c .start .given .1) at (c .before .before .next-name .ensures)
 absorb-requires : tie.Need-absorb-requires Inv-loop μ-loop
 absorb-requires c κs =
     let loop = c .before .before .before .before .before .before .loop in
-    room-first (loop .taken) (_ ∷ []) _ (simp (name (c .before .before .before) .names, ← (c .covered .ensures .is)) at (loop .inv .1))
+    room-first (loop .taken) (_ ∷ []) _ (simp (name (c .before .before .before) .names, ← (c .covered .ensures)) at (loop .inv .1))
 
 loop-again : tie.Need-loop-again Inv-loop μ-loop
 loop-again c =
     let loop = c .before .before .before .before .before .before .before .loop in
     let first = name (c .before .before .before .before) in
-    let value = c .before .covered .ensures .is in (
+    let value = c .before .covered .ensures in (
       omega (arith, first),
       room-rest (_ ∷ []) _ (simp (first .names, ← value) at (loop .inv .1)) (c .absorb .ensures),
       λ r p. loop .inv .2 r (simp (first .names, ← value) (took-then (_ ∷ []) _ (c .absorb .ensures) p)),

@@ -6,7 +6,7 @@ use Prim.Native.Nat.{ℕ, _+_, _-_, _≤_}
 use native.Mathlib.Omega.{arith}
 use borrow.Author.Needs.{needs}
 use lib.ListN.{length, take, drop}
-use Rattle.cells.specs.Laid.{Laid}
+use Rattle.cells.specs.InnerLaid.{Laid}
 use Rattle.cells.proofs.Laid.{laid-more}
 use Rattle.netstring.specs.Netstring.{netstring, netstrings}
 use Rattle.token.specs.Token.{tokenText}

@@ -5,9 +5,9 @@ use mathlib.Core.Path.{refl, sym, subst}
 use Prim.Native.Nat.{ℕ}
 use native.Mathlib.Omega.{arith}
 use borrow.Author.Needs.{needs}
-use Rattle.netstring.specs.Reading.{PartAt}
+use Rattle.netstring.specs.InnerReading.{PartAt}
 use Rattle.token.specs.Token.{tokenIn}
-use Rattle.token.specs.Held.{Unseals}
+use Rattle.token.specs.InnerHeld.{Unseals}
 use Rattle.token.proofs.Reading.{none-passed, passed-more, no-part, more-follows, all-passed}
 use Rattle.token.proofs.token_in.Statement.{statement}
 use Rattle.token.proofs.token_in.Tie as tie

@@ -9,7 +9,7 @@ use lib.ListN.{length, take, drop, replicate}
 use lib.Seq.{length-take-le, take-at}
 use Rattle.gcm.specs.Gcm.{opened}
 use Rattle.token.specs.Token.{Token, tokenIn, openedToken}
-use Rattle.token.specs.Held.{Unseals}
+use Rattle.token.specs.InnerHeld.{Unseals}
 use Rattle.token.proofs.Text.{within-front}
 use Rattle.token.proofs.Reading.{from-text, from-wrong, unseals-none}
 use Rattle.token.proofs.unseal.Statement.{statement}

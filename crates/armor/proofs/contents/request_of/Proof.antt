@@ -9,7 +9,7 @@ use Rattle.base64.proofs.Exactly.{decoded-exactly, decoded-bytes}
 use Rattle.armor.specs.Keys.{keyS, keyC, keyIv, keyTag, keyEah}
 use Rattle.armor.specs.Value.{carried}
 use Rattle.armor.specs.Fields.{times, the}
-use Rattle.armor.specs.Scan.{countIn}
+use Rattle.armor.specs.InnerScan.{countIn}
 use Rattle.armor.proofs.Texts.{front-taken, filled-whole}
 use Rattle.armor.proofs.Fields.{count-bit, counted}
 use Rattle.armor.proofs.contents.request_of.Statement.{statement}

@@ -6,7 +6,7 @@ use native.Mathlib.Omega.{arith}
 use lib.ListN.{length, drop, length-take}
 use borrow.Author.Needs.{needs}
 use Rattle.armor.specs.declared.scanning.Seen.{Seen}
-use Rattle.armor.specs.Scan.{Notes, isSome}
+use Rattle.armor.specs.InnerScan.{Notes, isSome}
 use Rattle.armor.proofs.Scan.{Progress, progress-none, progress-more, progress-bad, progress-all, carried-is, kept-is, nothing-read}
 use Rattle.armor.proofs.scanning.scan_value.Statement.{statement}
 use Rattle.armor.proofs.scanning.scan_value.Tie as tie

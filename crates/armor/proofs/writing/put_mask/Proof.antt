@@ -7,7 +7,7 @@ use Prim.Native.Nat.{ℕ}
 use native.Mathlib.Omega.{arith}
 use lib.ListN.{length}
 use Rattle.armor.proofs.Numerals.{length-maskBytes}
-use Rattle.cells.specs.Laid.{Laid}
+use Rattle.cells.specs.InnerLaid.{Laid}
 use Rattle.armor.specs.Value.{field, following}
 use Rattle.armor.proofs.writing.put_mask.Statement.{statement}
 use Rattle.armor.proofs.writing.put_mask.Tie as tie

@@ -6,7 +6,7 @@ use borrow.Author.Needs.{needs}
 use lib.ListN.{length, take, length-take}
 use Rattle.reply.specs.Replies.{invalidation}
 use Rattle.reply.proofs.Lengths.{length-invalidation}
-use Rattle.stages.specs.Stages.{tells}
+use Rattle.stages.specs.InnerStages.{tells}
 use Rattle.gate.proofs.Numbers.{answer-is}
 use Rattle.gate.proofs.Judging.{told, answered-zero, answered-freed, answered-kept}
 use Rattle.gate.proofs.judge.answer.Statement.{statement}

@@ -9,11 +9,11 @@ use Rattle.orders.proofs.Orders.{good-extra}
 use Rattle.stages.specs.Request.{Request, requestOf}
 use Rattle.stages.specs.Checks.{first}
 use Rattle.stages.specs.Parts.{fieldsOf, ivOf}
-use Rattle.stages.specs.Stages.{StandsAt}
+use Rattle.stages.specs.InnerStages.{StandsAt}
 use Rattle.gate.specs.State.{State, holding}
 use Rattle.gate.specs.Sizes.{requestFits}
 use Rattle.gate.specs.Judge.{entryPart}
-use Rattle.gate.specs.Decisions.{Enters}
+use Rattle.gate.specs.InnerDecisions.{Enters}
 use Rattle.gate.proofs.Numbers.{Entered, entry-passed}
 use Rattle.gate.proofs.Judging.{sized, unentered, unread, decided-by}
 use Rattle.gate.proofs.judge.decide.Statement.{statement}

@@ -7,7 +7,7 @@ use borrow.Author.Needs.{needs}
 use lib.ListN.{length, take, length-take}
 use lib.Seq.{length-take-le}
 use Rattle.reply.proofs.Lengths.{setup-short}
-use Rattle.gate.specs.Starts.{startAt}
+use Rattle.gate.specs.InnerStarts.{startAt}
 use Rattle.gate.proofs.Starting.{writes}
 use Rattle.gate.proofs.setup.apply.Statement.{statement}
 use Rattle.gate.proofs.setup.apply.Tie as tie

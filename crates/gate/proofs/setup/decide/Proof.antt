@@ -11,7 +11,7 @@ use Rattle.gate.specs.State.{State, holding}
 use Rattle.gate.specs.Calls.{Setup, setupOf}
 use Rattle.gate.specs.Sizes.{setupFits}
 use Rattle.gate.specs.Setup.{expiryOf, entryPart}
-use Rattle.gate.specs.Decisions.{Enters}
+use Rattle.gate.specs.InnerDecisions.{Enters}
 use Rattle.gate.proofs.Numbers.{entry-passed}
 use Rattle.gate.proofs.Starting.{lent, entry-refuses, offer-refuses, room-decides}
 use Rattle.gate.proofs.setup.decide.Statement.{statement}

@@ -3,7 +3,7 @@
 use borrow.Author.Needs.{needs}
 use mathlib.Core.Path.{refl}
 use Rattle.sha2.specs.Hash.{sha512}
-use Rattle.sha2.specs.Taken.{Taken}
+use Rattle.sha2.specs.InnerTaken.{Taken}
 use Rattle.hmac.proofs.Streaming.{more-text}
 use Rattle.hmac.proofs.Hmac.absorb.Statement.{statement}
 use Rattle.hmac.proofs.Hmac.absorb.Tie as tie

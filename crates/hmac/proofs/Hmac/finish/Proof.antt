@@ -2,7 +2,7 @@
 -- Assumes nothing.
 use borrow.Author.Needs.{needs}
 use Rattle.sha2.specs.Hash.{sha512}
-use Rattle.sha2.specs.Taken.{Taken}
+use Rattle.sha2.specs.InnerTaken.{Taken}
 use Rattle.hmac.proofs.Streaming.{finished}
 use Rattle.hmac.proofs.Hmac.finish.Statement.{statement}
 use Rattle.hmac.proofs.Hmac.finish.Tie as tie

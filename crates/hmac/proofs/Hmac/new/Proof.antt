@@ -7,7 +7,7 @@ use Prim.Native.Nat.{ℕ}
 use native.Mathlib.Omega.{arith}
 use lib.ListN.{length}
 use Rattle.sha2.specs.Hash.{sha512}
-use Rattle.sha2.specs.Taken.{Taken}
+use Rattle.sha2.specs.InnerTaken.{Taken}
 use Rattle.hmac.specs.Hmac.{xored, innerKey, outerKey}
 use Rattle.hmac.proofs.Streaming.{keyed}
 use Rattle.hmac.proofs.Hmac.new.Statement.{statement}

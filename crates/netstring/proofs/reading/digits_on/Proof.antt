@@ -4,7 +4,7 @@ use borrow.Author.Needs.{needs}
 use Prim.Native.Nat.{_-_}
 use native.Mathlib.Omega.{arith}
 use lib.ListN.{length}
-use Rattle.netstring.specs.Reading.{ReadSo}
+use Rattle.netstring.specs.InnerReading.{ReadSo}
 use Rattle.netstring.proofs.Scanned.{found, no-digit, too-large, run-ended, one-more}
 use Rattle.netstring.proofs.reading.digits_on.Statement.{statement}
 use Rattle.netstring.proofs.reading.digits_on.Tie as tie

@@ -2,7 +2,7 @@
 -- Assumes nothing.
 use borrow.Author.Needs.{needs}
 use native.Mathlib.Omega.{arith}
-use Rattle.netstring.specs.Reading.{LengthAt}
+use Rattle.netstring.specs.InnerReading.{LengthAt}
 use Rattle.netstring.proofs.Parts.{no-length, too-short, no-comma, part-found}
 use Rattle.netstring.proofs.reading.read.Statement.{statement}
 use Rattle.netstring.proofs.reading.read.Tie as tie

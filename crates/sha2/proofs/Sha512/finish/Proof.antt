@@ -8,7 +8,7 @@ use native.Mathlib.Omega.{arith}
 use lib.ListN.{length}
 use lib.Seq.{length-take-le}
 use Rattle.sha2.specs.Hash.{zeros, padding, digest, sha512}
-use Rattle.sha2.specs.Taken.{Taken}
+use Rattle.sha2.specs.InnerTaken.{Taken}
 use Rattle.sha2.proofs.Padding.{padding-laid}
 use Rattle.sha2.proofs.Sha512.finish.Statement.{statement}
 use Rattle.sha2.proofs.Sha512.finish.Tie as tie

@@ -4,7 +4,7 @@ use mathlib.Core.Path.{_≡_}
 use mathlib.Core.List.{List}
 use Prim.Native.Nat.{ℕ, _+_, _-_, _*_, _≤_}
 use native.Mathlib.Omega.{arith}
-use Rattle.sha2.specs.Scheduled.{Scheduled}
+use Rattle.sha2.specs.InnerScheduled.{Scheduled}
 use Rattle.sha2.proofs.block.extend.Statement.{statement}
 use Rattle.sha2.proofs.block.extend.Tie as tie
 

@@ -4,7 +4,7 @@ use mathlib.Core.Path.{_≡_, refl}
 use Prim.Native.Nat.{_+_, _-_, _≤_}
 use native.Mathlib.Numerals.{add-one}
 use native.Mathlib.Omega.{arith}
-use Rattle.sha2.specs.Scheduled.{Scheduled}
+use Rattle.sha2.specs.InnerScheduled.{Scheduled}
 use Rattle.sha2.specs.Block.{schedule}
 use Rattle.sha2.proofs.Schedule.{own-word}
 use Rattle.sha2.proofs.block.load.Statement.{statement}

@@ -12,7 +12,7 @@ use Rattle.window.specs.declared.Verdict.the-variants.{Accepted, TooOld, Seen}
 use Rattle.stages.specs.Request.{Request}
 use Rattle.stages.specs.Checks.{nowhere}
 use Rattle.stages.specs.Parts.{ordered, stepped, sessionPart}
-use Rattle.stages.specs.Stages.{StandsAt, Asks}
+use Rattle.stages.specs.InnerStages.{StandsAt, Asks}
 use Rattle.stages.proofs.Stages.{InTime, stepped-held, next-held, turned-away, window-first, unordered-first}
 use Rattle.stages.proofs.admitting.admit.Statement.{statement}
 use Rattle.stages.proofs.admitting.admit.Tie as tie

@@ -5,7 +5,7 @@ use mathlib.Core.List.{List, [], _++_}
 use Prim.Native.Nat.{ℕ, _+_}
 use lib.ListN.{length}
 use Rattle.sha2.specs.Hash.{sha512}
-use Rattle.sha2.specs.Taken.{Taken}
+use Rattle.sha2.specs.InnerTaken.{Taken}
 use Rattle.hmac.specs.declared.Hmac.{Hmac}
 use Rattle.hmac.specs.Hmac.{innerKey, outerKey}
 

@@ -12,7 +12,7 @@ use Rattle.stages.specs.Request.{Request, requestOf}
 use Rattle.stages.specs.Checks.{first}
 use Rattle.table.specs.Session.{placeOf}
 use Rattle.stages.specs.Parts.{ivOf, tokenOf, ordered, nextOf}
-use Rattle.stages.specs.Stages.{tells, About}
+use Rattle.stages.specs.InnerStages.{tells, About}
 use Rattle.gate.specs.declared.entry.Entry.{Entry}
 use Rattle.gate.specs.State.{State, holding, Outcome, outcome}
 use Rattle.gate.specs.Calls.{setupOf}

@@ -3,12 +3,12 @@
 use mathlib.Core.List.{List, [], _∷_, _++_, map}
 use Prim.Native.Nat.{ℕ, _+_, _^_, _<_}
 use lib.ListN.{length}
-use Rattle.hmac.specs.Keyed.{TookIn}
+use Rattle.hmac.specs.InnerKeyed.{TookIn}
 use Rattle.hmac.specs.declared.Hmac.{Hmac}
 use Rattle.netstring.specs.Netstring.{netstrings}
 use Rattle.armor.specs.Numerals.{numberBytes, maskBytes, hashMask}
 use Rattle.names.specs.Covered.{chosen}
-use Rattle.names.specs.Walk.{namesFrom}
+use Rattle.names.specs.InnerWalk.{namesFrom}
 use Rattle.lines.specs.Lines.{linesIn}
 use Rattle.lines.specs.Values.{coveredValue}
 use Rattle.signed.specs.SignedText.{carried, nonceOf}

@@ -8,12 +8,12 @@ use Prim.Native.Nat.{ℕ, _≤_}
 use lib.Dec.{eqb}
 use lib.ListN.{length, take}
 use Rattle.armor.specs.Value.{carried}
-use Rattle.armor.specs.Answers.{Holds}
+use Rattle.armor.specs.InnerAnswers.{Holds}
 use Rattle.armor.specs.declared.Request.{Request as ArmorRequest}
 use Rattle.orders.specs.Orders.{Orders, limitsOf}
 use Rattle.orders.specs.declared.Limits.{Limits}
 use Rattle.token.specs.Token.{Token}
-use Rattle.token.specs.Held.{IsToken}
+use Rattle.token.specs.InnerHeld.{IsToken}
 use Rattle.token.specs.declared.Unsealed.{Unsealed}
 use Rattle.table.specs.declared.session.Record.{Record}
 use Rattle.table.specs.declared.place.Place.{Place}
