@@ -9,7 +9,8 @@ use lib.Dec.{eqb}
 use lib.ListN.{length}
 use borrow.Author.Needs.{needs}
 use borrow.Author.Tests.{eq-eqb, ne-eqb}
-use Rattle.cells.proofs.Spans.{Passed, passed-none, passed-more, passed-stop, passed-end}
+use Rattle.cells.specs.Spans.{Passed}
+use Rattle.cells.proofs.Spans.{passed-none, passed-more, passed-stop, passed-end}
 use Rattle.armor.proofs.Pieces.{leading-upTo}
 use Rattle.armor.proofs.scanning.find.Statement.{statement}
 use Rattle.armor.proofs.scanning.find.Tie as tie
