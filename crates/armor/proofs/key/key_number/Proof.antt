@@ -72,25 +72,6 @@ returns-7 c =
 
 pub key-number-spec : {M : Type 1} → statement M
 key-number-spec =
-    tie.close
-    (tie.spec
-    (λ c. search needs)
-    (λ c κs. search needs)
-    returns
-    (λ c. search needs)
-    (λ c κs. search needs)
-    returns-2
-    (λ c. search needs)
-    (λ c κs. search needs)
-    returns-3
-    (λ c. search needs)
-    (λ c κs. search needs)
-    returns-4
-    (λ c. search needs)
-    (λ c κs. search needs)
-    returns-5
-    (λ c. search needs)
-    (λ c κs. search needs)
-    returns-6
-    (λ c κs. search needs)
-    returns-7)
+    tie.close (tie.spec (λ c. search needs) (λ c κs. search needs) returns (λ c. search needs) (λ c κs. search needs) returns-2 (λ c. search needs)
+    (λ c κs. search needs) returns-3 (λ c. search needs) (λ c κs. search needs) returns-4 (λ c. search needs) (λ c κs. search needs) returns-5
+    (λ c. search needs) (λ c κs. search needs) returns-6 (λ c κs. search needs) returns-7)

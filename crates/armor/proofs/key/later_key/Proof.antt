@@ -58,21 +58,6 @@ returns-6 c =
 
 pub later-key-spec : {M : Type 1} → statement M
 later-key-spec =
-    tie.close
-    (tie.spec
-    (λ c. search needs)
-    (λ c κs. search needs)
-    returns
-    (λ c. search needs)
-    (λ c κs. search needs)
-    returns-2
-    (λ c. search needs)
-    (λ c κs. search needs)
-    returns-3
-    (λ c. search needs)
-    (λ c κs. search needs)
-    returns-4
-    (λ c. search needs)
-    (λ c κs. search needs)
-    returns-5
+    tie.close (tie.spec (λ c. search needs) (λ c κs. search needs) returns (λ c. search needs) (λ c κs. search needs) returns-2 (λ c. search needs)
+    (λ c κs. search needs) returns-3 (λ c. search needs) (λ c κs. search needs) returns-4 (λ c. search needs) (λ c κs. search needs) returns-5
     returns-6)
