@@ -8,6 +8,7 @@
 -- Assumes nothing.
 pub mod Sessions
 pub mod Tables
+pub mod One
 pub mod Calls
 pub mod Lent
 use mathlib.Core.Path.{_≡_, sym, ap, _∙_}
@@ -34,13 +35,14 @@ use Rattle.gate.specs.Setup.{offerPart, lastingPart, roomPart, setupChecks}
 use Rattle.stages.specs.Parts.{ivOf, nonceOf, readingPart, coveringPart, tokenPart, signaturePart, sessionPart, noncePart}
 use Rattle.gate.specs.Judge.{entryPart, requestChecks, judged}
 use Rattle.gate.specs.End.{endChecks}
-use Rattle.demands.specs.History.{Call, setting-up, judging, ending, answer, empty, after, acceptedIn, setUpIn, lentIn, Apart}
+use Rattle.demands.specs.History.{Call, setting-up, judging, judging-one, ending, takenOut, answer, empty, after, acceptedIn, setUpIn, lentIn, Apart}
 use Rattle.demands.specs.Passing.{PassesOthers}
 use Rattle.demands.proofs.Shared.Checks.{never-given}
 use Rattle.demands.proofs.History.Tables.{Standing, empty-standing}
 use Rattle.demands.proofs.Shared.Answers.{setUp-number, ended-number, judged-number}
 use Rattle.demands.proofs.Shared.Others.{accepts-zero, passes-finds, passes-window}
 use Rattle.demands.proofs.History.Lent.{lent-apart}
+use Rattle.demands.proofs.History.One.{one-well}
 use Rattle.demands.proofs.History.Calls.{held-step, call-standing}
 
 -- after any calls the table's sessions are those of the history
@@ -108,6 +110,10 @@ never-malformed n calls (setting-up s) e =
 never-malformed n calls (judging q) e =
     let well = well-formed n calls .0 in
     never-given 3 (requestChecks q (after (empty n) calls)) (λ z. omega arith) (rw well) (sym (judged-number q _) ∙ e)
+never-malformed n calls (judging-one place q) e =
+    let state = after (empty n) calls in
+    let well = is-wellFormed _ (one-well n state _ _ (standing n calls) place) in
+    never-given 3 (requestChecks q (takenOut place state)) (λ z. omega arith) (rw well) (sym (judged-number q _) ∙ e)
 never-malformed n calls (ending iv) e =
     let well = well-formed n calls .0 in
     never-given 3 (endChecks iv (after (empty n) calls)) (λ z. omega arith) (rw well) (sym (ended-number iv _) ∙ e)

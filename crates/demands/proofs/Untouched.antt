@@ -6,9 +6,9 @@ pub mod Requests
 pub mod Endings
 use mathlib.Core.Path.{_≡_, sym, ap, _∙_}
 use mathlib.Core.List.{List, []}
-use Prim.Native.Nat.{ℕ, _≤_}
+use Prim.Native.Nat.{ℕ, _*_, _≤_}
 use Rattle.table.specs.declared.session.Record.{Record}
-use Rattle.table.specs.Record.{recordBytes, recordOf, Fits}
+use Rattle.table.specs.Record.{size, recordBytes, recordOf, Fits}
 use Rattle.table.proofs.Records.{recordOf-bytes}
 use Rattle.gate.specs.Calls.{Setup}
 use Rattle.stages.specs.Request.{Request}
@@ -16,8 +16,9 @@ use Rattle.gate.specs.State.{State, holding}
 use Rattle.gate.specs.Setup.{setUp}
 use Rattle.gate.specs.Judge.{judged}
 use Rattle.gate.specs.End.{ended}
-use Rattle.demands.specs.History.{Call, setting-up, judging, ending, answer}
+use Rattle.demands.specs.History.{Call, setting-up, judging, judging-one, ending, takenOut, putBack, judgedAt, answer}
 use Rattle.demands.specs.Effects.{TenOrThirteen, Kept, SetupEffects, JudgeEffects, EndEffects}
+use Rattle.demands.proofs.Shared.Stored.{respliced}
 use Rattle.demands.proofs.Untouched.Setups.{setup-effects, setup-length}
 use Rattle.demands.proofs.Untouched.Requests.{judge-effects}
 use Rattle.demands.proofs.Untouched.Endings.{end-effects}
@@ -40,19 +41,31 @@ reply-short = setup-length
 abbrev pub bufferOf : Call → List ℕ
 bufferOf (setting-up s) = s .reply
 bufferOf (judging q) = q .reply
+bufferOf (judging-one place q) = q .reply
 bufferOf (ending iv) = []
 
 -- 10 and 13 of a request
 abbrev pub Freeing : Call → ℕ → Type 0
 Freeing (setting-up s) n = ⊥
 Freeing (judging q) n = TenOrThirteen n
+Freeing (judging-one place q) n = TenOrThirteen n
 Freeing (ending iv) n = ⊥
+
+-- a record that is put back as it was
+one-kept : (place : ℕ) (q : Request) (state : State) → Kept (q .reply) (takenOut place state) (judged q (takenOut place state))
+    → Kept (q .reply) state (judgedAt place q state)
+one-kept place q state k = record {
+  long = k .long;
+  reply = k .reply;
+  state = ap (putBack place state) (k .state) ∙ ap holding (respliced (state .table) (size * place) size);
+}
 
 -- THE THEOREM: only the refusals 10 and 13 alter the table, and only they write a reply; the others touch nothing
 pub untouched-else : (c : Call) (state : State) → 1 ≤ answer c state .number → (Freeing c (answer c state .number) → ⊥)
     → Kept (bufferOf c) state (answer c state)
 untouched-else (setting-up s) state h f = setup s state .refused h
 untouched-else (judging q) state h f = judge q state .refused h f
+untouched-else (judging-one place q) state h f = one-kept place q state (judge q (takenOut place state) .refused h f)
 untouched-else (ending iv) state h f =
     record { long = end iv state .no-reply .0; reply = end iv state .no-reply .1; state = end iv state .refused h }
 

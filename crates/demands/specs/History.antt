@@ -7,7 +7,7 @@ use mathlib.Core.List.{List, [], _∷_}
 use Prim.Native.Nat.{ℕ, _*_}
 use lib.Dec.{eqb}
 use lib.ListN.{replicate}
-use Rattle.cells.specs.Runs.{same}
+use Rattle.cells.specs.Runs.{spliced, part, same}
 use Rattle.window.specs.History.{keep}
 use Rattle.table.specs.Record.{size}
 use Rattle.signed.specs.SignedText.{ordersNonce}
@@ -23,11 +23,26 @@ use Rattle.gate.specs.End.{ended}
 pub data Call : Type 0 where
   setting-up : Setup → Call
   judging : Request → Call
+  -- by the thin entry, over the record at a place of the table: the host takes it out, and puts it back where it was
+  judging-one : ℕ → Request → Call
   ending : List ℕ → Call
+
+-- what the thin entry is lent of a table, and the table with what it leaves
+abbrev pub takenOut : ℕ → State → State
+takenOut place state = holding (part (state .table) (size * place) size)
+
+abbrev pub putBack : ℕ → State → State → State
+putBack place state one = holding (spliced (state .table) (size * place) (one .table))
+
+abbrev pub judgedAt : ℕ → Request → State → Outcome
+judgedAt place q state =
+    let one = judged q (takenOut place state) in
+    record { number = one .number; length = one .length; reply = one .reply; state = putBack place state (one .state) }
 
 abbrev pub answer : Call → State → Outcome
 answer (setting-up s) state = setUp s state
 answer (judging q) state = judged q state
+answer (judging-one place q) state = judgedAt place q state
 answer (ending iv) state = ended iv state
 
 -- a table of n free records
@@ -39,11 +54,15 @@ unfoldable pub after : State → List Call → State
 after state [] = state
 after state (call ∷ earlier) = answer call (after state earlier) .state
 
--- with the nonce of a call, if it is a request with this IV and with nonces ordered that was answered 0
+-- with the nonce of a request with this IV and with nonces ordered, if it was answered 0
+abbrev pub withNonce : List ℕ → Request → ℕ → List ℕ → List ℕ
+withNonce iv q number nonces =
+    keep (eqb number 0 && (ordersNonce (q .orders .numbers .mask) && same (ivOf q) iv)) (nonceOf q) nonces
+
 abbrev pub withAccepted : List ℕ → Call → ℕ → List ℕ → List ℕ
 withAccepted iv (setting-up s) number nonces = nonces
-withAccepted iv (judging q) number nonces =
-    keep (eqb number 0 && (ordersNonce (q .orders .numbers .mask) && same (ivOf q) iv)) (nonceOf q) nonces
+withAccepted iv (judging q) number nonces = withNonce iv q number nonces
+withAccepted iv (judging-one place q) number nonces = withNonce iv q number nonces
 withAccepted iv (ending other) number nonces = nonces
 
 -- the nonces accepted in the session of an IV
@@ -56,6 +75,7 @@ acceptedIn iv state (call ∷ earlier) =
 abbrev pub withSetUp : Call → ℕ → List (List ℕ) → List (List ℕ)
 withSetUp (setting-up s) number ivs = cond (eqb number 0) (s .iv ∷ ivs) ivs
 withSetUp (judging q) number ivs = ivs
+withSetUp (judging-one place q) number ivs = ivs
 withSetUp (ending iv) number ivs = ivs
 
 -- the IVs of the setups that were answered 0
@@ -67,6 +87,7 @@ setUpIn state (call ∷ earlier) = withSetUp call (answer call (after state earl
 abbrev pub withLent : Call → List (List ℕ) → List (List ℕ)
 withLent (setting-up s) ivs = s .iv ∷ ivs
 withLent (judging q) ivs = ivs
+withLent (judging-one place q) ivs = ivs
 withLent (ending iv) ivs = ivs
 
 -- the IVs that were lent to setups, whatever the answer

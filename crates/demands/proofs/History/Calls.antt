@@ -25,12 +25,13 @@ use Rattle.gate.specs.Setup.{expiryOf, setupChecks, withSession, setUp}
 use Rattle.stages.specs.Parts.{ivOf, nonceOf, stepped, invalidates}
 use Rattle.gate.specs.Judge.{requestChecks, judged}
 use Rattle.gate.specs.End.{endChecks, ended}
-use Rattle.demands.specs.History.{Call, setting-up, judging, ending, answer, withAccepted, withSetUp}
+use Rattle.demands.specs.History.{Call, setting-up, judging, judging-one, ending, answer, withAccepted, withSetUp}
 use Rattle.demands.proofs.Shared.Checks.{accepted-passes}
 use Rattle.demands.proofs.Shared.Answers.{steppedFor, setUp-number, setUp-table, begun-table, ended-table, next, judged-number, judged-table, found-step, ordered-table, unordered-table}
 use Rattle.demands.proofs.Shared.Passed.{Takes, setup-takes}
 use Rattle.demands.proofs.Shared.Others.{accepts-zero, Finds, passes-finds, passes-window}
 use Rattle.demands.proofs.History.Sessions.{begun-sessions, stepped-sessions}
+use Rattle.demands.proofs.History.One.{one-standing}
 use Rattle.demands.proofs.History.Tables.{Standing, held, stored-standing, without-standing}
 
 module _ (n : ℕ) (state : State) (ivs : List (List ℕ)) (nonces : List ℕ → List ℕ) (st : Standing n (state .table) ivs nonces) where
@@ -101,4 +102,5 @@ module _ (n : ℕ) (state : State) (ivs : List (List ℕ)) (nonces : List ℕ �
       (λ iv. withAccepted iv call (answer call state .number) (nonces iv))
   call-standing (setting-up s) = setup-standing s
   call-standing (judging q) = request-standing q
+  call-standing (judging-one place q) = one-standing n state ivs nonces st place q
   call-standing (ending iv) = end-standing iv

@@ -7,7 +7,7 @@ use Prim.Native.Nat.{ℕ}
 use lib.Dec.{eqb}
 use Rattle.cells.specs.Runs.{same}
 use Rattle.gate.specs.State.{State}
-use Rattle.demands.specs.History.{Call, setting-up, judging, ending, answer, after, setUpIn, lentIn, Apart, ivAmong}
+use Rattle.demands.specs.History.{Call, setting-up, judging, judging-one, ending, answer, after, setUpIn, lentIn, Apart, ivAmong}
 use Rattle.demands.proofs.History.Sessions.{neither}
 
 -- an IV that was lent to no setup was not set up
@@ -23,6 +23,7 @@ lent-none iv state (setting-up s ∷ earlier) e =
     by true d rest = rw d rest
     by false d rest = rest
 lent-none iv state (judging q ∷ earlier) e = lent-none iv state earlier e
+lent-none iv state (judging-one place q ∷ earlier) e = lent-none iv state earlier e
 lent-none iv state (ending other ∷ earlier) e = lent-none iv state earlier e
 
 -- where no IV was lent to two setups, no two setups that were answered 0 had one IV
@@ -37,4 +38,5 @@ lent-apart state (setting-up s ∷ earlier) a =
     by true d rest = (d, rest)
     by false d rest = rest
 lent-apart state (judging q ∷ earlier) a = lent-apart state earlier a
+lent-apart state (judging-one place q ∷ earlier) a = lent-apart state earlier a
 lent-apart state (ending iv ∷ earlier) a = lent-apart state earlier a

@@ -1,13 +1,13 @@
 -- A table's bytes with one record laid over a place: that record stands there, and every other byte and record is as before.
 -- Assumes nothing.
-use mathlib.Core.Path.{_≡_, sym, ap, _∙_}
-use mathlib.Core.List.{List, _++_}
+use mathlib.Core.Path.{_≡_, refl, sym, ap, _∙_}
+use mathlib.Core.List.{List, [], _∷_, _++_}
 use mathlib.Core.Logic.{_⊎_, inl, inr}
-use Prim.Native.Nat.{ℕ, _+_, _-_, _*_, _≤_, _<_}
+use Prim.Native.Nat.{ℕ, zero, suc, _+_, _-_, _*_, _≤_, _<_}
 use native.Mathlib.Omega.{arith}
-use lib.ListN.{length, getD, take, drop, set, List·getD-append, length-take}
+use lib.ListN.{length, getD, take, drop, set, List·getD-append, length-take, take-append-drop}
 use lib.Seq.{getD-take, getD-drop, getD-append-add}
-use Rattle.cells.specs.Runs.{spliced}
+use Rattle.cells.specs.Runs.{spliced, part}
 use Rattle.cells.proofs.Runs.{length-spliced}
 use Rattle.table.specs.declared.session.Record.{Record}
 use Rattle.table.specs.Record.{size, recordBytes, Fits, freed}
@@ -56,3 +56,14 @@ replaced table place r h f =
 -- a place that a setup takes is one of the table's
 pub taken-within : (table : List ℕ) (clock place : ℕ) → taken (records table) clock ≡ At place → place < places table
 taken-within table clock place e = rw length-records at (taken-at (records table) clock place e .0)
+
+-- a part laid over itself changes nothing
+pub respliced : (xs : List ℕ) (at n : ℕ) → spliced xs at (part xs at n) ≡ xs
+unfolding spliced
+respliced xs at n =
+    ap (λ (l : List ℕ). take at xs ++ l) (front n (drop at xs)) ∙ take-append-drop at xs
+  where
+    front : (n : ℕ) (ys : List ℕ) → take n ys ++ drop (length (take n ys)) ys ≡ ys
+    front zero ys = refl
+    front (suc n) [] = refl
+    front (suc n) (y ∷ ys) = ap (λ (l : List ℕ). y ∷ l) (front n ys)

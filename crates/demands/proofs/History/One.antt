@@ -1,0 +1,145 @@
+-- A record that the thin entry is lent out of a table, and the table with what it leaves there.
+-- Assumes nothing.
+use mathlib.Core.Path.{_≡_, refl, sym, ap, subst, _∙_}
+use mathlib.Core.Bool.{Bool, true, false, cond, _&&_}
+use mathlib.Core.List.{List}
+use Prim.Native.Nat.{ℕ, _+_, _-_, _*_, _≤_, _<_}
+use native.Mathlib.Omega.{arith}
+use borrow.Author.Tests.{eqb-true, eq-eqb}
+use lib.Dec.{eqb}
+use lib.ListN.{length, getD, drop, set, length-take, length-drop}
+use lib.Seq.{take-all}
+use Rattle.cells.specs.Runs.{spliced, same}
+use Rattle.cells.proofs.Runs.{spliced-front, fronted-whole}
+use Rattle.window.specs.Window.{stepOf}
+use Rattle.window.specs.History.{isAccepted, keep}
+use Rattle.table.specs.declared.session.Record.{Record}
+use Rattle.table.specs.declared.place.Place.{Place}
+use Rattle.table.specs.declared.place.Place.the-variants.{At, Nowhere}
+use Rattle.table.specs.Record.{size, recordBytes, recordOf, Fits, freed, windowOf}
+use Rattle.table.specs.Table.{places, records, recordAt}
+use Rattle.table.specs.Session.{placeOf, with-record, without}
+use Rattle.table.specs.WellFormed.{Sound, WellFormed}
+use Rattle.table.proofs.Records.{length-records, length-recordBytes, records-at, freed-fits}
+use Rattle.table.proofs.Sessions.{stepped-fits}
+use Rattle.signed.specs.SignedText.{ordersNonce}
+use Rattle.stages.specs.Request.{Request}
+use Rattle.stages.specs.Checks.{first}
+use Rattle.stages.specs.Parts.{ivOf, nonceOf, stepped, invalidates}
+use Rattle.gate.specs.State.{State}
+use Rattle.gate.specs.Judge.{requestChecks, judged}
+use Rattle.demands.specs.Tables.{SessionAt}
+use Rattle.demands.specs.History.{takenOut, judgedAt, withNonce}
+use Rattle.demands.proofs.Shared.Checks.{accepted-passes}
+use Rattle.demands.proofs.Shared.Answers.{steppedFor, next, judged-number, judged-table, found-step, ordered-table, unordered-table}
+use Rattle.demands.proofs.Shared.Stored.{respliced}
+use Rattle.demands.proofs.Shared.Named.{found-session, session-found}
+use Rattle.demands.proofs.Shared.Others.{accepts-zero, passes-finds, passes-window}
+use Rattle.demands.proofs.History.Sessions.{Sessions, freed-sessions, stepped-sessions}
+use Rattle.demands.proofs.History.Tables.{Standing, held, stored-standing}
+
+module _ (n : ℕ) (state : State) (ivs : List (List ℕ)) (nonces : List ℕ → List ℕ) (st : Standing n (state .table) ivs nonces) (place : ℕ) where
+  abbrev one : List ℕ
+  one = takenOut place state .table
+
+  -- a session that is found there: the record is whole, and it is the table's own
+  pub record Own (iv : List ℕ) : Type 0 where
+    pub within : place < places (state .table)
+    pub whole : length one ≡ size
+    pub here : placeOf one iv ≡ At 0
+    pub same-record : recordAt one 0 ≡ recordAt (state .table) place
+    pub there : placeOf (state .table) iv ≡ At place
+
+  pub own : (iv : List ℕ) (j : ℕ) → placeOf one iv ≡ At j → Own iv
+  own iv j e =
+      let s = found-session one iv j e in
+      let size-is : length one ≡ size = omega (arith, s .within, length-take size (drop (size * place) (state .table)), length-drop (size * place) (state .table)) in
+      let first-place : j ≡ 0 = omega (arith, s .within) in
+      let within : place < places (state .table) = omega (arith, length-take size (drop (size * place) (state .table)), length-drop (size * place) (state .table)) in
+      let same-record : recordAt one 0 ≡ recordAt (state .table) place = ap recordOf (take-all size one (omega arith)) in
+      let there : SessionAt (state .table) iv place = record {
+        within = within;
+        used = sym (ap (λ (r : Record). r .used) same-record) ∙ subst (λ (i : ℕ). recordAt one i .used ≡ 1) first-place (s .used);
+        iv = sym (ap (λ (r : Record). r .iv) same-record) ∙ subst (λ (i : ℕ). recordAt one i .iv ≡ iv) first-place (s .iv);
+      } in
+      record {
+        within = within;
+        whole = size-is;
+        here = e ∙ ap At first-place;
+        same-record = same-record;
+        there = session-found (state .table) iv place (st .sessions .well) there;
+      }
+
+  -- a table of that record alone is well formed
+  pub one-well : WellFormed (records one)
+  one-well = record {
+    each = λ i h. only i (rw length-records at h);
+    apart = λ i j h k u v e. omega (arith, length-records one, length-take size (drop (size * place) (state .table)));
+  }
+    where
+      only : (i : ℕ) → i < places one → Sound (getD (records one) i freed)
+      only i h =
+          let long = length-take size (drop (size * place) (state .table)) in
+          let within : place < places (state .table) = omega (arith, long, length-drop (size * place) (state .table)) in
+          let inside : place < length (records (state .table)) = rw length-records within in
+          let zeroth : i ≡ 0 = omega (arith, long) in
+          subst (λ (r : Record). Sound r)
+          (sym (records-at one i h ∙ ap (recordAt one) zeroth ∙ ap recordOf (take-all size one (omega arith)) ∙ held n (state .table) ivs nonces st place inside))
+          (st .sessions .well .each place inside)
+
+  -- another record laid over the one record, and that one put back
+  stored : (iv : List ℕ) (r : Record) {others : List (List ℕ)} {more : List ℕ → List ℕ} → Own iv → Fits r
+      → Sessions (set (records (state .table)) place r) others more
+      → Standing n (spliced (state .table) (size * place) (spliced one (size * 0) (recordBytes r))) others more
+  stored iv r {others} {more} o f t =
+      subst (λ (l : List ℕ). Standing n (spliced (state .table) (size * place) l) others more)
+      (sym (spliced-front one (recordBytes r) ∙ fronted-whole (recordBytes r) one (length-recordBytes r (f .iv) ∙ sym (o .whole))))
+      (stored-standing n (state .table) ivs nonces st place r (rw length-records (o .within)) f t)
+
+  kept : Standing n (spliced (state .table) (size * place) one) ivs nonces
+  kept = subst (λ (l : List ℕ). Standing n l ivs nonces) (sym (respliced (state .table) (size * place) size)) st
+
+  -- the session's record freed, if it is this one
+  freed-one : (iv : List ℕ) → Standing n (spliced (state .table) (size * place) (without one iv)) ivs nonces
+  unfolding without
+  freed-one iv = by (placeOf one iv) refl
+    where
+      by : (p : Place) → placeOf one iv ≡ p → Standing n (spliced (state .table) (size * place) (with-record one p freed)) ivs nonces
+      by (At j) e =
+          let o = own iv j e in
+          subst (λ (p : Place). Standing n (spliced (state .table) (size * place) (with-record one p freed)) ivs nonces) (sym (o .here) ∙ e)
+          (stored iv freed o freed-fits (freed-sessions (records (state .table)) ivs nonces (st .sessions) place (rw length-records (o .within))))
+      by Nowhere e = kept
+
+  module _ (q : Request) where
+    -- a nonce taken
+    stepped-one : (o : Bool) → ordersNonce (q .orders .numbers .mask) ≡ o → first (requestChecks q (takenOut place state)) ≡ 0
+        → Standing n (spliced (state .table) (size * place) (steppedFor q one)) ivs (λ iv. keep (o && same (ivOf q) iv) (nonceOf q) (nonces iv))
+    stepped-one true o e =
+        let passes = accepted-passes q (takenOut place state) e in
+        let f = passes-finds q (takenOut place state) passes in
+        let mine = own (ivOf q) (f .place) (f .finds) in
+        let inside : place < length (records (state .table)) = rw length-records (mine .within) in
+        let old : recordAt one 0 ≡ getD (records (state .table)) place freed = mine .same-record ∙ held n (state .table) ivs nonces st place inside in
+        let accepts = accepts-zero (stepped q one .verdict) ∙ eq-eqb _ 0 (sym (passes-window q (takenOut place state) passes o) ∙ e) in
+        rw (ordered-table q one 0 (mine .here) o, old)
+        (stored (ivOf q) (next (nonceOf q) (getD (records (state .table)) place freed)) mine
+        (stepped-fits (getD (records (state .table)) place freed) (nonceOf q) (st .sessions .fit place inside) (f .small))
+        (stepped-sessions (records (state .table)) ivs nonces (st .sessions) place (ivOf q) (nonceOf q) (mine .there) (f .small)
+        (rw (found-step q one 0 (mine .here), old) at accepts)))
+    stepped-one false o e = rw (unordered-table q one o) kept
+
+    pub one-standing : Standing n (judgedAt place q state .state .table) ivs (λ iv. withNonce iv q (judgedAt place q state .number) (nonces iv))
+    one-standing =
+        subst (λ (k : ℕ). Standing n (spliced (state .table) (size * place) (judged q (takenOut place state) .state .table)) ivs (λ iv. withNonce iv q k (nonces iv))) (sym (judged-number q (takenOut place state)))
+        (rw (judged-table q (takenOut place state)) (by (eqb (first (requestChecks q (takenOut place state))) 0) refl))
+      where
+        refused : (t : Bool) → Standing n (spliced (state .table) (size * place) (cond t (without one (ivOf q)) one)) ivs nonces
+        refused true = freed-one (ivOf q)
+        refused false = kept
+
+        by : (t : Bool) → eqb (first (requestChecks q (takenOut place state))) 0 ≡ t
+            → Standing n (spliced (state .table) (size * place) (cond t (steppedFor q one) (cond (invalidates (first (requestChecks q (takenOut place state)))) (without one (ivOf q)) one))) ivs
+            (λ iv. keep (t && (ordersNonce (q .orders .numbers .mask) && same (ivOf q) iv)) (nonceOf q) (nonces iv))
+        by true e = stepped-one (ordersNonce (q .orders .numbers .mask)) refl (eqb-true _ 0 e)
+        by false e = refused (invalidates (first (requestChecks q (takenOut place state))))
