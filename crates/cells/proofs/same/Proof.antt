@@ -26,14 +26,5 @@ returns-2 c = let at = c .before .loop in sym (at .inv ∙ compared-all _ _ (at 
 pub same-spec : {M : Type 1} → statement M
 same-spec =
     tie.close
-    (tie.spec
-    Inv-loop
-    μ-loop
-    (λ c. sym (same-not _ _ (λ e. c .if1 .taken (ap length e))))
-    (λ c. refl)
-    (λ c. search needs)
-    (λ c. search needs)
-    (λ c. search needs)
-    (λ c. search needs)
-    loop-again
-    returns-2)
+    (tie.spec Inv-loop μ-loop (λ c. sym (same-not _ _ (λ e. c .if1 .taken (ap length e)))) (λ c. refl) (λ c. search needs) (λ c. search needs)
+    (λ c. search needs) (λ c. search needs) loop-again returns-2)
