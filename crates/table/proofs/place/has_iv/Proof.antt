@@ -26,12 +26,4 @@ returns-2 c =
     (ap (λ (l : List ℕ). same l (a .iv .now)) (sym (iv-at (a .table .now) (a .place) (start .pre))))
 
 pub has-iv-spec : {M : Type 1} → statement M
-has-iv-spec =
-    tie.close
-    (tie.spec
-    (λ c. search needs)
-    (λ c. search needs)
-    returns
-    (λ c. search needs)
-    (λ c κs. omega arith)
-    returns-2)
+has-iv-spec = tie.close (tie.spec (λ c. search needs) (λ c. search needs) returns (λ c. search needs) (λ c κs. omega arith) returns-2)
