@@ -8,7 +8,7 @@ use Prim.Native.Nat.{ℕ, zero, suc, _<_, _≤_}
 use native.Mathlib.Nat.{not-suc-le-zero, le-of-suc-le-suc}
 use native.Mathlib.Omega.{arith}
 use lib.ListN.{length, getD}
-use Rattle.armor.specs.Keys.{number, mask, free, Key, key, keys, rankOf, keyNumber, nameAt, ruleAt}
+use Rattle.armor.specs.Keys.{number, mask, free, Key, key, keys, rankOf, keyNumber, nameAt, ruleAt, keyT, keyLt, keyN, keyH, keyAh, keyR, keyS, keyC, keyIv, keyTag, keyEah}
 use Rattle.cells.specs.Runs.{same}
 use Rattle.cells.specs.Text.{codes}
 use Rattle.cells.proofs.Equality.{same-equal}
@@ -60,6 +60,12 @@ names-exactly k x h = (
   λ e. same-equal x (nameAt k) (subst (λ (j : ℕ). same x (nameAt j) ≡ true) e (found keys x (rw e h))),
   λ e. ap keyNumber e ∙ placed k h,
 )
+
+-- the names by number
+pub key-names : nameAt keyT ∷ nameAt keyLt ∷ nameAt keyN ∷ nameAt keyH ∷ nameAt keyAh ∷ nameAt keyR ∷ nameAt keyS ∷ nameAt keyC ∷ nameAt keyIv ∷ nameAt keyTag ∷ nameAt keyEah ∷ []
+    ≡ codes "t" ∷ codes "lt" ∷ codes "n" ∷ codes "h" ∷ codes "ah" ∷ codes "r" ∷ codes "s" ∷ codes "c" ∷ codes "iv" ∷ codes "tag" ∷ codes "eah" ∷ []
+unfolding nameAt keys
+key-names = refl
 
 -- the rules by number
 pub numbers : (k : ℕ) → k < 3 → ruleAt k ≡ number

@@ -23,7 +23,7 @@ use Rattle.armor.specs.Value.{Field, textObeys, pieceGood, pieceField, f
 use Rattle.armor.specs.Fields.{contents}
 use Rattle.armor.specs.InnerScan.{pieceAnswer, PieceIs, Ends, Kept, Notes, noneSeen, notedIn}
 use Rattle.armor.proofs.Numerals.{both}
-use Rattle.armor.proofs.Value.{piece-cut, grammar-some}
+use Rattle.armor.proofs.Value.{piece-field, grammar-some}
 use Rattle.armor.proofs.Keys.{keyNumber-within}
 use Rattle.armor.proofs.Pieces.{pieces-cut, taken-upTo, dropped-after, length-upTo, split-at-first}
 
@@ -228,7 +228,7 @@ module _ (v : List ℕ) (seen : Seen) (at end : ℕ) (h : Progress v seen at) (i
         fields = h .fields ++ f ∷ [];
         notes =
             subst (λ (i : ℕ). Notes v (notedIn seen i (at + start) end) (h .fields ++ f ∷ [])) (sym (a .1))
-            (notes-more v seen (h .fields) f (at + start) end (h .notes) (omega (arith, e .is)) (e .within) (ap decoded text ∙ piece-cut p (a .0) .bytes-are));
+            (notes-more v seen (h .fields) f (at + start) end (h .notes) (omega (arith, e .is)) (e .within) (ap decoded text ∙ piece-field p (a .0) .bytes-are));
         rest = h .rest ∙ ap (λ (ps : List (List ℕ)). before (h .fields) (fieldsIn ps)) (next-piece v at end inside e)
             ∙ good-next (h .fields) f p (pieces (drop (end + 1) v)) (piece-good p (a .0));
       }

@@ -23,7 +23,7 @@ use Rattle.armor.proofs.Numerals.{both, at-once}
 use Rattle.armor.proofs.Pieces.{upTo-without, split-at-first, upTo-joined, after-joined, upTo-whole, after-whole, pieces-cut, without-rest}
 
 -- what a piece has to be for it to be a field
-pub record Cut (p : List ℕ) (f : Field) : Type 0 where
+pub record IsField (p : List ℕ) (f : Field) : Type 0 where
   pub key-is : upTo colon p ≡ f .key
   pub bytes-are : decoded (after colon p) ≡ bytes (f .bytes)
   pub named : 0 < length (f .key)
@@ -37,33 +37,33 @@ obeyed-parts rule (bytes bs) e =
     let p = both (leb 1 (length bs)) (obeys rule bs) e in
     (refl, leb-true 1 (length bs) (p .0), p .1)
 
-pub piece-cut : (p : List ℕ) → pieceGood p ≡ true → Cut p (pieceField p)
+pub piece-field : (p : List ℕ) → pieceGood p ≡ true → IsField p (pieceField p)
 unfolding pieceGood textObeys
-piece-cut p e =
+piece-field p e =
     let key = upTo colon p in
     let h = both (leb 1 (length key)) (decodedObeys (ruleOf key) (decoded (after colon p))) e in
     let d = obeyed-parts (ruleOf key) (decoded (after colon p)) (h .1) in
     record { key-is = refl; bytes-are = d .0; named = leb-true 1 (length key) (h .0); held = d .1; good = d .2 }
 
-cut-by : (p : List ℕ) (f : Field) (t : Bool) → pieceGood p ≡ t → cond t (some (pieceField p)) none ≡ some f → Cut p f
-cut-by p f true g e = let same : pieceField p ≡ f = cc in subst (Cut p) same (piece-cut p g)
-cut-by p f false g e = absurd (let z : _≡_ {A = ℕ} 0 1 = cc in omega arith)
+field-by : (p : List ℕ) (f : Field) (t : Bool) → pieceGood p ≡ t → cond t (some (pieceField p)) none ≡ some f → IsField p f
+field-by p f true g e = let same : pieceField p ≡ f = cc in subst (IsField p) same (piece-field p g)
+field-by p f false g e = absurd (let z : _≡_ {A = ℕ} 0 1 = cc in omega arith)
 
-cut-of : (p : List ℕ) (f : Field) → fieldOf p ≡ some f → Cut p f
+field-of : (p : List ℕ) (f : Field) → fieldOf p ≡ some f → IsField p f
 unfolding fieldOf
-cut-of p f e = cut-by p f (pieceGood p) refl e
+field-of p f e = field-by p f (pieceGood p) refl e
 
-of-cut : (p : List ℕ) (f : Field) → Cut p f → fieldOf p ≡ some f
+of-field : (p : List ℕ) (f : Field) → IsField p f → fieldOf p ≡ some f
 unfolding fieldOf pieceGood textObeys
-of-cut p f h =
+of-field p f h =
     let named : 1 ≤ length (f .key) = h .named in
     let held : 1 ≤ length (f .bytes) = h .held in
     rw (h .key-is, h .bytes-are) (simp (le-leb 1 (length (f .key)) named, le-leb 1 (length (f .bytes)) held, h .good))
 
 -- a field's text is cut into that field
-cut-text : (f : Field) → Formed f → obeys (ruleOf (f .key)) (f .bytes) ≡ true → Cut (fieldText f) f
+text-field : (f : Field) → Formed f → obeys (ruleOf (f .key)) (f .bytes) ≡ true → IsField (fieldText f) f
 unfolding fieldText
-cut-text f h good = record {
+text-field f h good = record {
   key-is = upTo-joined colon (f .key) (encoded (f .bytes)) (h .no-colon);
   bytes-are =
       ap decoded (after-joined colon (f .key) (encoded (f .bytes)) (h .no-colon)) ∙ decoded-exactly (encoded (f .bytes)) (f .bytes) (h .of-bytes) .1 refl;
@@ -84,9 +84,9 @@ encoded-some : (bs : List ℕ) → 0 < length bs → 0 < length (encoded bs)
 encoded-some bs h = omega (arith, length-encoded bs)
 
 -- a piece without ; that is a field is that field's text
-text-cut : (p : List ℕ) (f : Field) → Without semicolon p → Cut p f → (p ≡ fieldText f) × Formed f
+field-text : (p : List ℕ) (f : Field) → Without semicolon p → IsField p f → (p ≡ fieldText f) × Formed f
 unfolding fieldText
-text-cut p f no-semicolon h =
+field-text p f no-semicolon h =
     let are-bytes = decoded-bytes (after colon p) (f .bytes) (h .bytes-are) in
     let text : after colon p ≡ encoded (f .bytes) = decoded-exactly (after colon p) (f .bytes) are-bytes .0 (h .bytes-are) in
     let there : 0 < length (after colon p) = rw text (encoded-some (f .bytes) (h .held)) in
@@ -151,7 +151,7 @@ unfolding fieldsIn textsOf allGood
 fields-texts [] h good = refl
 fields-texts (f ∷ fs) h good =
     let g = both (obeys (ruleOf (f .key)) (f .bytes)) (allGood fs) good in
-    ap₂ withField (of-cut (fieldText f) f (cut-text f (h .0) (g .0))) (fields-texts fs (h .1) (g .1))
+    ap₂ withField (of-field (fieldText f) f (text-field f (h .0) (g .0))) (fields-texts fs (h .1) (g .1))
 
 joined-some : (fs : List Field) → 0 < length fs → AllFormed fs → 0 < length (joined (textsOf fs))
 unfolding joined textsOf
@@ -241,11 +241,11 @@ unfolding textsOf allGood
 texts-by p ps fs none os e w rest h = absurd (let z : _≡_ {A = ℕ} 0 1 = cc in omega arith)
 texts-by p ps fs (some f) none e w rest h = absurd (let z : _≡_ {A = ℕ} 0 1 = cc in omega arith)
 texts-by p ps fs (some f) (some gs) e w rest h =
-    let cut = cut-of p f e in
-    let one = text-cut p f w cut in
+    let is = field-of p f e in
+    let one = field-text p f w is in
     let more = rest gs refl in
     let are : f ∷ gs ≡ fs = cc in
-    subst (Texts (p ∷ ps)) are (ap₂ _∷_ (one .0) (more .0), (one .1, more .1), at-once (cut .good) (more .2))
+    subst (Texts (p ∷ ps)) are (ap₂ _∷_ (one .0) (more .0), (one .1, more .1), at-once (is .good) (more .2))
 
 texts-of : (ps : List (List ℕ)) → AllWithout ps → (fs : List Field) → fieldsIn ps ≡ some fs → Texts ps fs
 unfolding fieldsIn textsOf allGood

@@ -1,5 +1,5 @@
 -- The keys that have a meaning, and the rule for what each holds: document 01, The X-S-Armor value.
--- A key goes by its place in the list `keys`; `names-exactly` of proofs/Keys.antt says that a name has a key's number exactly if it is that key's.
+-- A key goes by its place in the list `keys`: `key-names` of proofs/Keys.antt says which name each number has, and `names-exactly` that no other name has it.
 -- Assumes nothing.
 use mathlib.Core.Bool.{Bool, true, cond, _&&_}
 use mathlib.Core.List.{List, [], _∷_}

@@ -1,9 +1,8 @@
 // The keys that have a meaning, and the rule for what each holds.
 ghost use mathlib.Core.Path.{_≡_};
-ghost use mathlib.Core.List.{[], _∷_};
-ghost use Prim.Native.Nat.{_≤_};
-ghost use Rattle.cells.specs.Runs.{same};
-ghost use Rattle.armor.specs.Keys.{keyNumber, number, mask, sized, free, ruleAt};
+ghost use Prim.Native.Nat.{_+_, _≤_};
+ghost use lib.ListN.{drop};
+ghost use Rattle.armor.specs.Keys.{keys, rankOf, keyNumber, number, mask, sized, free, ruleAt};
 ghost use Rattle.armor.specs.Value.{textObeys};
 use super::numeral;
 use base64::Decoded;
@@ -38,70 +37,47 @@ pub const OTHER: usize = 11;
 pub fn key_number(name: &[u8]) -> usize
     ensures { λ r. ⌜ r ≡ keyNumber (now (name .entry)) ⌝ }
 {
-    let len = name.len();
-    if len == 1 {
-        return one_letter(name[0]);
+    if cells::same(name, b"t") {
+        return T;
     }
-    if len == 2 {
-        return two_letters(name[0], name[1]);
-    }
-    if len == 3 {
-        return three_letters(name[0], name[1], name[2]);
-    }
-    OTHER
-}
-
-fn one_letter(a: u8) -> usize
-    ensures { λ r. ⌜ r ≡ keyNumber (a ∷ []) ⌝ }
-{
-    match a {
-        b't' => T,
-        b'n' => N,
-        b'h' => H,
-        b'r' => R,
-        b's' => S,
-        b'c' => C,
-        _ => OTHER,
-    }
-}
-
-fn two_letters(a: u8, b: u8) -> usize
-    ensures { λ r. ⌜ r ≡ keyNumber (a ∷ b ∷ []) ⌝ }
-{
-    if is_two(a, b, b'l', b't') {
+    if cells::same(name, b"lt") {
         return LT;
     }
-    if is_two(a, b, b'a', b'h') {
+    if cells::same(name, b"n") {
+        return N;
+    }
+    if cells::same(name, b"h") {
+        return H;
+    }
+    if cells::same(name, b"ah") {
         return AH;
     }
-    if is_two(a, b, b'i', b'v') {
+    if cells::same(name, b"r") {
+        return R;
+    }
+    later_key(name)
+}
+
+// The same for a name that is none of the first six.
+fn later_key(name: &[u8]) -> usize
+    ensures { λ r. ⌜ r ≡ 6 + rankOf (drop 6 keys) (now (name .entry)) ⌝ }
+{
+    if cells::same(name, b"s") {
+        return S;
+    }
+    if cells::same(name, b"c") {
+        return C;
+    }
+    if cells::same(name, b"iv") {
         return IV;
     }
-    OTHER
-}
-
-fn is_two(a: u8, b: u8, x: u8, y: u8) -> bool
-    ensures { λ r. ⌜ r ≡ same (a ∷ b ∷ []) (x ∷ y ∷ []) ⌝ }
-{
-    (b == y) & (a == x)
-}
-
-fn three_letters(a: u8, b: u8, c: u8) -> usize
-    ensures { λ r. ⌜ r ≡ keyNumber (a ∷ b ∷ c ∷ []) ⌝ }
-{
-    if is_three(a, b, c, b't', b'a', b'g') {
+    if cells::same(name, b"tag") {
         return TAG;
     }
-    if is_three(a, b, c, b'e', b'a', b'h') {
+    if cells::same(name, b"eah") {
         return EAH;
     }
     OTHER
-}
-
-fn is_three(a: u8, b: u8, c: u8, x: u8, y: u8, z: u8) -> bool
-    ensures { λ r. ⌜ r ≡ same (a ∷ b ∷ c ∷ []) (x ∷ y ∷ z ∷ []) ⌝ }
-{
-    is_two(b, c, y, z) & (a == x)
 }
 
 // Whether a text encodes from low to high bytes.

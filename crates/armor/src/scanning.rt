@@ -82,6 +82,7 @@ fn past(at: usize, len: usize) -> usize
     len
 }
 
+// The key of a piece and where its text starts.
 fn read_piece(text: &[u8]) -> Piece
     ensures { λ r. ⌜ PieceIs (now (text .entry)) r ⌝ }
 {
@@ -103,7 +104,7 @@ fn piece_end(value: &[u8], at: usize) -> usize
     at + find(&value[at..], b';')
 }
 
-// The grammar of a value, piece by piece.
+// Whether a value keeps its grammar, and what its fields are.
 pub fn scan_value(value: &[u8]) -> ScanRead
     requires { ⌜ length (now value) ≤ 4096 ⌝ }
     ensures { λ r. ⌜ Scanned (now (value .entry)) r ⌝ }

@@ -5,6 +5,7 @@ use mathlib.Core.Bool.{true, false}
 use mathlib.Core.List.{List, [], _∷_, _++_}
 use Prim.Native.Nat.{ℕ}
 use lib.Dec.{lit≤}
+use Rattle.cells.specs.Numbers.{number}
 use Rattle.base64.specs.Decoding.{bytes, decoded}
 use Rattle.netstring.specs.Netstring.{netstring}
 use Rattle.netstring.proofs.Examples.{nothing}
@@ -33,12 +34,12 @@ host = codes "Host:a" ++ (0x0D ∷ 0x0A ∷ [])
 pub record Cases : Type 0 where
   -- netstring of nothing: `0:,`
   pub one : netstring [] ≡ codes "0:,"
-  -- base64 `Kb+4` is 2736056
-  pub two : decoded (codes "Kb+4") ≡ bytes (numberBytes 2736056)
+  -- base64 `Kb+4` is 2736056: written so, and read so
+  pub two : (decoded (codes "Kb+4") ≡ bytes (numberBytes 2736056)) × (number (numberBytes 2736056) ≡ 2736056)
   -- `AQQ=` is the mask 4
-  pub three : decoded (codes "AQQ=") ≡ bytes (maskBytes 4)
+  pub three : (decoded (codes "AQQ=") ≡ bytes (maskBytes 4)) × (maskOf (maskBytes 4) ≡ 4)
   -- `WcBGQw==` is 1505773123
-  pub four : decoded (codes "WcBGQw==") ≡ bytes (numberBytes 1505773123)
+  pub four : (decoded (codes "WcBGQw==") ≡ bytes (numberBytes 1505773123)) × (number (numberBytes 1505773123) ≡ 1505773123)
   -- `Aw1z7w==` is the mask with bytes 0D 73 EF
   pub five : (decoded (codes "Aw1z7w==") ≡ bytes (3 ∷ 0x0D ∷ 0x73 ∷ 0xEF ∷ []))
       × (maskBytes (maskOf (3 ∷ 0x0D ∷ 0x73 ∷ 0xEF ∷ [])) ≡ 3 ∷ 0x0D ∷ 0x73 ∷ 0xEF ∷ [])

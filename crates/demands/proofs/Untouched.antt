@@ -18,7 +18,7 @@ use Rattle.gate.specs.Judge.{judged}
 use Rattle.gate.specs.End.{ended}
 use Rattle.demands.specs.History.{Call, setting-up, judging, ending, answer}
 use Rattle.demands.specs.Effects.{TenOrThirteen, Kept, SetupEffects, JudgeEffects, EndEffects}
-use Rattle.demands.proofs.Untouched.Setups.{setup-effects}
+use Rattle.demands.proofs.Untouched.Setups.{setup-effects, setup-length}
 use Rattle.demands.proofs.Untouched.Requests.{judge-effects}
 use Rattle.demands.proofs.Untouched.Endings.{end-effects}
 
@@ -31,6 +31,10 @@ judge = judge-effects
 
 pub end : (iv : List ℕ) (state : State) → EndEffects iv state (ended iv state)
 end = end-effects
+
+-- a setup's reply is never longer than 459 bytes
+pub reply-short : (s : Setup) (state : State) → setUp s state .length ≤ 459
+reply-short = setup-length
 
 -- what is lent to a call for its reply; no buffer is lent to an ending
 abbrev pub bufferOf : Call → List ℕ

@@ -99,7 +99,7 @@ pub record SetupWitnesses : Type 0 where
   pub twenty : setUp (asking 2 4294967295 offer) (empty 1) .number ≡ 20
 
 pub setup-witnesses : SetupWitnesses
-unfolding setUp setupChecks S.entryPart offerPart lastingPart roomPart entryChecks stateChecks setupFits tableFits ordersGood goodExtra extraNames goodNames wellFormed fitting sound same bit records recordOf recordBytes bytesOf number codes Value.grammar Value.fieldsOf Value.fieldsIn Value.fieldOf Value.allGood Value.fieldGood Value.carried Pieces.pieces Pieces.upTo Pieces.after decoded full two one ending coded sixBits placeIn alphabet counted obeys ruleOf ruleAt keyNumber rankOf keys isMask isNumeral plain setupFields times contents offered the maskOf expiryOf limitsOf found taken
+unfolding setUp setupChecks S.entryPart offerPart lastingPart roomPart entryChecks stateChecks setupFits tableFits ordersGood goodExtra extraNames goodNames wellFormed fitting sound same bit records recordOf recordBytes bytesOf number codes Value.grammar Value.fieldsIn Value.fieldOf Value.pieceGood Value.textObeys Value.carried Pieces.pieces Pieces.upTo Pieces.after decoded full two one ending coded sixBits placeIn alphabet counted obeys ruleOf ruleAt keyNumber rankOf keys isMask isNumeral plain setupFields times contents offered the maskOf expiryOf limitsOf found taken
 setup-witnesses = record {
   zero = refl;
   one = refl;
@@ -152,7 +152,7 @@ pub record RequestWitnesses : Type 0 where
   pub nine : judged (sending 2 fields []) (empty 1) .number ≡ 9
 
 pub request-witnesses : RequestWitnesses
-unfolding judged answered requestChecks entryPart readingPart coveringPart tokenPart signaturePart sessionPart noncePart entryChecks stateChecks requestFits lentFits tableFits ordersGood goodExtra extraNames goodNames wellFormed fitting sound same records recordOf number codes Value.grammar Value.fieldsOf Value.fieldsIn Value.fieldOf Value.allGood Value.fieldGood Value.carried Pieces.pieces Pieces.upTo Pieces.after decoded full two one ending coded sixBits placeIn alphabet counted obeys ruleOf ruleAt keyNumber rankOf keys isMask isNumeral isNumber plain requestFields rightTimes times contents nonceBit the maskOf fieldsOf goodBlock linesIn linesUpTo startsLine frontLine lineText textOf goodLine valueByte isToken tokenByte hasByte all leading twice repeated timesNamed sameName lower coveredNames chosen headerNames asOrdered maskBytes numberBytes shortest bytesOf openedOf ivOf
+unfolding judged answered requestChecks entryPart readingPart coveringPart tokenPart signaturePart sessionPart noncePart entryChecks stateChecks requestFits lentFits tableFits ordersGood goodExtra extraNames goodNames wellFormed fitting sound same records recordOf number codes Value.grammar Value.fieldsIn Value.fieldOf Value.pieceGood Value.textObeys Value.carried Pieces.pieces Pieces.upTo Pieces.after decoded full two one ending coded sixBits placeIn alphabet counted obeys ruleOf ruleAt keyNumber rankOf keys isMask isNumeral isNumber plain requestFields rightTimes times contents nonceBit the maskOf fieldsOf goodBlock linesIn linesUpTo startsLine frontLine lineText textOf goodLine valueByte isToken tokenByte hasByte all leading twice repeated timesNamed sameName lower coveredNames chosen headerNames asOrdered maskBytes numberBytes shortest bytesOf openedOf ivOf
 request-witnesses = record {
   one = refl;
   two = refl;

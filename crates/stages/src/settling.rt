@@ -68,16 +68,7 @@ pub fn settle<'a>(
     let lt = request.lt;
     let n = request.n;
     let ordered = numbers.mask % 2 == 1;
-    let admitted = admitting::admit(
-        place,
-        held,
-        clock,
-        t,
-        lt,
-        limits,
-        ordered,
-        n,
-    );
+    let admitted = admitting::admit(place, held, clock, t, lt, limits, ordered, n);
     decided(admitted.number, place, token, ordered, admitted.next)
 }
 

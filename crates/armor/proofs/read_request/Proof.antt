@@ -38,13 +38,6 @@ returns-3 c =
 
 pub read-request-spec : {M : Type 1} → statement M
 read-request-spec =
-    tie.close
-    (tie.spec
-    (λ c κs. search needs)
-    (λ c κs. search needs)
-    returns
-    (λ c κs. c .before .before .before .scan-value .ensures .sound (not-false _ (c .before .if1 .left)))
-    (λ c κs. search needs)
-    returns-2
-    request-of-requires
-    returns-3)
+    tie.close (tie.spec (λ c κs. search needs) (λ c κs. search needs) returns
+    (λ c κs. c .before .before .before .scan-value .ensures .sound (not-false _ (c .before .if1 .left))) (λ c κs. search needs) returns-2
+    request-of-requires returns-3)

@@ -36,11 +36,4 @@ returns-3 c =
 
 pub read-setup-spec : {M : Type 1} → statement M
 read-setup-spec =
-    tie.close
-    (tie.spec
-    (λ c κs. search needs)
-    returns
-    (λ c. search needs)
-    returns-2
-    mask-in-requires
-    returns-3)
+    tie.close (tie.spec (λ c κs. search needs) returns (λ c. search needs) returns-2 mask-in-requires returns-3)

@@ -9,11 +9,4 @@ returns c = rw (← (c .before .before .six-bits .ensures), ← (c .before .six-
 
 pub byte-spec : {M : Type 1} → statement M
 byte-spec =
-    tie.close
-    (tie.spec
-    (λ c. search needs)
-    (λ c κs. search needs)
-    (λ c. search needs)
-    (λ c κs. search needs)
-    (λ c κs. search needs)
-    returns)
+    tie.close (tie.spec (λ c. search needs) (λ c κs. search needs) (λ c. search needs) (λ c κs. search needs) (λ c κs. search needs) returns)

@@ -39,18 +39,6 @@ returns c =
 
 pub encode-spec : {M : Type 1} → statement M
 encode-spec =
-    tie.close
-    (tie.spec
-    Inv-loop
-    μ-loop
-    (λ c κs. tt)
-    (λ c. omega arith)
-    (λ c. omega arith)
-    (λ c. (omega arith, refl, refl))
-    (λ c κs. c .before .before .before .alphabet .ensures)
-    (λ c. omega arith)
-    (λ c. omega arith)
-    (λ c. omega arith)
-    loop-again
-    (λ c. omega arith)
+    tie.close (tie.spec Inv-loop μ-loop (λ c κs. tt) (λ c. omega arith) (λ c. omega arith) (λ c. (omega arith, refl, refl))
+    (λ c κs. c .before .before .before .alphabet .ensures) (λ c. omega arith) (λ c. omega arith) (λ c. omega arith) loop-again (λ c. omega arith)
     returns)

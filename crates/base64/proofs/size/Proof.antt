@@ -50,20 +50,5 @@ returns-3 c =
 
 pub size-spec : {M : Type 1} → statement M
 size-spec =
-    tie.close
-    (tie.spec
-    Inv-loop
-    μ-loop
-    loop-holds
-    (λ c. omega arith)
-    (λ c. omega arith)
-    (λ c. omega arith)
-    (λ c. omega arith)
-    group-size-requires
-    returns
-    (λ c. omega (arith, c .before .group-size .ensures .1))
-    (λ c. omega arith)
-    (λ c. omega arith)
-    loop-again
-    returns-2
-    returns-3)
+    tie.close (tie.spec Inv-loop μ-loop loop-holds (λ c. omega arith) (λ c. omega arith) (λ c. omega arith) (λ c. omega arith) group-size-requires
+    returns (λ c. omega (arith, c .before .group-size .ensures .1)) (λ c. omega arith) (λ c. omega arith) loop-again returns-2 returns-3)

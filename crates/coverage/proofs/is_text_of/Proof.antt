@@ -32,11 +32,4 @@ returns c =
 
 pub is-text-of-spec : {M : Type 1} → statement M
 is-text-of-spec =
-    tie.close
-    (tie.spec
-    (λ c. search needs)
-    (λ c κs. search needs)
-    array-share-prefix-out
-    slice-aggregate-same
-    (λ c κs. search needs)
-    returns)
+    tie.close (tie.spec (λ c. search needs) (λ c κs. search needs) array-share-prefix-out slice-aggregate-same (λ c κs. search needs) returns)

@@ -1,25 +1,25 @@
 -- What a request carries that passed checks 1 to 9: h, ah and eah as the orders say, n exactly if they order nonces, and numbers of 32 bits.
 -- Assumes nothing.
-use mathlib.Core.Path.{_≡_, ap, subst, _∙_}
+use mathlib.Core.Path.{_≡_, ap, _∙_}
 use mathlib.Core.Bool.{true}
 use mathlib.Core.List.{List, [], _∷_}
-use Prim.Native.Nat.{ℕ, zero, suc, _%_, _<_, _^_}
+use Prim.Native.Nat.{ℕ, _%_, _≤_, _<_, _^_}
 use native.Mathlib.Omega.{arith}
 use borrow.Author.Tests.{eqb-true, ltb-true}
-use lib.Dec.{eqb, lit<}
+use lib.Dec.{eqb}
+use lib.ListN.{length}
 use Rattle.cells.specs.Runs.{same}
 use Rattle.cells.specs.Numbers.{number}
 use Rattle.cells.proofs.Equality.{same-equal}
 use Rattle.armor.specs.declared.Answer.{Answer}
-use Rattle.armor.specs.Numerals.{isNumber, maskBytes, maskOf, hashMask}
-use Rattle.armor.specs.Keys.{Rule, obeys, keyT, keyLt, keyN, keyH, keyAh, keyEah}
+use Rattle.armor.specs.Numerals.{maskBytes, maskOf, hashMask}
+use Rattle.armor.specs.Keys.{keyT, keyLt, keyN, keyH, keyAh, keyEah}
 use Rattle.armor.specs.Value.{Field, carried}
 use Rattle.armor.specs.Fields.{times, the, nonceBit}
 use Rattle.armor.specs.InnerAnswers.{requestAnswer}
-use Rattle.armor.proofs.Numerals.{number-fits, maskOf-maskBytes}
-use Rattle.armor.proofs.Keys.{numbers}
-use Rattle.armor.proofs.Fields.{grammar-good, obeyed-once, none-held}
-use Rattle.armor.proofs.Carried.{carried-bytes, request-given, request-has, nonce-times}
+use Rattle.armor.proofs.Numerals.{number-small, maskOf-maskBytes}
+use Rattle.armor.proofs.Fields.{none-held}
+use Rattle.armor.proofs.Carried.{carried-bytes, request-given, request-sizes, nonce-times}
 use Rattle.orders.specs.Orders.{ordersGood}
 use Rattle.table.proofs.Tests.{both}
 use Rattle.coverage.specs.Coverage.{asOrdered, extraAsOrdered}
@@ -28,20 +28,9 @@ use Rattle.stages.specs.Request.{Request}
 use Rattle.stages.specs.Parts.{fieldsOf, nonceOf, timeOf, lastTimeOf}
 use Rattle.demands.proofs.Shared.Passed.{Passed}
 
--- a number that a good value carries once
-module _ (v : List ℕ) (good : requestAnswer v ≡ Answer.Good) where
-  fits : (k : ℕ) → k < 3 → times k (carried v) ≡ 1 → number (the k (carried v)) < 2 ^ 32
-  unfolding obeys isNumber
-  fits k l once =
-      let given = request-given v good .0 in
-      number-fits 4 (the k (carried v)) (carried-bytes v (carried v) k given)
-      (subst (λ (r : Rule). obeys r (the k (carried v)) ≡ true) (numbers k l) (obeyed-once (carried v) k (grammar-good v (carried v) given) once))
-
-  nonce-fits : (k : ℕ) → times keyN (carried v) ≡ k → k < 2 → number (the keyN (carried v)) < 2 ^ 32
-  unfolding number
-  nonce-fits zero e l = rw (none-held keyN (carried v) e) (lit< tt)
-  nonce-fits (suc zero) e l = fits keyN (lit< tt) e
-  nonce-fits (suc (suc k)) e l = absurd (omega arith)
+-- the numbers that a good value carries have 32 bits
+small : (v : List ℕ) → requestAnswer v ≡ Answer.Good → (k : ℕ) → length (the k (carried v)) ≤ 4 → number (the k (carried v)) < 2 ^ 32
+small v good k few = number-small (the k (carried v)) (carried-bytes v (carried v) k (request-given v good .0)) few
 
 extra-ordered : (extra : List ℕ) (fs : List Field) → extraAsOrdered extra fs ≡ true → the keyEah fs ≡ extra
 extra-ordered [] fs e = none-held keyEah fs (eqb-true (times keyEah fs) 0 e)
@@ -90,12 +79,12 @@ module _ (q : Request) (state : State) (p : Passed q state) where
 
   pub time-small : timeOf q < 2 ^ 32
   unfolding timeOf fieldsOf
-  time-small = fits (q .value) (p .value) keyT (lit< tt) (request-has (q .value) (p .value) .t)
+  time-small = small (q .value) (p .value) keyT (request-sizes (q .value) (p .value) .t)
 
   pub last-time-small : lastTimeOf q < 2 ^ 32
   unfolding lastTimeOf fieldsOf
-  last-time-small = fits (q .value) (p .value) keyLt (lit< tt) (request-has (q .value) (p .value) .lt)
+  last-time-small = small (q .value) (p .value) keyLt (request-sizes (q .value) (p .value) .lt)
 
   pub nonce-small : nonceOf q < 2 ^ 32
   unfolding nonceOf fieldsOf
-  nonce-small = nonce-fits (q .value) (p .value) (q .orders .numbers .mask % 2) nonce-ordered (omega arith)
+  nonce-small = small (q .value) (p .value) keyN (request-sizes (q .value) (p .value) .n)

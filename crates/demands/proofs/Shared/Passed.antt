@@ -12,6 +12,7 @@ use Rattle.armor.specs.declared.Answer.{Answer}
 use Rattle.armor.specs.Value.{Field, grammar, carried}
 use Rattle.armor.specs.Fields.{requestFields}
 use Rattle.armor.specs.InnerAnswers.{requestAnswer}
+use Rattle.armor.proofs.Scan.{kept-is}
 use Rattle.armor.proofs.Requests.{request-by}
 use Rattle.orders.specs.Orders.{ordersGood}
 use Rattle.lines.specs.Lines.{goodBlock}
@@ -54,9 +55,8 @@ pub record Passed (q : Request) (state : State) : Type 0 where
 
 value-good : (v : List ℕ) (o : Option (List Field)) → grammar v ≡ o → missing o ≡ false → requestFields (carried v) ≡ true
     → requestAnswer v ≡ Answer.Good
-unfolding carried
 value-good v none p m f = absurd (true≢false m)
-value-good v (some fs) p m f = request-by v true (rw p) f
+value-good v (some fs) p m f = request-by v true (kept-is v fs p) f
 
 pub all-passed : (q : Request) (state : State) → first (entryPart q state) ≡ 0 → first (readingPart q) ≡ 0 → given (openedOf q) ≡ true → Passed q state
 unfolding entryPart readingPart coveringPart fieldsOf

@@ -2,11 +2,19 @@
 -- Assumes nothing.
 use mathlib.Core.Path.{_≡_, refl, subst}
 use mathlib.Core.Bool.{Bool, true, false, cond}
-use mathlib.Core.List.{List, List·Memᴰ, List·Memᴰ·head}
-use Prim.Native.Nat.{ℕ}
+use mathlib.Core.List.{List, [], List·Memᴰ, List·Memᴰ·head}
+use Prim.Native.Nat.{ℕ, _≤_, _<_, _^_}
 use native.Mathlib.Omega.{arith}
 use borrow.Author.Tests.{eqb-true, eqb-false}
 use lib.Dec.{eqb}
+use lib.ListN.{length}
+use Rattle.gcm.specs.Gcm.{sealed}
+use Rattle.gcm.proofs.Opening.{length-crypted, length-tag}
+use Rattle.names.proofs.Sizes.{short-extra}
+use Rattle.orders.proofs.Orders.{good-extra}
+use Rattle.token.specs.Token.{tokenText, sealedToken}
+use Rattle.token.proofs.Text.{Sized, length-text}
+use Rattle.reply.proofs.Lengths.{setup-short}
 use Rattle.table.specs.Record.{begun}
 use Rattle.table.proofs.Sessions.{begun-fits}
 use Rattle.gate.specs.Calls.{Setup}
@@ -18,6 +26,7 @@ use Rattle.gate.specs.Setup.{expiryOf, offerPart, lastingPart, roomPart, setupC
 use Rattle.demands.specs.Order.{Exactly}
 use Rattle.demands.proofs.Shared.Order.{first-among, first-exactly}
 use Rattle.gate.proofs.Numbers.{setup-numbered}
+use Rattle.gate.proofs.Starting.{Lent, lent, opened}
 use Rattle.demands.proofs.Shared.Stored.{replaced, taken-within}
 use Rattle.demands.proofs.Shared.Answers.{begun-table, fronted-replied}
 use Rattle.demands.proofs.Shared.Passed.{Takes, setup-takes}
@@ -58,3 +67,27 @@ pub setup-effects : (s : Setup) (state : State) → SetupEffects s state (setUp 
 unfolding setUp setupChecks S.entryPart offerPart lastingPart roomPart entryChecks stateChecks
 setup-effects s state =
     setup-by s state (first (setupChecks s state)) (first-among (setupChecks s state)) (first-exactly (setupChecks s state) (setup-numbered s state)) (setup-takes s state)
+
+token-sized : (s : Setup) → Lent s → expiryOf s < 2 ^ 32 → Sized (S.newToken s .key) (S.newToken s .id) (S.newToken s .expiry)
+unfolding S.newToken
+token-sized s size small = record { key-size = size .session-key; id-some = size .session-id-some; id-fits = size .session-id-fits; in-range = small }
+
+-- the reply is short
+reply-within : (s : Setup) (state : State) → first (setupChecks s state) ≡ 0 → length (replyOf s) ≤ 459
+unfolding replyOf S.sealedOf sealedToken sealed
+reply-within s state e =
+    let entered = opened s state e in
+    let size = lent s state (entered .sizes) in
+    let text = length-text (S.newToken s) (token-sized s size (setup-takes s state e .small)) in
+    setup-short _ (s .iv) _ (s .session-key) _ _
+    (omega (arith, length-crypted (s .server-key) (s .iv) (tokenText (S.newToken s)), text .1))
+    (size .iv) (length-tag (s .server-key) (s .iv) [] _) (size .session-key) (short-extra _ (good-extra _ (entered .orders)))
+
+pub setup-length : (s : Setup) (state : State) → setUp s state .length ≤ 459
+unfolding setUp
+setup-length s state = by (eqb (first (setupChecks s state)) 0) refl
+  where
+    by : (t : Bool) → eqb (first (setupChecks s state)) 0 ≡ t
+        → cond t (replied 0 (replyOf s) (s .reply) (holding (S.withSession s (state .table)))) (untouched (first (setupChecks s state)) (s .reply) state) .length ≤ 459
+    by true e = reply-within s state (eqb-true _ 0 e)
+    by false e = omega arith

@@ -24,13 +24,5 @@ returns c =
 
 pub gate-judge-spec : {M : Type 1} → statement M
 gate-judge-spec =
-    tie.close
-    (tie.spec
-    (λ c κs. search needs)
-    (λ c. search needs)
-    (λ c κs. search needs)
-    (λ c κs. c .before .decide .ensures .within)
-    answer-requires
-    (λ c. search needs)
-    (λ c. search needs)
-    returns)
+    tie.close (tie.spec (λ c κs. search needs) (λ c. search needs) (λ c κs. search needs) (λ c κs. c .before .decide .ensures .within) answer-requires
+    (λ c. search needs) (λ c. search needs) returns)

@@ -20,14 +20,7 @@ abbrev μ-loop : tie.MeasureT-loop
 
 pub name-end-spec : {M : Type 1} → statement M
 name-end-spec =
-    tie.close
-    (tie.spec
-    Inv-loop
-    μ-loop
-    (λ c. passed-none noComma _ _ (c .pre))
-    (λ c. search needs)
-    (λ c. passed-stop noComma _ _ _ (c .before .before .before .loop .inv) (search needs) (ap not (eq-eqb _ _ (c .if1 .taken))))
-    (λ c. search needs)
-    (λ c. search needs)
-    (λ c. passed-more noComma _ _ _ (c .before .before .before .loop .inv) (search needs) (ap not (ne-eqb _ _ (c .if1 .left))))
+    tie.close (tie.spec Inv-loop μ-loop (λ c. passed-none noComma _ _ (c .pre)) (λ c. search needs)
+    (λ c. passed-stop noComma _ _ _ (c .before .before .before .loop .inv) (search needs) (ap not (eq-eqb _ _ (c .if1 .taken)))) (λ c. search needs)
+    (λ c. search needs) (λ c. passed-more noComma _ _ _ (c .before .before .before .loop .inv) (search needs) (ap not (ne-eqb _ _ (c .if1 .left))))
     (λ c. passed-end noComma _ _ _ (c .before .loop .inv) (c .loop-test .left)))

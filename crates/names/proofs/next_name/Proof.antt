@@ -43,15 +43,5 @@ loop-again c =
 
 pub next-name-spec : {M : Type 1} → statement M
 next-name-spec =
-    tie.close
-    (tie.spec
-    Inv-loop
-    μ-loop
-    returns
-    (λ c. (omega arith, record { is = refl }))
-    (λ c κs. search needs)
-    returns-2
-    (λ c. search needs)
-    (λ c. search needs)
-    loop-again
-    (λ c. reached-end (c .before .loop .inv .1) (search needs) ∙ chosen-end _))
+    tie.close (tie.spec Inv-loop μ-loop returns (λ c. (omega arith, record { is = refl })) (λ c κs. search needs) returns-2 (λ c. search needs)
+    (λ c. search needs) loop-again (λ c. reached-end (c .before .loop .inv .1) (search needs) ∙ chosen-end _))

@@ -40,18 +40,5 @@ returns-3 c =
 
 pub same-name-spec : {M : Type 1} → statement M
 same-name-spec =
-    tie.close
-    (tie.spec
-    Inv-loop
-    μ-loop
-    (λ c. sym (other-length _ _ (c .if1 .taken)))
-    (λ c. (omega arith, search needs, refl))
-    (λ c. search needs)
-    (λ c κs. search needs)
-    (λ c. search needs)
-    (λ c κs. search needs)
-    returns-2
-    (λ c. search needs)
-    (λ c. search needs)
-    loop-again
-    returns-3)
+    tie.close (tie.spec Inv-loop μ-loop (λ c. sym (other-length _ _ (c .if1 .taken))) (λ c. (omega arith, search needs, refl)) (λ c. search needs)
+    (λ c κs. search needs) (λ c. search needs) (λ c κs. search needs) returns-2 (λ c. search needs) (λ c. search needs) loop-again returns-3)

@@ -23,11 +23,4 @@ returns-2 c = simp (← (c .before .before .good-extra .ensures), c .if1 .left)
 
 pub check-spec : {M : Type 1} → statement M
 check-spec =
-    tie.close
-    (tie.spec
-    (λ c κs. search needs)
-    (λ c κs. search needs)
-    (λ c κs. search needs)
-    (λ c κs. search needs)
-    returns
-    returns-2)
+    tie.close (tie.spec (λ c κs. search needs) (λ c κs. search needs) (λ c κs. search needs) (λ c κs. search needs) returns returns-2)

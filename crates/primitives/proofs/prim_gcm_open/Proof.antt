@@ -40,14 +40,5 @@ returns-3 c =
 
 pub prim-gcm-open-spec : {M : Type 1} → statement M
 prim-gcm-open-spec =
-    tie.close
-    (tie.spec
-    (λ c κs. search needs)
-    returns
-    unseal-requires
-    (λ c. search needs)
-    (λ c. search needs)
-    (λ c. search needs)
-    returns-2
-    (λ c. search needs)
-    returns-3)
+    tie.close (tie.spec (λ c κs. search needs) returns unseal-requires (λ c. search needs) (λ c. search needs) (λ c. search needs) returns-2
+    (λ c. search needs) returns-3)

@@ -32,10 +32,4 @@ returns-2 c =
 
 pub put-extra-spec : {M : Type 1} → statement M
 put-extra-spec =
-    tie.close
-    (tie.spec
-    returns
-    (λ c. search needs)
-    (λ c κs. search needs)
-    (λ c. search needs)
-    returns-2)
+    tie.close (tie.spec returns (λ c. search needs) (λ c κs. search needs) (λ c. search needs) returns-2)

@@ -29,11 +29,4 @@ returns-2 c =
 
 pub fields-good-spec : {M : Type 1} → statement M
 fields-good-spec =
-    tie.close
-    (tie.spec
-    (λ c κs. search needs)
-    returns
-    mask-in-requires
-    (λ c. search needs)
-    (λ c κs. search needs)
-    returns-2)
+    tie.close (tie.spec (λ c κs. search needs) returns mask-in-requires (λ c. search needs) (λ c κs. search needs) returns-2)

@@ -26,11 +26,4 @@ returns c =
 
 pub number-in-spec : {M : Type 1} → statement M
 number-in-spec =
-    tie.close
-    (tie.spec
-    (λ c. search needs)
-    (λ c κs. search needs)
-    (λ c. search needs)
-    slice-aggregate-number32
-    number32-requires
-    returns)
+    tie.close (tie.spec (λ c. search needs) (λ c κs. search needs) (λ c. search needs) slice-aggregate-number32 number32-requires returns)

@@ -58,18 +58,5 @@ returns c =
 
 pub request-of-spec : {M : Type 1} → statement M
 request-of-spec =
-    tie.close
-    (tie.spec
-    (λ c. search needs)
-    content-requires
-    (λ c. search needs)
-    content-requires-2
-    (λ c. search needs)
-    content-requires-3
-    (λ c. search needs)
-    content-requires-4
-    (λ c κs. search needs)
-    (λ c. search needs)
-    (λ c. search needs)
-    (λ c. search needs)
-    returns)
+    tie.close (tie.spec (λ c. search needs) content-requires (λ c. search needs) content-requires-2 (λ c. search needs) content-requires-3
+    (λ c. search needs) content-requires-4 (λ c κs. search needs) (λ c. search needs) (λ c. search needs) (λ c. search needs) returns)

@@ -47,18 +47,5 @@ returns-3 c =
 
 pub is-mask-spec : {M : Type 1} → statement M
 is-mask-spec =
-    tie.close
-    (tie.spec
-    (λ c. search needs)
-    (λ c κs. search needs)
-    (λ c. search needs)
-    returns
-    returns-2
-    (λ c. search needs)
-    (λ c κs. search needs)
-    (λ c. search needs)
-    (λ c. search needs)
-    (λ c. search needs)
-    part-is-numeral-end
-    (λ c κs. search needs)
-    returns-3)
+    tie.close (tie.spec (λ c. search needs) (λ c κs. search needs) (λ c. search needs) returns returns-2 (λ c. search needs) (λ c κs. search needs)
+    (λ c. search needs) (λ c. search needs) (λ c. search needs) part-is-numeral-end (λ c κs. search needs) returns-3)

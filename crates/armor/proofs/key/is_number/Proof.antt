@@ -47,13 +47,5 @@ returns-2 c =
 
 pub is-number-spec : {M : Type 1} → statement M
 is-number-spec =
-    tie.close
-    (tie.spec
-    (λ c. search needs)
-    (λ c κs. search needs)
-    (λ c. search needs)
-    returns
-    array-share-prefix-out
-    slice-aggregate-is-numeral
-    (λ c κs. search needs)
-    returns-2)
+    tie.close (tie.spec (λ c. search needs) (λ c κs. search needs) (λ c. search needs) returns array-share-prefix-out slice-aggregate-is-numeral
+    (λ c κs. search needs) returns-2)

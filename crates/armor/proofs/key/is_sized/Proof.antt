@@ -18,10 +18,4 @@ returns-2 c =
 
 pub is-sized-spec : {M : Type 1} → statement M
 is-sized-spec =
-    tie.close
-    (tie.spec
-    (λ c κs. search needs)
-    (λ c. search needs)
-    (λ c. search needs)
-    returns
-    returns-2)
+    tie.close (tie.spec (λ c κs. search needs) (λ c. search needs) (λ c. search needs) returns returns-2)

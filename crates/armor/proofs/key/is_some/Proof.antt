@@ -17,10 +17,4 @@ returns-2 c =
 
 pub is-some-spec : {M : Type 1} → statement M
 is-some-spec =
-    tie.close
-    (tie.spec
-    (λ c κs. search needs)
-    (λ c. search needs)
-    (λ c. search needs)
-    returns
-    returns-2)
+    tie.close (tie.spec (λ c κs. search needs) (λ c. search needs) (λ c. search needs) returns returns-2)

@@ -1,56 +1,77 @@
--- `key_number` meets its contract: a name of another length is no key.
+-- `key_number` meets its contract.
 -- Assumes nothing.
-use mathlib.Core.Path.{_≡_, refl, sym, ap, _∙_}
-use mathlib.Core.List.{List, [], _∷_}
-use Prim.Native.Nat.{ℕ}
+use mathlib.Core.Path.{sym, _∙_}
 use native.Mathlib.Omega.{arith}
-use lib.ListN.{length}
-use lib.Seq.{take-all}
 use borrow.Author.Needs.{needs}
-use Rattle.armor.specs.Keys.{keys, rankOf, keyNumber}
-use Rattle.cells.specs.Runs.{same}
 use Rattle.cells.specs.Text.{codes}
-use Rattle.cells.proofs.Runs.{listed, part-listed}
+use Rattle.armor.specs.Keys.{keys, rankOf, keyNumber}
 use Rattle.armor.proofs.key.key_number.Statement.{statement}
 use Rattle.armor.proofs.key.key_number.Tie as tie
 
-letters : (n : ℕ) (xs : List ℕ) → length xs ≡ n → listed xs 0 0 n ≡ xs
-letters n xs e = sym (part-listed xs 0 0 n (omega arith)) ∙ take-all n xs (omega arith)
-
-another : (xs : List ℕ) → (length xs ≡ 1 → ⊥) → (length xs ≡ 2 → ⊥) → (length xs ≡ 3 → ⊥) → 11 ≡ keyNumber xs
-unfolding keys same rankOf keyNumber codes
-another [] p q r = refl
-another (x ∷ []) p q r = absurd (p refl)
-another (x ∷ y ∷ []) p q r = absurd (q refl)
-another (x ∷ y ∷ z ∷ []) p q r = absurd (r refl)
-another (w ∷ x ∷ y ∷ z ∷ xs) p q r = refl
-
 returns : tie.Need-returns
-returns c = c .one-letter .ensures ∙ ap keyNumber (letters 1 _ (c .before .before .if1 .taken))
+unfolding keys rankOf keyNumber codes
+returns c = simp (sym (c .before .same .ensures) ∙ c .if1 .taken)
 
 returns-2 : tie.Need-returns-2
-returns-2 c = c .two-letters .ensures ∙ ap keyNumber (letters 2 _ (c .before .before .before .if2 .taken))
+unfolding keys rankOf keyNumber codes
+returns-2 c = simp (sym (c .before .same2 .ensures) ∙ c .if2 .taken, sym (c .before .before .before .before .same .ensures) ∙ c .before .before .before .if1 .left)
 
 returns-3 : tie.Need-returns-3
-returns-3 c = c .three-letters .ensures ∙ ap keyNumber (letters 3 _ (c .before .before .before .before .if3 .taken))
+unfolding keys rankOf keyNumber codes
+returns-3 c =
+    simp (
+      sym (c .before .same3 .ensures) ∙ c .if3 .taken,
+      sym (c .before .before .before .before .same2 .ensures) ∙ c .before .before .before .if2 .left,
+      sym (c .before .before .before .before .before .before .before .same .ensures) ∙ c .before .before .before .before .before .before .if1 .left,
+    )
 
 returns-4 : tie.Need-returns-4
-returns-4 c = another _ (c .before .before .if1 .left) (c .before .if2 .left) (c .if3 .left)
+unfolding keys rankOf keyNumber codes
+returns-4 c =
+    simp (
+      sym (c .before .same4 .ensures) ∙ c .if4 .taken,
+      sym (c .before .before .before .before .same3 .ensures) ∙ c .before .before .before .if3 .left,
+      sym (c .before .before .before .before .before .before .before .same2 .ensures) ∙ c .before .before .before .before .before .before .if2 .left,
+      sym (c .before .before .before .before .before .before .before .before .before .before .same .ensures) ∙ c .before .before .before .before .before .before .before .before .before .if1 .left,
+    )
+
+returns-5 : tie.Need-returns-5
+unfolding keys rankOf keyNumber codes
+returns-5 c =
+    simp (
+      sym (c .before .same5 .ensures) ∙ c .if5 .taken,
+      sym (c .before .before .before .before .same4 .ensures) ∙ c .before .before .before .if4 .left,
+      sym (c .before .before .before .before .before .before .before .same3 .ensures) ∙ c .before .before .before .before .before .before .if3 .left,
+      sym (c .before .before .before .before .before .before .before .before .before .before .same2 .ensures) ∙ c .before .before .before .before .before .before .before .before .before .if2 .left,
+      sym (c .before .before .before .before .before .before .before .before .before .before .before .before .before .same .ensures) ∙ c .before .before .before .before .before .before .before .before .before .before .before .before .if1 .left,
+    )
+
+returns-6 : tie.Need-returns-6
+unfolding keys rankOf keyNumber codes
+returns-6 c =
+    simp (
+      sym (c .before .same6 .ensures) ∙ c .if6 .taken,
+      sym (c .before .before .before .before .same5 .ensures) ∙ c .before .before .before .if5 .left,
+      sym (c .before .before .before .before .before .before .before .same4 .ensures) ∙ c .before .before .before .before .before .before .if4 .left,
+      sym (c .before .before .before .before .before .before .before .before .before .before .same3 .ensures) ∙ c .before .before .before .before .before .before .before .before .before .if3 .left,
+      sym (c .before .before .before .before .before .before .before .before .before .before .before .before .before .same2 .ensures) ∙ c .before .before .before .before .before .before .before .before .before .before .before .before .if2 .left,
+      sym (c .before .before .before .before .before .before .before .before .before .before .before .before .before .before .before .before .same .ensures) ∙ c .before .before .before .before .before .before .before .before .before .before .before .before .before .before .before .if1 .left,
+    )
+
+returns-7 : tie.Need-returns-7
+unfolding keys rankOf keyNumber codes
+returns-7 c =
+    simp (
+      sym (c .before .before .same6 .ensures) ∙ c .before .if6 .left,
+      sym (c .before .before .before .before .before .same5 .ensures) ∙ c .before .before .before .before .if5 .left,
+      sym (c .before .before .before .before .before .before .before .before .same4 .ensures) ∙ c .before .before .before .before .before .before .before .if4 .left,
+      sym (c .before .before .before .before .before .before .before .before .before .before .before .same3 .ensures) ∙ c .before .before .before .before .before .before .before .before .before .before .if3 .left,
+      sym (c .before .before .before .before .before .before .before .before .before .before .before .before .before .before .same2 .ensures) ∙ c .before .before .before .before .before .before .before .before .before .before .before .before .before .if2 .left,
+      sym (c .before .before .before .before .before .before .before .before .before .before .before .before .before .before .before .before .before .same .ensures) ∙ c .before .before .before .before .before .before .before .before .before .before .before .before .before .before .before .before .if1 .left,
+    ) (omega (arith, c .later-key .ensures))
 
 pub key-number-spec : {M : Type 1} → statement M
 key-number-spec =
-    tie.close
-    (tie.spec
-    (λ c. search needs)
-    (λ c κs. search needs)
-    returns
-    (λ c. search needs)
-    (λ c. search needs)
-    (λ c κs. search needs)
-    returns-2
-    (λ c. search needs)
-    (λ c. search needs)
-    (λ c. search needs)
-    (λ c κs. search needs)
-    returns-3
-    returns-4)
+    tie.close (tie.spec (λ c. search needs) (λ c κs. search needs) returns (λ c. search needs) (λ c κs. search needs) returns-2 (λ c. search needs)
+    (λ c κs. search needs) returns-3 (λ c. search needs) (λ c κs. search needs) returns-4 (λ c. search needs) (λ c κs. search needs) returns-5
+    (λ c. search needs) (λ c κs. search needs) returns-6 (λ c κs. search needs) returns-7)

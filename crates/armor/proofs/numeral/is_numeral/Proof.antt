@@ -11,7 +11,4 @@ returns c = simp (c .is-plain .ensures)
 
 pub is-numeral-spec : {M : Type 1} → statement M
 is-numeral-spec =
-    tie.close
-    (tie.spec
-    (λ c κs. search needs)
-    returns)
+    tie.close (tie.spec (λ c κs. search needs) returns)

@@ -11,8 +11,4 @@ cast-result c =
 
 pub number32-spec : {M : Type 1} → statement M
 number32-spec =
-    tie.close
-    (tie.spec
-    (λ c κs. search needs)
-    cast-result
-    (λ c. search needs))
+    tie.close (tie.spec (λ c κs. search needs) cast-result (λ c. search needs))

@@ -9,7 +9,8 @@ use lib.Dec.{eqb}
 use lib.ListN.{length}
 use borrow.Author.Needs.{needs}
 use borrow.Author.Tests.{eq-eqb, ne-eqb}
-use Rattle.cells.proofs.Spans.{Passed, passed-none, passed-more, passed-stop, passed-end}
+use Rattle.cells.specs.Spans.{Passed}
+use Rattle.cells.proofs.Spans.{passed-none, passed-more, passed-stop, passed-end}
 use Rattle.armor.proofs.Pieces.{leading-upTo}
 use Rattle.armor.proofs.scanning.find.Statement.{statement}
 use Rattle.armor.proofs.scanning.find.Tie as tie
@@ -40,14 +41,4 @@ returns-2 c =
 
 pub find-spec : {M : Type 1} → statement M
 find-spec =
-    tie.close
-    (tie.spec
-    Inv-loop
-    μ-loop
-    loop-holds
-    (λ c. search needs)
-    returns
-    (λ c. search needs)
-    (λ c. search needs)
-    loop-again
-    returns-2)
+    tie.close (tie.spec Inv-loop μ-loop loop-holds (λ c. search needs) returns (λ c. search needs) (λ c. search needs) loop-again returns-2)

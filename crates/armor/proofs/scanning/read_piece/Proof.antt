@@ -40,15 +40,5 @@ returns-2 c =
 
 pub read-piece-spec : {M : Type 1} → statement M
 read-piece-spec =
-    tie.close
-    (tie.spec
-    (λ c κs. search needs)
-    past-requires
-    slice-aggregate-key-number
-    (λ c κs. search needs)
-    (λ c. search needs)
-    (λ c. search needs)
-    (λ c. search needs)
-    is-good-requires
-    returns
-    returns-2)
+    tie.close (tie.spec (λ c κs. search needs) past-requires slice-aggregate-key-number (λ c κs. search needs) (λ c. search needs) (λ c. search needs)
+    (λ c. search needs) is-good-requires returns returns-2)

@@ -35,11 +35,6 @@ returns c =
 
 pub put-mask-spec : {M : Type 1} → statement M
 put-mask-spec =
-    tie.close
-    (tie.spec
-    (λ c κs. search needs)
-    array-share-prefix-bytes
-    (λ c. c .before .before .before .mask-bytes .ensures .0 ∙ sym (ap length (c .before .before .before .mask-bytes .ensures .1)))
-    put-next-requires
-    (λ c. search needs)
-    returns)
+    tie.close (tie.spec (λ c κs. search needs) array-share-prefix-bytes
+    (λ c. c .before .before .before .mask-bytes .ensures .0 ∙ sym (ap length (c .before .before .before .mask-bytes .ensures .1))) put-next-requires
+    (λ c. search needs) returns)

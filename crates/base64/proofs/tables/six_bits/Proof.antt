@@ -10,9 +10,5 @@ returns c = c .before .before .pre .0 .at _ (omega (arith, c .before .shared-sli
 
 pub six-bits-spec : {M : Type 1} → statement M
 six-bits-spec =
-    tie.close
-    (tie.spec
-    (λ c. search needs)
-    (λ c. omega (arith, c .shared-slice-known .given (c .before .args .i)))
-    (λ c. omega (arith, c .shared-slice-known .given (c .before .args .i)))
-    returns)
+    tie.close (tie.spec (λ c. search needs) (λ c. omega (arith, c .shared-slice-known .given (c .before .args .i)))
+    (λ c. omega (arith, c .shared-slice-known .given (c .before .args .i))) returns)

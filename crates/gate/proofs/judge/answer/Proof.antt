@@ -67,20 +67,6 @@ returns-3 c table =
 
 pub answer-spec : {M : Type 1} → statement M
 answer-spec =
-    tie.close
-    (tie.spec
-    array-share-prefix-id
-    (λ c. id-within (c .before .before .before))
-    put-front-requires
-    small-id
-    mul-result
-    (λ c. search needs)
-    returns
-    (λ c κs. search needs)
-    (λ c. search needs)
-    invalidate-requires
-    (λ c. search needs)
-    (λ c. search needs)
-    (λ c. search needs)
-    returns-2
+    tie.close (tie.spec array-share-prefix-id (λ c. id-within (c .before .before .before)) put-front-requires small-id mul-result (λ c. search needs)
+    returns (λ c κs. search needs) (λ c. search needs) invalidate-requires (λ c. search needs) (λ c. search needs) (λ c. search needs) returns-2
     returns-3)

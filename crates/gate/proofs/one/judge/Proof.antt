@@ -33,7 +33,7 @@ returns c =
     ∙ rw (c .before .before .before .before .after .ensures) (applied-judged (asked (c .before .before .before .before .before .before .before .before .before .before .before .before .before .before .before .before .before .before)) _ _ (c .before .before .before .before .before .before .decide .ensures))
 
 pub judge-spec : {M : Type 1} → statement M
-judge-spec = tie.close     (tie.spec
+judge-spec = tie.close (tie.spec
     (λ c κs. search needs)
     (λ c. search needs)
     (λ c κs. search needs)

@@ -51,17 +51,6 @@ returns c =
 
 pub apply-spec : {M : Type 1} → statement M
 apply-spec =
-    tie.close
-    (tie.spec
-    (λ c κs. search needs)
-    (λ c. within (c .before .before .before))
-    (λ c. sym (length-take-le _ _ (within (c .before .before .before .before))))
-    (λ c. search needs)
-    setup-requires
-    (λ c κs. search needs)
-    store-requires
-    cast-result
-    mul-result
-    (λ c. search needs)
-    (λ c. search needs)
-    returns)
+    tie.close (tie.spec (λ c κs. search needs) (λ c. within (c .before .before .before))
+    (λ c. sym (length-take-le _ _ (within (c .before .before .before .before)))) (λ c. search needs) setup-requires (λ c κs. search needs)
+    store-requires cast-result mul-result (λ c. search needs) (λ c. search needs) returns)

@@ -27,14 +27,7 @@ loop-again c =
 
 pub name-count-spec : {M : Type 1} → statement M
 name-count-spec =
-    tie.close
-    (tie.spec
-    Inv-loop
-    μ-loop
-    (λ c. (omega arith, omega arith, record { is = omega (arith, ap length (names-start (c .before .args .run .now))) }))
-    (λ c. search needs)
-    (λ c κs. search needs)
-    (λ c. search needs)
-    (λ c. search needs)
-    loop-again
+    tie.close (tie.spec Inv-loop μ-loop
+    (λ c. (omega arith, omega arith, record { is = omega (arith, ap length (names-start (c .before .args .run .now))) })) (λ c. search needs)
+    (λ c κs. search needs) (λ c. search needs) (λ c. search needs) loop-again
     (λ c. omega (arith, reached-end (c .before .loop .inv .2) (search needs))))

@@ -19,15 +19,8 @@ abbrev μ-loop : tie.MeasureT-loop
 
 pub token-end-spec : {M : Type 1} → statement M
 token-end-spec =
-    tie.close
-    (tie.spec
-    Inv-loop
-    μ-loop
-    (λ c. passed-none tokenByte _ _ (c .before .pre))
-    (λ c. search needs)
-    (λ c κs. search needs)
+    tie.close (tie.spec Inv-loop μ-loop (λ c. passed-none tokenByte _ _ (c .before .pre)) (λ c. search needs) (λ c κs. search needs)
     (λ c. passed-stop tokenByte _ _ _ (c .before .before .before .before .loop .inv) (search needs) (sym (c .before .token-byte .ensures) ∙ not-true _ (c .if1 .taken)))
-    (λ c. search needs)
-    (λ c. search needs)
+    (λ c. search needs) (λ c. search needs)
     (λ c. passed-more tokenByte _ _ _ (c .before .before .before .before .loop .inv) (search needs) (sym (c .before .token-byte .ensures) ∙ not-false _ (c .if1 .left)))
     (λ c. passed-end tokenByte _ _ _ (c .before .loop .inv) (c .loop-test .left)))

@@ -58,17 +58,5 @@ returns-4 c value reply h =
 
 pub vouch-spec : {M : Type 1} → statement M
 vouch-spec =
-    tie.close
-    (tie.spec
-    (λ c. search needs)
-    array-share-prefix-s
-    slice-aggregate-unseal-2
-    (λ c. search needs)
-    unseal-requires
-    returns
-    returns-2
-    (λ c. search needs)
-    code-requires
-    (λ c κs. search needs)
-    returns-3
-    returns-4)
+    tie.close (tie.spec (λ c. search needs) array-share-prefix-s slice-aggregate-unseal-2 (λ c. search needs) unseal-requires returns returns-2
+    (λ c. search needs) code-requires (λ c κs. search needs) returns-3 returns-4)

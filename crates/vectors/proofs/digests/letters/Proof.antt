@@ -9,8 +9,5 @@ use Rattle.vectors.proofs.digests.letters.Tie as tie
 
 pub letters-spec : {M : Type 1} → statement M
 letters-spec =
-    tie.close
-    (tie.spec
-    (λ c. sym (length-replicate {0} {A = ℕ} 1000000 97))
-    (λ c κs. subst (λ (n : ℕ). n ≤ 1000000) (sym (length-replicate {0} {A = ℕ} 1000000 97)) (omega arith))
-    (λ c. tt))
+    tie.close (tie.spec (λ c. sym (length-replicate {0} {A = ℕ} 1000000 97))
+    (λ c κs. subst (λ (n : ℕ). n ≤ 1000000) (sym (length-replicate {0} {A = ℕ} 1000000 97)) (omega arith)) (λ c. tt))
