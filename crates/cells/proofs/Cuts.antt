@@ -2,13 +2,11 @@
 -- Assumes nothing.
 use mathlib.Core.Path.{_≡_, refl, sym, ap, ap₂, _∙_}
 use mathlib.Core.List.{List, [], _∷_, _++_}
-use mathlib.Core.Bool.{Bool, true, false}
 use Prim.Native.Nat.{ℕ, zero, suc, _+_, _-_, _≤_, _<_}
 use native.Mathlib.Nat.{add-zero}
 use native.Mathlib.Numerals.{add-one}
+use native.Mathlib.Decide.{decLt}
 use native.Mathlib.Omega.{arith}
-use borrow.Author.Tests.{ltb-true, ltb-false}
-use lib.Dec.{ltb}
 use lib.ListN.{List·getD-eq-default, length, getD, take, drop, take-append-drop, length-take, length-drop}
 use lib.Seq.{drop-cons, drop-drop, drop-at as drop-append, take-suc, take-add, take-take, getD-take, getD-drop, length-take-le}
 use Rattle.cells.specs.Runs.{part, cut, Bytes}
@@ -23,8 +21,7 @@ cut-none xs a e h = let z : e - a ≡ 0 = omega arith in rw z
 pub cut-split : (xs : List ℕ) (a e : ℕ) → a ≤ e → drop a xs ≡ cut xs a e ++ drop e xs
 cut-split xs a e h =
     let end : a + (e - a) ≡ e = omega arith in
-    sym (take-append-drop (e - a) (drop a xs))
-    ∙ ap (λ (l : List ℕ). cut xs a e ++ l) (drop-drop (e - a) a xs ∙ ap (λ (n : ℕ). drop n xs) end)
+    sym (take-append-drop (e - a) (drop a xs)) ∙ rw (drop-drop (e - a) a xs, end)
 
 pub drop-take : (xs : List ℕ) (a e : ℕ) → a ≤ e → e ≤ length xs → drop a (take e xs) ≡ cut xs a e
 drop-take xs a e h k =
@@ -66,8 +63,7 @@ part-part xs at n k m h j =
 
 -- a part of a run of bytes is one
 pub bytes-part : (xs : List ℕ) (at n : ℕ) → Bytes xs → Bytes (part xs at n)
-bytes-part xs at n h i = by (ltb i n) refl
-  where
-    by : (t : Bool) → ltb i n ≡ t → getD (part xs at n) i 0 < 256
-    by true e = rw (getD-take n (drop at xs) i 0 (ltb-true i n e), getD-drop at xs i 0) (h (at + i))
-    by false e = rw (List·getD-eq-default (part xs at n) 0 {n = i} (rw length-take (omega (arith, ltb-false i n e)))) (omega arith)
+bytes-part xs at n h i = elim (decLt i n) [
+  | yes l ↦ rw (getD-take n (drop at xs) i 0 l, getD-drop at xs i 0) (h (at + i))
+  | no l ↦ rw (List·getD-eq-default (part xs at n) 0 {n = i} (rw length-take (omega arith))) (omega arith)
+]

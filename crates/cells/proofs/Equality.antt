@@ -2,11 +2,11 @@
 -- Assumes nothing.
 use mathlib.Core.Path.{_≡_, refl, sym, ap, ap₂, _∙_}
 use mathlib.Core.List.{List, [], _∷_, _++_}
-use mathlib.Core.Bool.{Bool, true, false, false≢true, _&&_, and-true, and-assoc, and-comm}
+use mathlib.Core.Bool.{Bool, true, false, false≢true, _&&_, and-true, and-assoc, and-comm, and-eq-true-iff}
 use Prim.Native.Nat.{ℕ, suc, _+_, _≤_, _<_}
 use native.Mathlib.Numerals.{add-one}
 use native.Mathlib.Omega.{arith}
-use borrow.Author.Tests.{eqb-true, eqb-false, eq-eqb, ne-eqb}
+use borrow.Author.Tests.{eqb-true, eq-eqb}
 use lib.Bits.{bitOr, bitXor, or-add-and, xor-add-and, and-le-l, and-le-r, xor-self}
 use lib.Dec.{eqb}
 use lib.ListN.{length, getD, drop, drop-of-length-le}
@@ -18,11 +18,8 @@ unfolding same
 same-equal [] [] e = refl
 same-equal [] (y ∷ ys) e = absurd (false≢true e)
 same-equal (x ∷ xs) [] e = absurd (false≢true e)
-same-equal (x ∷ xs) (y ∷ ys) e = by (same xs ys) refl (same-equal xs ys) e
-  where
-    by : (t : Bool) → same xs ys ≡ t → (same xs ys ≡ true → xs ≡ ys) → (t && eqb x y) ≡ true → x ∷ xs ≡ y ∷ ys
-    by true p rest f = ap₂ _∷_ (eqb-true x y f) (rest p)
-    by false p rest f = absurd (false≢true f)
+same-equal (x ∷ xs) (y ∷ ys) e =
+    let both = and-eq-true-iff (same xs ys) (eqb x y) .0 e in ap₂ _∷_ (eqb-true x y (both .1)) (same-equal xs ys (both .0))
 
 pub same-self : (xs : List ℕ) → same xs xs ≡ true
 unfolding same
@@ -35,52 +32,40 @@ unfolding same
 same-prefix [] xs ys = refl
 same-prefix (b ∷ p) xs ys = rw (eq-eqb b b refl) (and-true (same (p ++ xs) (p ++ ys)) ∙ same-prefix p xs ys)
 
+-- two tests are one if each holds where the other does
+alike : (s t : Bool) → (s ≡ true → t ≡ true) → (t ≡ true → s ≡ true) → s ≡ t
+alike true t to from = sym (to refl)
+alike false true to from = from refl
+alike false false to from = refl
+
 pub same-not : (xs ys : List ℕ) → (xs ≡ ys → ⊥) → same xs ys ≡ false
-same-not xs ys differ = by (same xs ys) refl
-  where
-    by : (t : Bool) → same xs ys ≡ t → t ≡ false
-    by true e = absurd (differ (same-equal xs ys e))
-    by false e = refl
+same-not xs ys differ = alike (same xs ys) false (λ e. absurd (differ (same-equal xs ys e))) (λ e. absurd (false≢true e))
 
 pub same-comm : (xs ys : List ℕ) → same xs ys ≡ same ys xs
-same-comm xs ys = by (same xs ys) refl
+same-comm xs ys = alike (same xs ys) (same ys xs) (turned xs ys) (turned ys xs)
   where
-    by : (t : Bool) → same xs ys ≡ t → t ≡ same ys xs
-    by true e = sym (ap (λ (l : List ℕ). same ys l) (same-equal xs ys e) ∙ same-self ys)
-    by false e = sym (same-not ys xs (λ k. false≢true (sym e ∙ ap (λ (l : List ℕ). same xs l) k ∙ same-self xs)))
-
--- tests of facts that follow from each other
-eqb-same : (a b c d : ℕ) → (a ≡ b → c ≡ d) → (c ≡ d → a ≡ b) → eqb a b ≡ eqb c d
-eqb-same a b c d to from = by (eqb a b) refl
-  where
-    by : (t : Bool) → eqb a b ≡ t → eqb a b ≡ eqb c d
-    by true e = e ∙ sym (eq-eqb c d (to (eqb-true a b e)))
-    by false e = e ∙ sym (ne-eqb c d (λ q. eqb-false a b e (from q)))
+    turned : (us vs : List ℕ) → same us vs ≡ true → same vs us ≡ true
+    turned us vs e = rw (same-equal us vs e) (same-self vs)
 
 -- differences gathered are none exactly if there were none and there is none now
-or-zero : (d x : ℕ) → eqb (bitOr d x) 0 ≡ (eqb d 0 && eqb x 0)
-or-zero d x = by (eqb d 0) refl
-  where
-    by : (t : Bool) → eqb d 0 ≡ t → eqb (bitOr d x) 0 ≡ (t && eqb x 0)
-    by true e =
-        let z : d ≡ 0 = eqb-true d 0 e in
-        eqb-same (bitOr d x) 0 x 0
-        (λ q. omega (arith, or-add-and d x, and-le-l d x, and-le-r d x))
-        (λ q. omega (arith, or-add-and d x, and-le-l d x, and-le-r d x))
-    by false e = ne-eqb (bitOr d x) 0 (λ q. eqb-false d 0 e (omega (arith, or-add-and d x, and-le-l d x, and-le-r d x)))
-
-xor-zero : (x y : ℕ) → eqb (bitXor x y) 0 ≡ eqb x y
-xor-zero x y =
-    eqb-same (bitXor x y) 0 x y
-    (λ q. omega (arith, xor-add-and x y, and-le-l x y, and-le-r x y))
-    (λ q. ap (λ (n : ℕ). bitXor n y) q ∙ xor-self y)
+gathered : (d x y : ℕ) → eqb (bitOr d (bitXor x y)) 0 ≡ (eqb d 0 && eqb x y)
+gathered d x y =
+    let sum = or-add-and d (bitXor x y) in
+    let left = and-le-l d (bitXor x y) in
+    let right = and-le-r d (bitXor x y) in
+    alike (eqb (bitOr d (bitXor x y)) 0) (eqb d 0 && eqb x y)
+    (λ e. let none = eqb-true (bitOr d (bitXor x y)) 0 e in
+    rw (eq-eqb d 0 (omega arith)) (eq-eqb x y (omega (arith, xor-add-and x y, and-le-l x y, and-le-r x y))))
+    (λ e. let both = and-eq-true-iff (eqb d 0) (eqb x y) .0 e in
+    ap (λ (n : ℕ). eqb (bitOr n (bitXor x y)) 0) (eqb-true d 0 (both .0))
+    ∙ ap (λ (n : ℕ). eqb (bitOr 0 (bitXor n y)) 0) (eqb-true x y (both .1)) ∙ ap (λ (n : ℕ). eqb (bitOr 0 n) 0) (xor-self y))
 
 -- a turn of the loop that gathers the differences, and its end
 pub compared-more : (xs ys : List ℕ) (i d : ℕ) → i < length xs → i < length ys → same xs ys ≡ (eqb d 0 && same (drop i xs) (drop i ys))
     → same xs ys ≡ (eqb (bitOr d (bitXor (getD xs i 0) (getD ys i 0))) 0 && same (drop (i + 1) xs) (drop (i + 1) ys))
 unfolding same
 compared-more xs ys i d h k e =
-    e ∙ rw (add-one, drop-cons xs i 0 h, drop-cons ys i 0 k, or-zero, xor-zero)
+    e ∙ rw (add-one, drop-cons xs i 0 h, drop-cons ys i 0 k, gathered)
     (ap (λ (t : Bool). eqb d 0 && t) (and-comm (same (drop (suc i) xs) (drop (suc i) ys)) _) ∙ sym (and-assoc (eqb d 0) _ _))
 
 pub compared-all : (xs ys : List ℕ) (i : ℕ) (t : Bool) → length xs ≤ i → length ys ≤ i → (t && same (drop i xs) (drop i ys)) ≡ t

@@ -53,12 +53,8 @@ pub bytesOf-low : (k a r : ℕ) → bytesOf k (a * 2 ^ (8 * k) + r) ≡ bytesOf 
 unfolding bytesOf
 bytesOf-low zero a r = refl
 bytesOf-low (suc k) a r =
-    let p = 2 ^ (8 * k) in
-    let split : a * 2 ^ (8 * suc k) + r ≡ (a * 256) * p + r =
-    ap (λ (e : ℕ). a * 2 ^ e + r) (eight-more k) ∙ ap (λ (q : ℕ). a * q + r) (pow-add 2 8 (8 * k)) ∙ ap (λ (q : ℕ). q + r) (sym (mul-assoc a 256 p))
-    in
-    ap (λ (n : ℕ). n / p % 256 ∷ bytesOf k n) split
-    ∙ ap₂ _∷_ (ap (λ (q : ℕ). q % 256) (mul-add-div-right (pow-pos (8 * k)) (a * 256) r) ∙ mul-add-mod-self-right a 256 (r / p)) (bytesOf-low k (a * 256) r)
+    let split : a * 2 ^ (8 * suc k) + r ≡ a * 256 * 2 ^ (8 * k) + r = rw (eight-more k, pow-add 2 8 (8 * k)) (ap (λ (q : ℕ). q + r) (sym (mul-assoc a 256 (2 ^ (8 * k))))) in
+    rw (split, mul-add-div-right (pow-pos (8 * k)) (a * 256) r, mul-add-mod-self-right a 256 (r / 2 ^ (8 * k)), bytesOf-low k (a * 256) r)
 
 -- a run of bytes is that of its number
 pub bytesOf-number : (bs : List ℕ) → Bytes bs → bytesOf (length bs) (number bs) ≡ bs
@@ -73,16 +69,11 @@ pub number-append : (bs cs : List ℕ) → number (bs ++ cs) ≡ number bs * 2 ^
 unfolding number
 number-append [] cs = omega arith
 number-append (b ∷ bs) cs =
-    let p = 2 ^ (8 * length cs) in
-    let shifted : b * 2 ^ (8 * length (bs ++ cs)) ≡ b * 2 ^ (8 * length bs) * p =
-    ap (λ (e : ℕ). b * 2 ^ e) (omega (arith, length-append bs cs)) ∙ ap (λ (q : ℕ). b * q) (pow-add 2 (8 * length bs) (8 * length cs))
-    ∙ sym (mul-assoc b (2 ^ (8 * length bs)) p)
-    in
-    ap₂ _+_ shifted (number-append bs cs) ∙ sym (add-assoc _ _ _) ∙ ap (λ (q : ℕ). q + number cs) (sym (add-mul (b * 2 ^ (8 * length bs)) (number bs) p))
+    let size : 8 * length (bs ++ cs) ≡ 8 * length bs + 8 * length cs = omega (arith, length-append bs cs) in
+    rw (number-append bs cs, size, pow-add 2 (8 * length bs) (8 * length cs)) (simp (add-mul, mul-assoc, add-assoc))
 
 pub bytesOf-append : (j k n : ℕ) → bytesOf (j + k) n ≡ bytesOf j (n / 2 ^ (8 * k)) ++ bytesOf k n
 unfolding bytesOf
 bytesOf-append zero k n = ap (λ (m : ℕ). bytesOf m n) (zero-add k)
 bytesOf-append (suc j) k n =
-    ap (λ (m : ℕ). bytesOf m n) (suc-add j k)
-    ∙ ap₂ (λ (q : ℕ) (l : List ℕ). q % 256 ∷ l) (ap (λ (e : ℕ). n / 2 ^ e) (omega arith) ∙ sym (shr-shr n (8 * k) (8 * j))) (bytesOf-append j k n)
+    let sum : 8 * (j + k) ≡ 8 * k + 8 * j = omega arith in rw (suc-add j k, bytesOf-append j k n, sum, ← (shr-shr n (8 * k) (8 * j)))

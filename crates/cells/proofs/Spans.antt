@@ -22,31 +22,22 @@ leading-over p (x ∷ xs) ys h =
     rw (both .0) (ap suc (leading-over p xs ys (both .1)) ∙ omega arith)
 
 module _ (p : ℕ → Bool) (xs : List ℕ) where
-  leading-pass : (i : ℕ) → i < length xs → p (getD xs i 0) ≡ true → leading p (drop i xs) ≡ suc (leading p (drop (suc i) xs))
-  unfolding leading
-  leading-pass i h e = rw (drop-cons xs i 0 h, e)
-
-  leading-fail : (i : ℕ) → i < length xs → p (getD xs i 0) ≡ false → leading p (drop i xs) ≡ 0
-  unfolding leading
-  leading-fail i h e = rw (drop-cons xs i 0 h, e)
-
-  leading-end : (i : ℕ) → length xs ≤ i → leading p (drop i xs) ≡ 0
-  unfolding leading
-  leading-end i h = rw (drop-of-length-le xs {i = i} h)
-
   -- the loop begins, passes an element, stops at one that fails, and ends
   pub passed-none : (at : ℕ) → at ≤ length xs → Passed p xs at at
   passed-none at h = record { from = omega arith; within = h; same = refl }
 
   pub passed-more : (at i : ℕ) → Passed p xs at i → i < length xs → p (getD xs i 0) ≡ true → Passed p xs at (i + 1)
+  unfolding leading
   passed-more at i g h e =
-      record { from = omega arith; within = omega arith; same = g .same ∙ rw (leading-pass i h e, add-one) (omega arith) }
+      record { from = omega arith; within = omega arith; same = rw add-one (omega (arith, rw (drop-cons xs i 0 h, e) at (g .same))) }
 
   pub passed-stop : (at i : ℕ) → Passed p xs at i → i < length xs → p (getD xs i 0) ≡ false → Spans p xs at i
-  passed-stop at i g h e = record { is = omega (arith, g .same, leading-fail i h e); within = g .within }
+  unfolding leading
+  passed-stop at i g h e = record { is = omega (arith, rw (drop-cons xs i 0 h, e) at (g .same)); within = g .within }
 
   pub passed-end : (at i : ℕ) → Passed p xs at i → length xs ≤ i → Spans p xs at i
-  passed-end at i g h = record { is = omega (arith, g .same, leading-end i h); within = g .within }
+  unfolding leading
+  passed-end at i g h = record { is = omega (arith, rw (drop-of-length-le xs {i = i} h) at (g .same)); within = g .within }
 
   -- the elements from index i on pass if that one does and those after it, and past the end there are none
   pub all-from : (i : ℕ) → i < length xs → all p (drop i xs) ≡ (p (getD xs i 0) && all p (drop (i + 1) xs))

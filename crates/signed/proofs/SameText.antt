@@ -102,11 +102,8 @@ signing p = signedOf (p .mask) (p .extra) (p .n) (p .t) (p .lt) (p .aside) (p .h
 
 carries : (mask n : ℕ) → isCarried (nonceOf mask n) ≡ ordersNonce mask
 unfolding nonceOf
-carries mask n = go (ordersNonce mask)
-  where
-    go : (b : Bool) → isCarried (cond b (some (numberBytes n)) none) ≡ b
-    go true = refl
-    go false = refl
+carries mask n =
+    elim (ordersNonce mask) as (λ (b : Bool). isCarried (cond b (some (numberBytes n)) none) ≡ b) [ true ↦ refl | false ↦ refl ]
 
 nonce-same : (m x y : ℕ) → x < 2 ^ 32 → y < 2 ^ 32 → ordersNonce m ≡ true → nonceOf m x ≡ nonceOf m y → x ≡ y
 unfolding nonceOf

@@ -3,7 +3,7 @@
 use mathlib.Core.Path.{_≡_, refl}
 use mathlib.Core.Bool.{Bool, true, false, cond}
 use mathlib.Core.List.{List, [], _∷_, map}
-use mathlib.Core.Option.{Option, none, some}
+use mathlib.Core.Option.{none, some}
 use Prim.Native.Nat.{ℕ, zero, suc, _+_, _*_, _/_, _%_, _≤_}
 use native.Mathlib.Omega.{arith}
 use lib.Dec.{eqb}
@@ -38,12 +38,8 @@ unfolding trimEnd
 end-short [] = omega arith
 end-short (b ∷ bs) = go (trimEnd bs) (end-short bs)
   where
-    one : (t : Bool) → length (cond t [] (b ∷ [])) ≤ suc (length bs)
-    one true = omega arith
-    one false = omega arith
-
     go : (kept : List ℕ) → length kept ≤ length bs → length (keeping b kept) ≤ suc (length bs)
-    go [] h = one (blank b)
+    go [] h = elim (blank b) as (λ (t : Bool). length (cond t [] (b ∷ [])) ≤ suc (length bs)) [ true ↦ omega arith | false ↦ omega arith ]
     go (c ∷ cs) h = omega arith
 
 line-short : (xs : List ℕ) → length (trimmed (frontLine xs .value)) ≤ length xs
@@ -58,12 +54,10 @@ found-short (suc n) {most} xs name other h g =
     let rest = drop (length (lineText (frontLine xs))) xs in
     go (startsLine xs) (linesUpTo n rest) (found-short n rest name other (omega (arith, length-drop (length (lineText (frontLine xs))) xs)) g)
   where
-    first : (b : Bool) (o : Option (List ℕ)) → length (orElse o other) ≤ most → length (orElse (cond b (some (trimmed (frontLine xs .value))) o) other) ≤ most
-    first true o ih = omega (arith, line-short xs)
-    first false o ih = ih
-
     go : (b : Bool) (ls : List Line) → length (orElse (valueIn ls name) other) ≤ most → length (orElse (valueIn (cond b (frontLine xs ∷ ls) []) name) other) ≤ most
-    go true ls ih = first (sameName (frontLine xs .name) name) (valueIn ls name) ih
+    go true ls ih =
+        elim (sameName (frontLine xs .name) name) as (λ (t : Bool). length (orElse (cond t (some (trimmed (frontLine xs .value))) (valueIn ls name)) other) ≤ most)
+        [ true ↦ omega (arith, line-short xs) | false ↦ ih ]
     go false ls ih = g
 
 values-short : (f : List ℕ → List ℕ) → ((name : List ℕ) → length (f name) ≤ 16384) → (ns : List (List ℕ)) → size (map f ns) ≤ 16391 * length ns
@@ -74,11 +68,9 @@ values-short f h (n ∷ ns) = let one = h n in omega (arith, size-append (f n �
 chosen-few : (bits : ℕ) (ns : List (List ℕ)) → length (chosen bits ns) ≤ length ns
 unfolding chosen
 chosen-few bits [] = omega arith
-chosen-few bits (n ∷ ns) = go (eqb (bits % 2) 1) (chosen-few (bits / 2) ns)
-  where
-    go : (b : Bool) → length (chosen (bits / 2) ns) ≤ length ns → length (chosenFirst b n (chosen (bits / 2) ns)) ≤ suc (length ns)
-    go true h = omega arith
-    go false h = omega arith
+chosen-few bits (n ∷ ns) =
+    let rest = chosen-few (bits / 2) ns in
+    elim (eqb (bits % 2) 1) as (λ (b : Bool). length (chosenFirst b n (chosen (bits / 2) ns)) ≤ suc (length ns)) [ true ↦ omega arith | false ↦ omega arith ]
 
 known-names : length headerNames ≡ 55
 unfolding headerNames
@@ -91,11 +83,8 @@ names-few mask extra h =
 
 nonce-short : (mask n : ℕ) → size (carried (nonceOf mask n)) ≤ 15
 unfolding nonceOf netstrings
-nonce-short mask n = go (ordersNonce mask)
-  where
-    go : (b : Bool) → size (carried (cond b (some (numberBytes n)) none)) ≤ 15
-    go true = number-short n
-    go false = omega arith
+nonce-short mask n =
+    elim (ordersNonce mask) as (λ (b : Bool). size (carried (cond b (some (numberBytes n)) none)) ≤ 15) [ true ↦ number-short n | false ↦ omega arith ]
 
 -- THE BOUND, far from what a state can take in
 pub request-short : (mask n t lt : ℕ) (extra aside head path body : List ℕ) → goodExtra extra ≡ true

@@ -6,7 +6,7 @@ use Prim.Native.Nat.{ℕ, _+_, _/_}
 use native.Mathlib.Omega.{arith}
 use lib.ListN.{length, length-append}
 use Rattle.hmac.specs.declared.Hmac.{Hmac}
-use Rattle.hmac.specs.InnerKeyed.{Keyed, TookIn}
+use Rattle.hmac.specs.InnerKeyed.{TookIn}
 use Rattle.netstring.specs.Netstring.{netstring, netstrings}
 use Rattle.netstring.proofs.Determined.{netstrings-append}
 use Rattle.armor.specs.Numerals.{numberBytes, maskBytes, hashMask}
@@ -21,22 +21,17 @@ use Rattle.signed.specs.InnerStreamed.{Room, TookParts, openingParts, va
 
 -- two texts taken in one after the other
 pub took-both : {s t u : Hmac} {a b : List ℕ} → TookIn s a t → TookIn t b u → TookIn s (a ++ b) u
-took-both {u = u} {a = a} {b = b} p q =
+took-both {a = a} p q =
     record {
       inner-counted = simp length-append (omega (arith, p .inner-counted, q .inner-counted));
       outer-counted = q .outer-counted ∙ p .outer-counted;
-      appended =
-          λ key text k. subst (λ (l : List ℕ). Keyed u key l) (append-assoc text a b) (q .appended key (text ++ a) (p .appended key text k));
+      appended = λ key text k. rw append-assoc at (q .appended key (text ++ a) (p .appended key text k));
     }
 
 -- no parts
 pub took-none : (s : Hmac) → TookParts s [] s
 unfolding netstrings
-took-none s = record {
-  inner-counted = omega arith;
-  outer-counted = refl;
-  appended = λ key text k. subst (λ (l : List ℕ). Keyed s key l) (sym (append-nil text)) k;
-}
+took-none s = record { inner-counted = omega arith; outer-counted = refl; appended = λ key text k. rw append-nil k }
 
 -- some parts, and then others
 pub took-then : {s t r : Hmac} (xs ys : List (List ℕ)) → TookParts s xs t → TookParts t ys r → TookParts s (xs ++ ys) r

@@ -29,11 +29,7 @@ module _ (table iv : List ℕ) (at : ℕ) (h : at + 12 ≤ length table) where
   -- nor does one whose first number differs
   pub other-number : (number (part table at 8) ≡ number (part iv 0 8) → ⊥) → false ≡ same (part table at 12) iv
   other-number differ =
-      sym
-      (same-not (part table at 12) iv
-      (λ e.
-      differ
-      (ap number
+      sym (same-not (part table at 12) iv (λ e. differ (ap number
       (ap (λ (k : ℕ). part table k 8) (sym (add-zero at)) ∙ sym (part-part table at 12 0 8 h (omega arith)) ∙ ap (take 8) e))))
 
   module _ (b : Bytes table) (d : Bytes iv) (long : length iv ≡ 12) (first : number (part table at 8) ≡ number (part iv 0 8)) where
@@ -58,6 +54,5 @@ module _ (table iv : List ℕ) (at : ℕ) (h : at + 12 ≤ length table) where
         by true e =
             sym (ap (λ (l : List ℕ). same l iv) (whole (eqb-true _ _ e)) ∙ same-self iv)
         by false e =
-            sym
-            (same-not (part table at 12) iv
+            sym (same-not (part table at 12) iv
             (λ k. eqb-false _ _ e (ap number (sym (part-part table at 12 8 4 h (omega arith)) ∙ ap (λ (l : List ℕ). part l 8 4) k))))

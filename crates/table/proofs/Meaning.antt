@@ -56,13 +56,8 @@ window-is r u e = by (eqb (r .any) 0) refl e
 
 -- of the free record
 pub freed-sound : Sound freed
-freed-sound = record {
-  used = inl refl;
-  any = inl refl;
-  free = λ z. refl;
-  new = λ z. (refl, refl);
-  lowest = λ o q. absurd (omega arith);
-}
+freed-sound =
+    record { used = inl refl; any = inl refl; free = λ z. refl; new = λ z. (refl, refl); lowest = λ o q. absurd (omega arith) }
 
 -- of one record
 pub sound-is : (r : Record) → sound r ≡ true → Sound r

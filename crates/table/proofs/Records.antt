@@ -116,19 +116,12 @@ pub length-records : (bytes : List ℕ) → length (records bytes) ≡ places by
 unfolding records
 length-records bytes = length-chunks (places bytes) bytes
 
-more : (i : ℕ) → size + size * i ≡ size * suc i
-more i = omega arith
-
 -- the records after i of them are those of the bytes after them
 drop-chunks : (i n : ℕ) (bytes : List ℕ) → drop i (chunks (i + n) bytes) ≡ chunks n (drop (size * i) bytes)
 drop-chunks zero n bytes = ap (λ (k : ℕ). chunks k bytes) (zero-add n)
 drop-chunks (suc i) n bytes =
-    ap (λ (k : ℕ). drop (suc i) (chunks k bytes)) (suc-add i n)
-    ∙ drop-chunks i n (drop size bytes)
-    ∙ ap (chunks n) (drop-drop (size * i) size bytes ∙ ap (λ (k : ℕ). drop k bytes) (more i))
-
-after : (i : ℕ) → size * i + size ≡ size * (i + 1)
-after i = omega arith
+    let more : size + size * i ≡ size * suc i = omega arith in
+    rw (suc-add i n) (drop-chunks i n (drop size bytes) ∙ rw (drop-drop (size * i) size bytes, more))
 
 -- the records from a place on: the one there, and those after it
 pub records-from : (bytes : List ℕ) (i : ℕ) → i < places bytes
@@ -138,10 +131,10 @@ records-from bytes i h =
     let n = places bytes - suc i in
     let here : places bytes ≡ i + suc n = omega arith in
     let next : places bytes ≡ (i + 1) + n = omega arith in
+    let after : size * i + size ≡ size * (i + 1) = omega arith in
     ap (λ (k : ℕ). drop i (chunks k bytes)) here ∙ drop-chunks i (suc n) bytes
     ∙ ap (λ (l : List Record). recordAt bytes i ∷ l)
-    (ap (chunks n) (drop-drop size (size * i) bytes ∙ ap (λ (k : ℕ). drop k bytes) (after i))
-    ∙ sym (ap (λ (k : ℕ). drop (i + 1) (chunks k bytes)) next ∙ drop-chunks (i + 1) n bytes))
+    (rw (drop-drop size (size * i) bytes, after) (sym (ap (λ (k : ℕ). drop (i + 1) (chunks k bytes)) next ∙ drop-chunks (i + 1) n bytes)))
 
 pub records-at : (bytes : List ℕ) (i : ℕ) → i < places bytes → getD (records bytes) i freed ≡ recordAt bytes i
 records-at bytes i h =
@@ -153,9 +146,7 @@ records-at bytes i h =
 module _ (bytes : List ℕ) (place : ℕ) (h : place < places bytes) where
   pub used-at : recordAt bytes place .used ≡ getD bytes (size * place) 0
   unfolding recordOf
-  used-at =
-      getD-take size (drop (size * place) bytes) 0 0 (omega arith) ∙ getD-drop (size * place) bytes 0 0
-      ∙ ap (λ (k : ℕ). getD bytes k 0) (add-zero (size * place))
+  used-at = rw (getD-take size (drop (size * place) bytes) 0 0 (omega arith), getD-drop (size * place) bytes 0 0, add-zero)
 
   pub iv-at : recordAt bytes place .iv ≡ part bytes (size * place + 1) 12
   unfolding recordOf

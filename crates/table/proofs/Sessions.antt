@@ -25,13 +25,8 @@ use Rattle.table.specs.WellFormed.{Sound}
 
 -- a new session
 pub begun-sound : (iv : List ℕ) (expiry : ℕ) → Sound (begun iv expiry)
-begun-sound iv expiry = record {
-  used = inr refl;
-  any = inl refl;
-  free = λ z. absurd (omega arith);
-  new = λ z. (refl, refl);
-  lowest = λ u a. absurd (omega arith);
-}
+begun-sound iv expiry =
+    record { used = inr refl; any = inl refl; free = λ z. absurd (omega arith); new = λ z. (refl, refl); lowest = λ u a. absurd (omega arith) }
 
 pub begun-fits : (iv : List ℕ) (expiry : ℕ) → length iv ≡ 12 → expiry < 2 ^ 32 → Fits (begun iv expiry)
 begun-fits iv expiry l e = record { used = lit< tt; iv = l; expiry = e; any = lit< tt; highest = lit< tt; bits = lit< tt }

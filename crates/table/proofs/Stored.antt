@@ -1,12 +1,11 @@
 -- A table with one record stored or freed: it stays well formed, no other record changes, and what is found afterwards under each IV.
 -- Assumes nothing.
-use mathlib.Core.Path.{_≡_, refl, sym, ap, subst, _∙_}
+use mathlib.Core.Path.{_≡_, sym, ap, subst, _∙_}
 use mathlib.Core.List.{List}
 use mathlib.Core.Logic.{_⊎_, inl, inr}
-use mathlib.Core.Bool.{Bool, true, false, true≢false}
+use mathlib.Core.Bool.{true≢false}
 use Prim.Native.Nat.{ℕ, _<_}
-use borrow.Author.Tests.{eqb-true, eqb-false}
-use lib.Dec.{eqb}
+use native.Mathlib.Decide.{ℕ-discrete}
 use lib.ListN.{length, getD, set, length-set}
 use lib.Seq.{getD-set-same, getD-set-other}
 use Rattle.table.specs.declared.session.Record.{Record}
@@ -18,11 +17,7 @@ use Rattle.table.proofs.Tests.{used-holds}
 use Rattle.table.proofs.Found.{scan-set, found-nowhere}
 
 equal-or-not : (i j : ℕ) → (i ≡ j) ⊎ (i ≡ j → ⊥)
-equal-or-not i j = by (eqb i j) refl
-  where
-    by : (t : Bool) → eqb i j ≡ t → (i ≡ j) ⊎ (i ≡ j → ⊥)
-    by true e = inl (eqb-true i j e)
-    by false e = inr (eqb-false i j e)
+equal-or-not i j = elim (ℕ-discrete i j) [ yes e ↦ inl e | no n ↦ inr n ]
 
 -- the IV of a used record stands at no other place
 abbrev pub Alone : List Record → ℕ → Record → Type 0

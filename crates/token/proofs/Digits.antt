@@ -18,10 +18,7 @@ use Rattle.token.specs.InnerExpiry.{ExpiryIs}
 pub one-more : (digits : List ℕ) (i v : ℕ) → i < length digits → v ≡ valueAfter 0 (take i digits)
     → v * 10 + (getD digits i 0 - 48) ≡ valueAfter 0 (take (i + 1) digits)
 unfolding valueAfter
-one-more digits i v h e =
-    ap (λ (n : ℕ). n * 10 + (getD digits i 0 - 48)) e
-    ∙ sym (value-append 0 (take i digits) (getD digits i 0 ∷ []))
-    ∙ ap (valueAfter 0) (sym (take-suc digits i 0 h) ∙ ap (λ (n : ℕ). take n digits) (sym (add-one i)))
+one-more digits i v h e = rw (add-one, take-suc digits i 0 h, value-append 0 (take i digits) (getD digits i 0 ∷ []), e)
 
 -- ten bytes taken for digits make a number that is far from 2 ^ 64
 pub bounded-more : (i v d : ℕ) → v + 32 ≤ 32 * 16 ^ i → d ≤ 207 → v * 10 + d + 32 ≤ 32 * 16 ^ (i + 1)

@@ -22,12 +22,7 @@ fits-means t h =
     let one = and-eq-true-iff _ _ .0 h in
     let two = and-eq-true-iff _ _ .0 (one .1) in
     let three = and-eq-true-iff _ _ .0 (two .1) in
-    record {
-      key-size = eqb-true _ _ (one .0);
-      id-some = leb-true _ _ (two .0);
-      id-fits = leb-true _ _ (three .0);
-      in-range = ltb-true _ _ (three .1);
-    }
+    record { key-size = eqb-true _ _ (one .0); id-some = leb-true _ _ (two .0); id-fits = leb-true _ _ (three .0); in-range = ltb-true _ _ (three .1) }
 
 pub fits-so : (t : Token) → Sized (t .key) (t .id) (t .expiry) → fits t ≡ true
 unfolding fits

@@ -55,9 +55,7 @@ module _ (key id digits : List ℕ) where
   pub no-token-of : {r : Unsealed} → ((n : ℕ) → Sized key id n → digits ≡ decimal n → ⊥) → r .good ≡ false → Unseals (tokenIn three) r
   unfolding tokenText
   no-token-of never =
-      unseals-none
-      (no-token three
-      (λ t fit e.
+      unseals-none (no-token three (λ t fit e.
       let same : key ∷ id ∷ digits ∷ [] ≡ parts t =
       netstrings-determined (key ∷ id ∷ digits ∷ []) (parts t) [] [] refl (append-nil _ ∙ e ∙ sym (append-nil _)) .0
       in
@@ -90,18 +88,14 @@ module _ {text : List ℕ} {xs : List (List ℕ)} {at : ℕ} (so : Passed text x
   pub no-part : {r : Unsealed} → length xs < 3 → NoPart text at → r .good ≡ false → Unseals (tokenIn text) r
   unfolding netstrings
   no-part few missing =
-      unseals-none
-      (no-token text
-      (λ t fit e.
+      unseals-none (no-token text (λ t fit e.
       missing (getD (parts t) (length xs) []) (netstrings (drop (suc (length xs)) (parts t)))
       (left-over (omega arith) t e ∙ ap netstrings (drop-cons (parts t) (length xs) [] few))))
 
   pub more-follows : {r : Unsealed} → length xs ≡ 3 → at < length text → r .good ≡ false → Unseals (tokenIn text) r
   unfolding netstrings
   more-follows all more =
-      unseals-none
-      (no-token text
-      (λ t fit e.
+      unseals-none (no-token text (λ t fit e.
       let left : drop at text ≡ [] = left-over (omega arith) t e ∙ ap (λ (n : ℕ). netstrings (drop n (parts t))) all in
       omega (arith, length-drop at text, ap length left)))
 

@@ -9,21 +9,9 @@ use Rattle.cells.proofs.Runs.{part-listed}
 use Rattle.cells.proofs.load32.Statement.{statement}
 use Rattle.cells.proofs.load32.Tie as tie
 
-returns : tie.Need-returns
-returns c =
-    let args = c .before .before .before .before .before .before .args in
-    c .word32 .ensures ∙ ap number (sym (rw add-zero at (part-listed (args .s .now) (args .at) 0 4 (omega (arith, c .before .before .before .before .before .before .pre)))))
-
 pub load32-spec : {M : Type 1} → statement M
 load32-spec =
-    tie.close
-    (tie.spec
-    (λ c. search needs)
-    (λ c. search needs)
-    (λ c. search needs)
-    (λ c. search needs)
-    (λ c. search needs)
-    (λ c. search needs)
-    (λ c. search needs)
-    (λ c κs. search needs)
-    returns)
+    tie.close (tie.spec (λ c. search needs) (λ c. search needs) (λ c. search needs) (λ c. search needs) (λ c. search needs) (λ c. search needs)
+    (λ c. search needs) (λ c κs. search needs)
+    (λ c. let start = c .before .before .before .before .before .before in
+    c .word32 .ensures ∙ ap number (sym (rw add-zero at (part-listed (start .args .s .now) (start .args .at) 0 4 (omega (arith, start .pre)))))))

@@ -9,29 +9,10 @@ use Rattle.cells.proofs.Runs.{part-listed}
 use Rattle.cells.proofs.load64.Statement.{statement}
 use Rattle.cells.proofs.load64.Tie as tie
 
-returns : tie.Need-returns
-returns c =
-    let args = c .before .before .before .before .before .before .before .before .before .before .args in
-    c .word64 .ensures ∙ ap number (sym (rw add-zero at (part-listed (args .s .now) (args .at) 0 8 (omega (arith, c .before .before .before .before .before .before .before .before .before .before .pre)))))
-
 pub load64-spec : {M : Type 1} → statement M
 load64-spec =
-    tie.close
-    (tie.spec
-    (λ c. search needs)
-    (λ c. search needs)
-    (λ c. search needs)
-    (λ c. search needs)
-    (λ c. search needs)
-    (λ c. search needs)
-    (λ c. search needs)
-    (λ c. search needs)
-    (λ c. search needs)
-    (λ c. search needs)
-    (λ c. search needs)
-    (λ c. search needs)
-    (λ c. search needs)
-    (λ c. search needs)
-    (λ c. search needs)
-    (λ c κs. search needs)
-    returns)
+    tie.close (tie.spec (λ c. search needs) (λ c. search needs) (λ c. search needs) (λ c. search needs) (λ c. search needs) (λ c. search needs)
+    (λ c. search needs) (λ c. search needs) (λ c. search needs) (λ c. search needs) (λ c. search needs) (λ c. search needs) (λ c. search needs)
+    (λ c. search needs) (λ c. search needs) (λ c κs. search needs)
+    (λ c. let start = c .before .before .before .before .before .before .before .before .before .before in
+    c .word64 .ensures ∙ ap number (sym (rw add-zero at (part-listed (start .args .s .now) (start .args .at) 0 8 (omega (arith, start .pre)))))))

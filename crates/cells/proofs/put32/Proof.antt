@@ -10,25 +10,10 @@ use Rattle.cells.proofs.Runs.{stored}
 use Rattle.cells.proofs.put32.Statement.{statement}
 use Rattle.cells.proofs.put32.Tie as tie
 
-returns : tie.Need-returns
-unfolding bytesOf
-returns c =
-    simp (towards-suc, div-one) (simp div-one at (stored (c .args .out .now) (bytesOf 4 (c .args .x)) (c .args .at) (c .pre)))
-
 pub put32-spec : {M : Type 1} → statement M
+unfolding bytesOf
 put32-spec =
-    tie.close
-    (tie.spec
-    (λ c. search needs)
-    (λ c. search needs)
-    (λ c. search needs)
-    (λ c. search needs)
-    (λ c. simp length-set (omega arith))
-    (λ c. search needs)
-    (λ c. search needs)
-    (λ c. simp length-set (omega arith))
-    (λ c. search needs)
-    (λ c. search needs)
-    (λ c. simp length-set (omega arith))
-    (λ c. simp length-set)
-    returns)
+    tie.close (tie.spec (λ c. search needs) (λ c. search needs) (λ c. search needs) (λ c. search needs) (λ c. simp length-set (omega arith))
+    (λ c. search needs) (λ c. search needs) (λ c. simp length-set (omega arith)) (λ c. search needs) (λ c. search needs)
+    (λ c. simp length-set (omega arith)) (λ c. simp length-set)
+    (λ c. simp (towards-suc, div-one) (simp div-one at (stored (c .args .out .now) (bytesOf 4 (c .args .x)) (c .args .at) (c .pre)))))

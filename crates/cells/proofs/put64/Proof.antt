@@ -10,37 +10,12 @@ use Rattle.cells.proofs.Runs.{stored}
 use Rattle.cells.proofs.put64.Statement.{statement}
 use Rattle.cells.proofs.put64.Tie as tie
 
-returns : tie.Need-returns
-unfolding bytesOf
-returns c =
-    simp (towards-suc, div-one) (simp div-one at (stored (c .args .out .now) (bytesOf 8 (c .args .x)) (c .args .at) (c .pre)))
-
 pub put64-spec : {M : Type 1} → statement M
+unfolding bytesOf
 put64-spec =
-    tie.close
-    (tie.spec
-    (λ c. search needs)
-    (λ c. search needs)
-    (λ c. search needs)
-    (λ c. search needs)
-    (λ c. simp length-set (omega arith))
-    (λ c. search needs)
-    (λ c. search needs)
-    (λ c. simp length-set (omega arith))
-    (λ c. search needs)
-    (λ c. search needs)
-    (λ c. simp length-set (omega arith))
-    (λ c. search needs)
-    (λ c. search needs)
-    (λ c. simp length-set (omega arith))
-    (λ c. search needs)
-    (λ c. search needs)
-    (λ c. simp length-set (omega arith))
-    (λ c. search needs)
-    (λ c. search needs)
-    (λ c. simp length-set (omega arith))
-    (λ c. search needs)
-    (λ c. search needs)
-    (λ c. simp length-set (omega arith))
-    (λ c. simp length-set)
-    returns)
+    tie.close (tie.spec (λ c. search needs) (λ c. search needs) (λ c. search needs) (λ c. search needs) (λ c. simp length-set (omega arith))
+    (λ c. search needs) (λ c. search needs) (λ c. simp length-set (omega arith)) (λ c. search needs) (λ c. search needs)
+    (λ c. simp length-set (omega arith)) (λ c. search needs) (λ c. search needs) (λ c. simp length-set (omega arith)) (λ c. search needs)
+    (λ c. search needs) (λ c. simp length-set (omega arith)) (λ c. search needs) (λ c. search needs) (λ c. simp length-set (omega arith))
+    (λ c. search needs) (λ c. search needs) (λ c. simp length-set (omega arith)) (λ c. simp length-set)
+    (λ c. simp (towards-suc, div-one) (simp div-one at (stored (c .args .out .now) (bytesOf 8 (c .args .x)) (c .args .at) (c .pre)))))

@@ -13,37 +13,13 @@ use Rattle.cells.proofs.put_front.Tie as tie
 abbrev Inv-loop : tie.InvT-loop
 Inv-loop out₀ src i₀ out i = (i ≤ length src) × (length out ≡ length out₀) × (out ≡ paste out₀ 0 src i)
 
-abbrev μ-loop : tie.MeasureT-loop
-μ-loop out₀ src i₀ out i = length src - i
-
-loop-holds : tie.Need-loop-holds Inv-loop μ-loop
-loop-holds c = (omega arith, refl, paste-zero (c .args .out .now) 0 (c .args .src .now))
-
-loop-again : tie.Need-loop-again Inv-loop μ-loop
-loop-again c =
-    let args = c .before .before .before .args in
-    let at = c .before .before .loop in (
-      omega arith,
-      simp length-set (at .inv .1),
-      copied-more (args .out .now) (args .src .now) (at .i) (at .inv .2) (omega arith) (omega arith),
-    )
-
-returns : tie.Need-returns Inv-loop μ-loop
-returns c =
-    let args = c .before .before .args in
-    c .before .loop .inv .2 ∙ copied-all (args .out .now) (args .src .now) (c .before .loop .i) (omega arith)
-
 pub put-front-spec : {M : Type 1} → statement M
 put-front-spec =
-    tie.close
-    (tie.spec
-    Inv-loop
-    μ-loop
-    loop-holds
+    tie.close (tie.spec Inv-loop (λ out₀ src i₀ out i. length src - i)
+    (λ c. (omega arith, refl, paste-zero (c .args .out .now) 0 (c .args .src .now)))
+    (λ c. search needs) (λ c. omega arith) (λ c. search needs) (λ c. search needs)
+    (λ c. let args = c .before .before .before .args in
+    let at = c .before .before .loop in
+    (omega arith, simp length-set (at .inv .1), copied-more (args .out .now) (args .src .now) (at .i) (at .inv .2) (omega arith) (omega arith)))
     (λ c. search needs)
-    (λ c. omega arith)
-    (λ c. search needs)
-    (λ c. search needs)
-    loop-again
-    (λ c. search needs)
-    returns)
+    (λ c. let args = c .before .before .args in c .before .loop .inv .2 ∙ copied-all (args .out .now) (args .src .now) (c .before .loop .i) (omega arith)))

@@ -14,26 +14,10 @@ use Rattle.cells.proofs.same.Tie as tie
 abbrev Inv-loop : tie.InvT-loop
 Inv-loop a b differences₀ i₀ differences i = same a b ≡ (eqb differences 0 && same (drop i a) (drop i b))
 
-abbrev μ-loop : tie.MeasureT-loop
-μ-loop a b differences₀ i₀ differences i = length a - i
-
-loop-again : tie.Need-loop-again Inv-loop μ-loop
-loop-again c = let at = c .before .before .before .loop in compared-more _ _ (at .i) (at .differences) (search needs) (search needs) (at .inv)
-
-returns-2 : tie.Need-returns-2 Inv-loop μ-loop
-returns-2 c = let at = c .before .loop in sym (at .inv ∙ compared-all _ _ (at .i) _ (search needs) (search needs))
-
 pub same-spec : {M : Type 1} → statement M
 same-spec =
-    tie.close
-    (tie.spec
-    Inv-loop
-    μ-loop
+    tie.close (tie.spec Inv-loop (λ a b differences₀ i₀ differences i. length a - i)
     (λ c. sym (same-not _ _ (λ e. c .if1 .taken (ap length e))))
-    (λ c. refl)
-    (λ c. search needs)
-    (λ c. search needs)
-    (λ c. search needs)
-    (λ c. search needs)
-    loop-again
-    returns-2)
+    (λ c. refl) (λ c. search needs) (λ c. search needs) (λ c. search needs) (λ c. search needs)
+    (λ c. let at = c .before .before .before .loop in compared-more _ _ (at .i) (at .differences) (search needs) (search needs) (at .inv))
+    (λ c. let at = c .before .loop in sym (at .inv ∙ compared-all _ _ (at .i) _ (search needs) (search needs))))

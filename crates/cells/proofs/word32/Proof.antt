@@ -6,18 +6,8 @@ use Rattle.cells.specs.Numbers.{number}
 use Rattle.cells.proofs.word32.Statement.{statement}
 use Rattle.cells.proofs.word32.Tie as tie
 
-returns : tie.Need-returns
-unfolding number
-returns c = omega arith
-
 pub word32-spec : {M : Type 1} → statement M
+unfolding number
 word32-spec =
-    tie.close
-    (tie.spec
-    (λ c. search needs)
-    (λ c. search needs)
-    (λ c. search needs)
-    (λ c. search needs)
-    (λ c. search needs)
-    (λ c. search needs)
-    returns)
+    tie.close (tie.spec (λ c. search needs) (λ c. search needs) (λ c. search needs) (λ c. search needs) (λ c. search needs) (λ c. search needs)
+    (λ c. omega arith))

@@ -6,26 +6,9 @@ use Rattle.cells.specs.Numbers.{number}
 use Rattle.cells.proofs.word64.Statement.{statement}
 use Rattle.cells.proofs.word64.Tie as tie
 
-returns : tie.Need-returns
-unfolding number
-returns c = omega arith
-
 pub word64-spec : {M : Type 1} → statement M
+unfolding number
 word64-spec =
-    tie.close
-    (tie.spec
-    (λ c. search needs)
-    (λ c. search needs)
-    (λ c. search needs)
-    (λ c. search needs)
-    (λ c. search needs)
-    (λ c. search needs)
-    (λ c. search needs)
-    (λ c. search needs)
-    (λ c. search needs)
-    (λ c. search needs)
-    (λ c. search needs)
-    (λ c. search needs)
-    (λ c. search needs)
-    (λ c. search needs)
-    returns)
+    tie.close (tie.spec (λ c. search needs) (λ c. search needs) (λ c. search needs) (λ c. search needs) (λ c. search needs) (λ c. search needs)
+    (λ c. search needs) (λ c. search needs) (λ c. search needs) (λ c. search needs) (λ c. search needs) (λ c. search needs) (λ c. search needs)
+    (λ c. search needs) (λ c. omega arith))

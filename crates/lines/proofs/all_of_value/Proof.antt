@@ -24,14 +24,5 @@ loop-again c =
 
 pub all-of-value-spec : {M : Type 1} → statement M
 all-of-value-spec =
-    tie.close
-    (tie.spec
-    Inv-loop
-    μ-loop
-    (λ c. refl)
-    (λ c. search needs)
-    (λ c κs. search needs)
-    (λ c. search needs)
-    (λ c. search needs)
-    loop-again
+    tie.close (tie.spec Inv-loop μ-loop (λ c. refl) (λ c. search needs) (λ c κs. search needs) (λ c. search needs) (λ c. search needs) loop-again
     (λ c. sym (c .before .loop .inv ∙ all-past valueByte _ (c .before .loop .good) (c .before .loop .i) (c .loop-test .left))))

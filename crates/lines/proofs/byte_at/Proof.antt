@@ -8,4 +8,5 @@ use Rattle.lines.proofs.byte_at.Tie as tie
 
 pub byte-at-spec : {M : Type 1} → statement M
 byte-at-spec =
-    tie.close (tie.spec (λ c. search needs) (λ c. search needs) (λ c. sym (List·getD-eq-default (c .before .args .block .now) 0 (c .if1 .left))))
+    tie.close (tie.spec (λ c. search needs) (λ c. search needs)
+    (λ c. sym (List·getD-eq-default (c .before .args .block .now) 0 (c .if1 .left))))

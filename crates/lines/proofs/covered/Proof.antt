@@ -41,21 +41,7 @@ returns-3 c =
 
 pub covered-spec : {M : Type 1} → statement M
 covered-spec =
-    tie.close
-    (tie.spec
-    (λ c κs. search needs)
-    (λ c. search needs)
-    (λ c. omega (arith, apart (c .before)))
-    (λ c. omega (arith, apart (c .before)))
-    (λ c. omega (arith, apart (c .before)))
-    returns
-    (λ c. search needs)
-    (λ c κs. search needs)
-    (λ c. search needs)
-    (λ c. omega (arith, ahead (c .before)))
-    (λ c. omega (arith, ahead (c .before)))
-    (λ c. omega (arith, ahead (c .before)))
-    returns-2
-    (λ c. search needs)
-    (λ c. search needs)
-    returns-3)
+    tie.close (tie.spec (λ c κs. search needs) (λ c. search needs) (λ c. omega (arith, apart (c .before))) (λ c. omega (arith, apart (c .before)))
+    (λ c. omega (arith, apart (c .before))) returns (λ c. search needs) (λ c κs. search needs) (λ c. search needs)
+    (λ c. omega (arith, ahead (c .before))) (λ c. omega (arith, ahead (c .before))) (λ c. omega (arith, ahead (c .before))) returns-2
+    (λ c. search needs) (λ c. search needs) returns-3)

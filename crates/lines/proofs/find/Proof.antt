@@ -62,24 +62,12 @@ returns-3 c =
 
 pub find-spec : {M : Type 1} → statement M
 find-spec =
-    tie.close
-    (tie.spec
-    Inv-loop
-    μ-loop
-    (λ c. (search needs, refl))
-    (λ c κs. search needs)
-    (λ c. search needs)
-    (λ c. search needs)
-    returns
-    (λ c. omega (arith, line (c .before)))
-    (λ c. omega (arith, line (c .before)))
-    (λ c. omega (arith, line (c .before)))
-    (λ c κs. search needs)
+    tie.close (tie.spec Inv-loop μ-loop (λ c. (search needs, refl)) (λ c κs. search needs) (λ c. search needs) (λ c. search needs) returns
+    (λ c. omega (arith, line (c .before))) (λ c. omega (arith, line (c .before))) (λ c. omega (arith, line (c .before))) (λ c κs. search needs)
     (λ c. omega (arith, line (c .before .before .before .before)))
     (λ c κs. omega (arith, line (c .before .before .before .before)))
     (λ c. omega (arith, line (c .before .before .before .before .before)))
     returns-2
     (λ c. omega (arith, line (c .before .before .before .before)))
     (λ c. omega (arith, line (c .before .before .before .before)))
-    loop-again
-    returns-3)
+    loop-again returns-3)

@@ -30,22 +30,9 @@ returns c =
     let broken = rw (c .enum-told .given .1) at (c .before .before .line-at .ensures) in
     sym (at .inv .1 ∙ good-stop (drop (at .at) block) (omega (arith, length-drop (at .at) block)) broken)
 
-loop-again : tie.Need-loop-again Inv-loop μ-loop
-loop-again c =
-    let here = line (c .before) in (here .within, c .before .before .before .before .before .loop .inv .1 ∙ good-at _ _ _ _ here)
-
 pub good-spec : {M : Type 1} → statement M
 good-spec =
-    tie.close
-    (tie.spec
-    Inv-loop
-    μ-loop
-    (λ c. (omega arith, refl))
-    (λ c κs. search needs)
-    (λ c. search needs)
-    (λ c. search needs)
-    returns
-    (λ c. omega (arith, line (c .before)))
-    (λ c. omega (arith, line (c .before)))
-    loop-again
+    tie.close (tie.spec Inv-loop μ-loop (λ c. (omega arith, refl)) (λ c κs. search needs) (λ c. search needs) (λ c. search needs) returns
+    (λ c. omega (arith, line (c .before))) (λ c. omega (arith, line (c .before)))
+    (λ c. let here = line (c .before) in (here .within, c .before .before .before .before .before .loop .inv .1 ∙ good-at _ _ _ _ here))
     (λ c. sym (c .before .loop .inv .1 ∙ good-end _ _ (c .loop-test .left))))

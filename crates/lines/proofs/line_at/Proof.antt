@@ -34,15 +34,5 @@ returns-3 c =
 
 pub line-at-spec : {M : Type 1} → statement M
 line-at-spec =
-    tie.close
-    (tie.spec
-    (λ c κs. search needs)
-    (λ c κs. search needs)
-    returns
-    (λ c. search needs)
-    value-end-requires
-    (λ c κs. search needs)
-    (λ c. search needs)
-    (λ c κs. search needs)
-    returns-2
-    returns-3)
+    tie.close (tie.spec (λ c κs. search needs) (λ c κs. search needs) returns (λ c. search needs) value-end-requires (λ c κs. search needs)
+    (λ c. search needs) (λ c κs. search needs) returns-2 returns-3)

@@ -26,19 +26,6 @@ loop-again c =
 
 pub past-sixteens-spec : {M : Type 1} → statement M
 past-sixteens-spec =
-    tie.close
-    (tie.spec
-    Inv-loop
-    μ-loop
-    (λ c. passed-none valueByte _ _ (c .before .pre))
-    (λ c. search needs)
-    (λ c. search needs)
-    (λ c. search needs)
-    (λ c. search needs)
-    (λ c. search needs)
-    (λ c κs. search needs)
-    (λ c. c .before .before .before .before .loop .inv)
-    (λ c. search needs)
-    (λ c. search needs)
-    loop-again
-    (λ c. c .before .loop .inv))
+    tie.close (tie.spec Inv-loop μ-loop (λ c. passed-none valueByte _ _ (c .before .pre)) (λ c. search needs) (λ c. search needs) (λ c. search needs)
+    (λ c. search needs) (λ c. search needs) (λ c κs. search needs) (λ c. c .before .before .before .before .loop .inv) (λ c. search needs)
+    (λ c. search needs) loop-again (λ c. c .before .loop .inv))

@@ -44,19 +44,8 @@ loop-again c =
 
 pub repeats-in-spec : {M : Type 1} → statement M
 repeats-in-spec =
-    tie.close
-    (tie.spec
-    Inv-loop
-    μ-loop
-    (λ c. refl)
-    (λ c κs. search needs)
-    (λ c. search needs)
-    (λ c. search needs)
-    returns
-    (λ c. omega (arith, name (c .before)))
-    (λ c. omega (arith, name (c .before)))
-    (λ c. omega (arith, name (c .before)))
-    (λ c κs. search needs)
+    tie.close (tie.spec Inv-loop μ-loop (λ c. refl) (λ c κs. search needs) (λ c. search needs) (λ c. search needs) returns
+    (λ c. omega (arith, name (c .before))) (λ c. omega (arith, name (c .before))) (λ c. omega (arith, name (c .before))) (λ c κs. search needs)
     returns-2
     (λ c. omega (arith, name (c .before .before .before .before)))
     (λ c. omega (arith, name (c .before .before .before .before)))

@@ -23,9 +23,6 @@ returns c =
 
 pub trim-spec : {M : Type 1} → statement M
 trim-spec =
-    tie.close
-    (tie.spec
-    (λ c. sym (length-take-le _ _ (c .before .before .pre .1)))
+    tie.close (tie.spec (λ c. sym (length-take-le _ _ (c .before .before .pre .1)))
     (λ c κs. let a = c .before .before .args in omega (arith, length-take-le (a .«end») (a .block .now) (c .before .before .pre .1)))
-    (λ c κs. omega (arith, first c .0))
-    returns)
+    (λ c κs. omega (arith, first c .0)) returns)

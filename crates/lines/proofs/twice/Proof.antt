@@ -26,14 +26,7 @@ returns-3 c =
 
 pub twice-spec : {M : Type 1} → statement M
 twice-spec =
-    tie.close
-    (tie.spec
-    (λ c κs. search needs)
-    (λ c. search needs)
-    (λ c. search needs)
+    tie.close (tie.spec (λ c κs. search needs) (λ c. search needs) (λ c. search needs)
     (λ c. simp (ap (λ p. p .1) (c .before .before .find .ensures .told), c .enum-told .given .1))
     (λ c κs. omega (arith, rw (c .before .next .given .1) at (c .before .before .before .find .ensures .within)))
-    (λ c. search needs)
-    (λ c. search needs)
-    returns-2
-    returns-3)
+    (λ c. search needs) (λ c. search needs) returns-2 returns-3)

@@ -15,5 +15,4 @@ returns c =
     }
 
 pub opening-spec : {M : Type 1} → statement M
-opening-spec =
-    tie.close (tie.spec (λ c κs. search needs) (λ c. search needs) (λ c. search needs) (λ c κs. search needs) returns)
+opening-spec = tie.close (tie.spec (λ c κs. search needs) (λ c. search needs) (λ c. search needs) (λ c κs. search needs) returns)

@@ -33,14 +33,6 @@ returns c =
 
 pub absorb-spec : {M : Type 1} → statement M
 absorb-spec =
-    tie.close
-    (tie.spec
-    (λ c κs. search needs)
-    (λ c. search needs)
-    (λ c. search needs)
-    (λ c. search needs)
-    (λ c κs. omega (arith, sizes (c .before .before .before)))
-    (λ c κs. omega (arith, sizes (c .before .before .before .before)))
-    (λ c. search needs)
-    (λ c κs. omega (arith, sizes (c .before .before .before .before .before .before)))
-    returns)
+    tie.close (tie.spec (λ c κs. search needs) (λ c. search needs) (λ c. search needs) (λ c. search needs)
+    (λ c κs. omega (arith, sizes (c .before .before .before))) (λ c κs. omega (arith, sizes (c .before .before .before .before))) (λ c. search needs)
+    (λ c κs. omega (arith, sizes (c .before .before .before .before .before .before))) returns)

@@ -9,8 +9,6 @@ use Rattle.signed.proofs.absorb_nonce.Tie as tie
 pub absorb-nonce-spec : {M : Type 1} → statement M
 unfolding nonceOf
 absorb-nonce-spec =
-    tie.close
-    (tie.spec
-    (λ c κs. simp (eq-eqb _ 1 (c .if1 .taken)) at (c .before .pre))
+    tie.close (tie.spec (λ c κs. simp (eq-eqb _ 1 (c .if1 .taken)) at (c .before .pre))
     (λ c. simp (eq-eqb _ 1 (c .before .if1 .taken)) (c .absorb-number .ensures))
     (λ c. simp (ne-eqb _ 1 (c .if1 .left)) (took-none (c .before .args .state))))

@@ -40,12 +40,9 @@ returns c =
 
 pub code-spec : {M : Type 1} → statement M
 code-spec =
-    tie.close
-    (tie.spec
-    (λ c κs. search needs)
+    tie.close (tie.spec (λ c κs. search needs)
     (λ c κs. omega (arith, short (c .before .before .before .before .before .before .before .before)))
-    (λ c κs.
-    let s = c .before .before .before .before .before .before .before .before .before in
+    (λ c κs. let s = c .before .before .before .before .before .before .before .before .before in
     (s .pre .0, s .pre .2, omega (arith, short s)))
     (λ c κs. omega (arith, short (c .before .before .before .before .before .before .before .before .before .before)))
     (λ c κs. (omega (arith, short (c .before .before .before .before .before .before .before .before .before .before .before)), search needs))

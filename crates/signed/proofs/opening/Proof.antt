@@ -16,16 +16,10 @@ room s = omega (arith, s .pre, opening-size (s .args .mask) (s .args .n .0) (s .
 
 pub opening-spec : {M : Type 1} → statement M
 opening-spec =
-    tie.close
-    (tie.spec
-    (λ c κs. omega (arith, room (c .before)))
-    (λ c κs. omega (arith, room (c .before .before)))
-    (λ c κs. omega (arith, room (c .before .before .before)))
-    (λ c κs. omega (arith, room (c .before .before .before .before)))
-    (λ c κs. omega (arith, room (c .before .before .before .before .before)))
-    (λ c κs. omega (arith, room (c .before .before .before .before .before .before)))
-    (λ c.
-    let args = c .before .before .before .before .before .before .before .args in
+    tie.close (tie.spec (λ c κs. omega (arith, room (c .before))) (λ c κs. omega (arith, room (c .before .before)))
+    (λ c κs. omega (arith, room (c .before .before .before))) (λ c κs. omega (arith, room (c .before .before .before .before)))
+    (λ c κs. omega (arith, room (c .before .before .before .before .before))) (λ c κs. omega (arith, room (c .before .before .before .before .before .before)))
+    (λ c. let args = c .before .before .before .before .before .before .before .args in
     took-then (_ ∷ []) _ (c .before .before .before .before .before .absorb-mask .ensures)
     (took-then (_ ∷ []) _ (c .before .before .before .before .absorb-mask2 .ensures)
     (took-then (_ ∷ []) _ (c .before .before .before .absorb .ensures)

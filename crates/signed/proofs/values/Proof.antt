@@ -21,15 +21,11 @@ both s = values-joined (s .args .mask) (s .args .extra .now) (s .args .known .no
 
 pub values-spec : {M : Type 1} → statement M
 values-spec =
-    tie.close
-    (tie.spec
-    (λ c κs.
-    let s = c .before .before .before .before in
+    tie.close (tie.spec
+    (λ c κs. let s = c .before .before .before .before in
     room-first (s .args .state) (firsts s) (lasts s) (rw (both s) (s .pre .2)))
     (λ c κs. search needs)
-    (λ c κs.
-    let s = c .before .before .before .before .before .before in
+    (λ c κs. let s = c .before .before .before .before .before .before in
     rw (c .extra-bits .ensures) (room-rest (firsts s) (lasts s) (rw (both s) (s .pre .2)) (c .before .values-in .ensures)))
-    (λ c.
-    let s = c .before .before .before .before .before .before .before in
+    (λ c. let s = c .before .before .before .before .before .before .before in
     rw (both s) at (took-then (firsts s) (lasts s) (c .before .before .values-in .ensures) (rw (c .before .extra-bits .ensures) at (c .values-in2 .ensures)))))

@@ -21,20 +21,10 @@ Inv-loop run wanted head aside taken₀ left₀ at₀ taken left at =
 abbrev μ-loop : tie.MeasureT-loop
 μ-loop run wanted head aside taken₀ left₀ at₀ taken left at = length run + 1 - at
 
-returns : tie.Need-returns Inv-loop μ-loop
-returns c =
-    let loop = c .before .before .before .loop in
-    loop .inv .2 (loop .taken) (simp (rw (c .enum-told .given .1) at (c .before .before .next-name .ensures)) (took-none (loop .taken)))
-
 name : (c : tie.After-start Inv-loop μ-loop)
     → FirstName (c .before .before .before .before .before .before .before .args .run .now) (c .before .before .before .loop .left) (c .before .before .before .loop .at)
     (c .start .given .0 .0) (c .start .given .0 .1 .0) (c .start .given .0 .1 .1 .0)
 name c = rw (c .start .given .1) at (c .before .before .next-name .ensures)
-
-absorb-requires : tie.Need-absorb-requires Inv-loop μ-loop
-absorb-requires c κs =
-    let loop = c .before .before .before .before .before .before .loop in
-    room-first (loop .taken) (_ ∷ []) _ (simp (name (c .before .before .before) .names, ← (c .covered .ensures)) at (loop .inv .1))
 
 loop-again : tie.Need-loop-again Inv-loop μ-loop
 loop-again c =
@@ -48,20 +38,12 @@ loop-again c =
 
 pub values-in-spec : {M : Type 1} → statement M
 values-in-spec =
-    tie.close
-    (tie.spec
-    Inv-loop
-    μ-loop
-    (λ c. (omega arith, c .before .before .before .pre, λ r p. p))
-    (λ c κs. search needs)
-    (λ c. search needs)
-    (λ c. search needs)
-    returns
-    (λ c. omega (arith, name (c .before)))
-    (λ c. omega (arith, name (c .before)))
-    (λ c. omega (arith, name (c .before)))
-    (λ c κs. search needs)
-    absorb-requires
+    tie.close (tie.spec Inv-loop μ-loop (λ c. (omega arith, c .before .before .before .pre, λ r p. p))
+    (λ c κs. search needs) (λ c. search needs) (λ c. search needs)
+    (λ c. let loop = c .before .before .before .loop in
+    loop .inv .2 (loop .taken) (simp (rw (c .enum-told .given .1) at (c .before .before .next-name .ensures)) (took-none (loop .taken))))
+    (λ c. omega (arith, name (c .before))) (λ c. omega (arith, name (c .before))) (λ c. omega (arith, name (c .before))) (λ c κs. search needs)
+    (λ c κs. let loop = c .before .before .before .before .before .before .loop in
+    room-first (loop .taken) (_ ∷ []) _ (simp (name (c .before .before .before) .names, ← (c .covered .ensures)) at (loop .inv .1)))
     (λ c. omega (arith, name (c .before .before .before .before), c .before .before .before .before .before .before .before .before .before .before .before .good))
-    (λ c. omega (arith, name (c .before .before .before .before)))
-    loop-again)
+    (λ c. omega (arith, name (c .before .before .before .before))) loop-again)

@@ -54,14 +54,8 @@ returns c =
 
 pub seal-spec : {M : Type 1} → statement M
 seal-spec =
-    tie.close
-    (tie.spec
-    (λ c. search needs)
-    (λ c κs. search needs)
-    (λ c. within (c .before) .1)
+    tie.close (tie.spec (λ c. search needs) (λ c κs. search needs) (λ c. within (c .before) .1)
     (λ c. sym (length-take-le _ _ (within (c .before .before) .1)))
     (λ c. within (c .before .before) .0)
     (λ c. sym (length-take-le _ _ (within (c .before .before .before) .0)))
-    (λ c. search needs)
-    seal-requires
-    returns)
+    (λ c. search needs) seal-requires returns)

@@ -24,52 +24,22 @@ second c = rw (c .before .id .given .1) at (c .before .before .before .read2 .en
 third : (c : tie.After-known-told3) → PartAt (run (c .before .before .before .before .before .before .before .before .before .before .before .before .before)) (c .before .before .before .before .before .id .given .0 .1 .1 .0) (c .before .digits .given .0 .0) (c .before .digits .given .0 .1 .0) (c .before .digits .given .0 .1 .1 .0)
 third c = rw (c .before .digits .given .1) at (c .before .before .before .read3 .ensures)
 
-returns-2 : tie.Need-returns-2
-returns-2 c =
-    no-part (passed-more none-passed (first (c .before .before .before .before))) (omega arith)
-    (rw (c .before .enum-told2 .given .1) at (c .before .before .before .read2 .ensures)) (c .nothing2 .ensures)
-
-returns-3 : tie.Need-returns-3
-returns-3 c =
-    let id = c .before .before .before .before in
-    no-part (passed-more (passed-more none-passed (first (id .before .before .before .before))) (second id)) (omega arith)
-    (rw (c .before .enum-told3 .given .1) at (c .before .before .before .read3 .ensures)) (c .nothing3 .ensures)
-
-returns-4 : tie.Need-returns-4
-returns-4 c =
-    let last = c .before .before in
-    let id = last .before .before .before .before in
-    more-follows (passed-more (passed-more (passed-more none-passed (first (id .before .before .before .before))) (second id)) (third last)) refl
-    (omega (arith, third last .within, c .before .if1 .taken)) (c .nothing4 .ensures)
-
-returns-5 : tie.Need-returns-5
-returns-5 c =
-    let last = c .before .before .before .before .before in
-    let id = last .before .before .before .before in
-    let so = passed-more (passed-more (passed-more none-passed (first (id .before .before .before .before))) (second id)) (third last) in
-    subst (λ (l : List ℕ). Unseals (tokenIn l) (c .token-of .result)) (sym (all-passed so (omega (arith, c .before .before .before .before .if1 .left)))) (c .token-of .ensures)
-
 pub token-in-spec : {M : Type 1} → statement M
 token-in-spec =
-    tie.close
-    (tie.spec
-    (λ c κs. search needs)
-    (λ c. search needs)
-    (λ c. search needs)
-    (λ c κs. search needs)
+    tie.close (tie.spec (λ c κs. search needs) (λ c. search needs) (λ c. search needs) (λ c κs. search needs)
     (λ c. no-part none-passed (omega arith) (rw (c .before .enum-told .given .1) at (c .before .before .before .read .ensures)) (c .nothing .ensures))
-    (λ c κs. first c .within)
-    (λ c. search needs)
-    (λ c. search needs)
+    (λ c κs. first c .within) (λ c. search needs) (λ c. search needs) (λ c κs. search needs)
+    (λ c. no-part (passed-more none-passed (first (c .before .before .before .before))) (omega arith)
+    (rw (c .before .enum-told2 .given .1) at (c .before .before .before .read2 .ensures)) (c .nothing2 .ensures))
+    (λ c κs. second c .within) (λ c. search needs) (λ c. search needs) (λ c κs. search needs)
+    (λ c. let id = c .before .before .before .before in
+    no-part (passed-more (passed-more none-passed (first (id .before .before .before .before))) (second id)) (omega arith)
+    (rw (c .before .enum-told3 .given .1) at (c .before .before .before .read3 .ensures)) (c .nothing3 .ensures))
     (λ c κs. search needs)
-    returns-2
-    (λ c κs. second c .within)
-    (λ c. search needs)
-    (λ c. search needs)
-    (λ c κs. search needs)
-    returns-3
-    (λ c κs. search needs)
-    returns-4
+    (λ c. let last = c .before .before in
+    let id = last .before .before .before .before in
+    more-follows (passed-more (passed-more (passed-more none-passed (first (id .before .before .before .before))) (second id)) (third last)) refl
+    (omega (arith, third last .within, c .before .if1 .taken)) (c .nothing4 .ensures))
     (λ c. omega (arith, first (c .before .before .before .before .before .before .before .before .before) .ordered))
     (λ c. omega (arith, first (c .before .before .before .before .before .before .before .before .before) .ordered))
     (λ c. omega (arith, first (c .before .before .before .before .before .before .before .before .before) .ended, first (c .before .before .before .before .before .before .before .before .before) .within))
@@ -80,4 +50,7 @@ token-in-spec =
     (λ c. omega (arith, third (c .before .before .before) .ordered))
     (λ c. omega (arith, third (c .before .before .before) .ended, third (c .before .before .before) .within))
     (λ c κs. search needs)
-    returns-5)
+    (λ c. let last = c .before .before .before .before .before in
+    let id = last .before .before .before .before in
+    let so = passed-more (passed-more (passed-more none-passed (first (id .before .before .before .before))) (second id)) (third last) in
+    subst (λ (l : List ℕ). Unseals (tokenIn l) (c .token-of .result)) (sym (all-passed so (omega (arith, c .before .before .before .before .if1 .left)))) (c .token-of .ensures)))

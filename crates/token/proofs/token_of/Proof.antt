@@ -13,13 +13,6 @@ use Rattle.token.proofs.Reading.{unseals-some, token-of, no-token-of}
 use Rattle.token.proofs.token_of.Statement.{statement}
 use Rattle.token.proofs.token_of.Tie as tie
 
-returns : tie.Need-returns
-returns c =
-    let args = c .before .before .before .before .before .args in
-    no-token-of (args .key .now) (args .id .now) (args .digits .now)
-    (λ n s e. false≢true (simp (eq-eqb _ _ (s .key-size), le-leb _ _ (s .id-some), le-leb _ _ (s .id-fits)) at (c .before .if1 .taken)))
-    (c .nothing .ensures)
-
 -- the sizes that passed, and the expiry that was read
 sized : (c : tie.After-known-told) → let args = c .before .before .before .before .before .before .before .before .args in
     Sized (args .key .now) (args .id .now) (c .before .expiry .given .0 .0 .0)
@@ -48,17 +41,13 @@ returns-3 c =
 
 pub token-of-spec : {M : Type 1} → statement M
 token-of-spec =
-    tie.close
-    (tie.spec
-    (λ c κs. search needs)
-    returns
-    (λ c κs. search needs)
-    (λ c. search needs)
-    (λ c. search needs)
-    (λ c κs. search needs)
+    tie.close (tie.spec (λ c κs. search needs)
+    (λ c. let args = c .before .before .before .before .before .args in
+    no-token-of (args .key .now) (args .id .now) (args .digits .now)
+    (λ n s e. false≢true (simp (eq-eqb _ _ (s .key-size), le-leb _ _ (s .id-some), le-leb _ _ (s .id-fits)) at (c .before .if1 .taken)))
+    (c .nothing .ensures))
+    (λ c κs. search needs) (λ c. search needs) (λ c. search needs) (λ c κs. search needs)
     (λ c. no-token-of _ _ _ (λ n s e. (rw (c .before .enum-told .given .1) at (c .before .before .before .read .ensures)) n (s .in-range) e) (c .nothing2 .ensures))
-    (λ c. search needs)
-    (λ c κs. omega (arith, sized (c .before) .key-size))
-    (λ c. search needs)
+    (λ c. search needs) (λ c κs. omega (arith, sized (c .before) .key-size)) (λ c. search needs)
     (λ c κs. omega (arith, sized (c .before .before .before .before) .id-fits))
     returns-3)

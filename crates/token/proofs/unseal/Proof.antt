@@ -15,11 +15,6 @@ use Rattle.token.proofs.Reading.{from-text, from-wrong, unseals-none}
 use Rattle.token.proofs.unseal.Statement.{statement}
 use Rattle.token.proofs.unseal.Tie as tie
 
-unseal-requires : tie.Need-unseal-requires
-unseal-requires c κs =
-    let s = c .before .before .before .before .before in
-    (s .pre .0, s .pre .1, omega (arith, s .pre .2), s .pre .3, length-take-le _ _ (s .pre .2))
-
 -- what was left is as long as s
 size : (c : tie.After-unseal) → length (c .unseal .last .1 .1 .1 .1 .0) ≡ length (c .before .before .before .before .before .before .args .s .now)
 size c = c .unseal .kept .1 .1 .1 .1 .0 ∙ length-take-le _ _ (c .before .before .before .before .before .before .pre .2)
@@ -40,25 +35,17 @@ returns c =
     ∙ sym (from-text o (take (length (a .s .now)) (replicate 118 0)) (sym (u .ensures .0) ∙ c .before .before .enum-told .given .1)))
     (c .token-in .ensures)
 
-returns-2 : tie.Need-returns-2
-unfolding openedToken
-returns-2 c =
-    let a = c .before .before .before .before .before .before .before .before .before .before .args in
-    let u = c .before .before .before .before .unseal in
-    unseals-none (from-wrong (opened (a .server-key .now) (a .iv .now) [] (a .s .now) (a .tag .now)) (sym (u .ensures .0) ∙ c .before .enum-told2 .given .1)) (c .nothing .ensures)
-
 pub unseal-spec : {M : Type 1} → statement M
+unfolding openedToken
 unseal-spec =
-    tie.close
-    (tie.spec
-    (λ c. search needs)
+    tie.close (tie.spec (λ c. search needs)
     (λ c. sym (length-take-le _ _ (c .before .before .before .before .before .pre .2)))
-    unseal-requires
+    (λ c κs. let s = c .before .before .before .before .before in
+    (s .pre .0, s .pre .1, omega (arith, s .pre .2), s .pre .3, length-take-le _ _ (s .pre .2)))
     (λ c. search needs)
     array-share-prefix-text
     (λ c. sym (length-take-le _ _ (array-share-prefix-text (c .before))))
-    (λ c κs. search needs)
-    (λ c. search needs)
-    (λ c κs. search needs)
-    returns
-    returns-2)
+    (λ c κs. search needs) (λ c. search needs) (λ c κs. search needs) returns
+    (λ c. let a = c .before .before .before .before .before .before .before .before .before .before .args in
+    let u = c .before .before .before .before .unseal in
+    unseals-none (from-wrong (opened (a .server-key .now) (a .iv .now) [] (a .s .now) (a .tag .now)) (sym (u .ensures .0) ∙ c .before .enum-told2 .given .1)) (c .nothing .ensures)))

@@ -14,21 +14,16 @@ abbrev Inv-loop : tie.InvT-loop
 Inv-loop n all₀ start₀ left₀ all start left =
     (length all ≡ 20) × (start ≤ 19) × (left < 10 ^ suc start) × (decimal n ≡ decimal left ++ drop (suc start) all)
 
-abbrev μ-loop : tie.MeasureT-loop
-μ-loop n all₀ start₀ left₀ all start left = left
-
-loop-holds : tie.Need-loop-holds Inv-loop μ-loop
-loop-holds c = (refl, omega arith, omega arith, sym (append-nil (decimal (c .args .n))))
-
-sub-start : tie.Need-sub-start Inv-loop μ-loop
-sub-start c =
-    let w = c .before .loop in
+pub digits-spec : {M : Type 1} → statement M
+digits-spec =
+    tie.close (tie.spec Inv-loop (λ n all₀ start₀ left₀ all start left. left)
+    (λ c. (refl, omega arith, omega arith, sym (append-nil (decimal (c .args .n)))))
+    (λ c. omega arith) (λ c. omega arith) (λ c. omega arith)
+    (λ c. let w = c .before .loop in
     let less = fewer (w .start) (w .left) (w .inv .2) (c .loop-test .taken) in
-    omega arith
-
-loop-again : tie.Need-loop-again Inv-loop μ-loop
-loop-again c =
-    let w = c .before .loop in
+    omega arith)
+    (λ c. omega arith)
+    (λ c. let w = c .before .loop in
     let n = c .before .before .args .n in
     let less = fewer (w .start) (w .left) (w .inv .2) (c .loop-test .taken) in
     let same : w .start ≡ suc (w .start - 1) = omega arith in (
@@ -37,31 +32,11 @@ loop-again c =
       subst (λ (k : ℕ). w .left / 10 < 10 ^ k) same (less .1),
       subst (λ (k : ℕ). decimal n ≡ decimal (w .left / 10) ++ drop k (set (w .all) (w .start) (48 + w .left % 10))) same
           (digit-laid n (w .left) (w .start) (w .all) (w .inv .3) (c .loop-test .taken) (omega arith)),
-    )
-
-returns : tie.Need-returns Inv-loop μ-loop
-returns c =
-    let w = c .before .loop in
+    ))
+    (λ c. omega arith) (λ c. omega arith) (λ c. omega arith)
+    (λ c. let w = c .before .loop in
     record {
       size = simp length-set (w .inv .0);
       within = w .inv .1;
       shows = last-laid (c .before .before .args .n) (w .left) (w .start) (w .all) (w .inv .3) (c .loop-test .left) (omega arith);
-    }
-
-pub digits-spec : {M : Type 1} → statement M
-digits-spec =
-    tie.close
-    (tie.spec
-    Inv-loop
-    μ-loop
-    loop-holds
-    (λ c. omega arith)
-    (λ c. omega arith)
-    (λ c. omega arith)
-    sub-start
-    (λ c. omega arith)
-    loop-again
-    (λ c. omega arith)
-    (λ c. omega arith)
-    (λ c. omega arith)
-    returns)
+    }))

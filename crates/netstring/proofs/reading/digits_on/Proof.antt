@@ -15,44 +15,21 @@ Inv-loop run at first value₀ i₀ value i = ReadSo run at i value
 abbrev μ-loop : tie.MeasureT-loop
 μ-loop run at first value₀ i₀ value i = length run - i
 
-returns : tie.Need-returns Inv-loop μ-loop
-returns c = found _ _ _ _ (c .before .before .before .loop .inv) (c .before .before .loop-test .taken) (c .if1 .taken)
-
-returns-2 : tie.Need-returns-2 Inv-loop μ-loop
-returns-2 c = no-digit _ _ _ _ (c .before .before .before .before .loop .inv) (c .before .if1 .left) (λ low high. omega (arith, c .if2 .taken))
-
-returns-3 : tie.Need-returns-3 Inv-loop μ-loop
-returns-3 c = no-digit _ _ _ _ (c .before .before .before .before .before .loop .inv) (c .before .before .if1 .left) (λ low high. omega (arith, c .if3 .taken))
-
-returns-4 : tie.Need-returns-4 Inv-loop μ-loop
-returns-4 c = too-large _ _ _ _ (c .before .before .before .before .before .before .loop .inv) (c .before .before .before .if1 .left) (c .if4 .taken)
-
 loop-again : tie.Need-loop-again Inv-loop μ-loop
 loop-again c =
     one-more _ _ _ _ (c .before .before .before .before .before .before .loop .inv) (c .before .before .before .before .before .loop-test .taken)
     (c .before .before .if2 .left)
     (c .before .if3 .left)
 
-returns-5 : tie.Need-returns-5 Inv-loop μ-loop
-returns-5 c = run-ended _ _ _ _ (c .before .loop .inv) (c .loop-test .left)
-
 pub digits-on-spec : {M : Type 1} → statement M
 digits-on-spec =
-    tie.close
-    (tie.spec
-    Inv-loop
-    μ-loop
-    (λ c. search needs)
-    (λ c. c .pre)
-    (λ c. search needs)
-    returns
-    returns-2
-    returns-3
-    returns-4
+    tie.close (tie.spec Inv-loop μ-loop (λ c. search needs) (λ c. c .pre) (λ c. search needs)
+    (λ c. found _ _ _ _ (c .before .before .before .loop .inv) (c .before .before .loop-test .taken) (c .if1 .taken))
+    (λ c. no-digit _ _ _ _ (c .before .before .before .before .loop .inv) (c .before .if1 .left) (λ low high. omega (arith, c .if2 .taken)))
+    (λ c. no-digit _ _ _ _ (c .before .before .before .before .before .loop .inv) (c .before .before .if1 .left) (λ low high. omega (arith, c .if3 .taken)))
+    (λ c. too-large _ _ _ _ (c .before .before .before .before .before .before .loop .inv) (c .before .before .before .if1 .left) (c .if4 .taken))
     (λ c. search needs)
     (λ c. omega (arith, c .before .before .before .before .shared-slice-known .given (c .before .before .before .before .before .before .loop .i)))
     (λ c. omega (arith, c .before .before .before .before .shared-slice-known .given (c .before .before .before .before .before .before .loop .i)))
-    (λ c. search needs)
-    (λ c. search needs)
-    loop-again
-    returns-5)
+    (λ c. search needs) (λ c. search needs) loop-again
+    (λ c. run-ended _ _ _ _ (c .before .loop .inv) (c .loop-test .left)))

@@ -6,9 +6,6 @@ use Rattle.netstring.proofs.Scanned.{nothing-left, no-first, first-digi
 use Rattle.netstring.proofs.reading.length_at.Statement.{statement}
 use Rattle.netstring.proofs.reading.length_at.Tie as tie
 
-returns : tie.Need-returns
-returns c = nothing-left (c .before .before .args .run .now) (c .before .before .args .at) (omega (arith, c .if1 .taken))
-
 returns-2 : tie.Need-returns-2
 returns-2 c =
     let lent = c .before .before .before .before .args in
@@ -26,14 +23,5 @@ digits-on-requires c κs =
 
 pub length-at-spec : {M : Type 1} → statement M
 length-at-spec =
-    tie.close
-    (tie.spec
-    returns
-    (λ c. search needs)
-    returns-2
-    returns-3
-    (λ c κs. search needs)
-    (λ c. search needs)
-    (λ c. search needs)
-    digits-on-requires
-    (λ c. search needs))
+    tie.close (tie.spec (λ c. nothing-left (c .before .before .args .run .now) (c .before .before .args .at) (omega (arith, c .if1 .taken)))
+    (λ c. search needs) returns-2 returns-3 (λ c κs. search needs) (λ c. search needs) (λ c. search needs) digits-on-requires (λ c. search needs))

@@ -6,14 +6,6 @@ use Rattle.netstring.proofs.Scanned.{zero-found, zero-ended, zero-no-co
 use Rattle.netstring.proofs.reading.zero_at.Statement.{statement}
 use Rattle.netstring.proofs.reading.zero_at.Tie as tie
 
-returns : tie.Need-returns
-returns c = zero-ended _ _ (c .before .pre .0) (c .before .pre .1) (omega (arith, c .if1 .taken))
-
-returns-2 : tie.Need-returns-2
-returns-2 c =
-    let start = c .before .before .before in
-    zero-no-colon _ _ (start .pre .0) (start .pre .1) (c .if2 .taken)
-
 returns-3 : tie.Need-returns-3
 returns-3 c =
     let start = c .before .before .before in
@@ -21,4 +13,8 @@ returns-3 c =
 
 pub zero-at-spec : {M : Type 1} → statement M
 zero-at-spec =
-    tie.close (tie.spec (λ c. search needs) returns (λ c. search needs) (λ c. search needs) returns-2 (λ c. search needs) returns-3)
+    tie.close (tie.spec (λ c. search needs)
+    (λ c. zero-ended _ _ (c .before .pre .0) (c .before .pre .1) (omega (arith, c .if1 .taken)))
+    (λ c. search needs) (λ c. search needs)
+    (λ c. let start = c .before .before .before in zero-no-colon _ _ (start .pre .0) (start .pre .1) (c .if2 .taken))
+    (λ c. search needs) returns-3)

@@ -11,12 +11,6 @@ use Rattle.table.proofs.Records.{used-at, iv-at}
 use Rattle.table.proofs.place.has_iv.Statement.{statement}
 use Rattle.table.proofs.place.has_iv.Tie as tie
 
-returns : tie.Need-returns
-returns c =
-    let start = c .before .before .before .before in
-    let a = start .args in
-    rw (used-at (a .table .now) (a .place) (start .pre), ne-eqb (getD (a .table .now) (30 * a .place) 0) 1 (c .if1 .taken))
-
 returns-2 : tie.Need-returns-2
 returns-2 c =
     let start = c .before .before .before .before .before in
@@ -27,11 +21,8 @@ returns-2 c =
 
 pub has-iv-spec : {M : Type 1} → statement M
 has-iv-spec =
-    tie.close
-    (tie.spec
-    (λ c. search needs)
-    (λ c. search needs)
-    returns
-    (λ c. search needs)
-    (λ c κs. omega arith)
-    returns-2)
+    tie.close (tie.spec (λ c. search needs) (λ c. search needs)
+    (λ c. let start = c .before .before .before .before in
+    let a = start .args in
+    rw (used-at (a .table .now) (a .place) (start .pre), ne-eqb (getD (a .table .now) (30 * a .place) 0) 1 (c .if1 .taken)))
+    (λ c. search needs) (λ c κs. omega arith) returns-2)

@@ -7,10 +7,7 @@ use Rattle.table.proofs.Records.{used-at}
 use Rattle.table.proofs.place.is_free.Statement.{statement}
 use Rattle.table.proofs.place.is_free.Tie as tie
 
-returns : tie.Need-returns
-returns c =
-    let start = c .before in
-    sym (ap (λ (n : ℕ). eqb n 0) (used-at (start .args .table .now) (start .args .place) (start .pre)))
-
 pub is-free-spec : {M : Type 1} → statement M
-is-free-spec = tie.close (tie.spec (λ c. search needs) (λ c. search needs) returns)
+is-free-spec =
+    tie.close (tie.spec (λ c. search needs) (λ c. search needs)
+    (λ c. let start = c .before in sym (ap (λ (n : ℕ). eqb n 0) (used-at (start .args .table .now) (start .args .place) (start .pre)))))

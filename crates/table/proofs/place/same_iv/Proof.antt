@@ -6,17 +6,6 @@ use Rattle.table.proofs.Ivs.{other-length, other-number, second-decides
 use Rattle.table.proofs.place.same_iv.Statement.{statement}
 use Rattle.table.proofs.place.same_iv.Tie as tie
 
-returns : tie.Need-returns
-returns c =
-    let start = c .before .before .before in
-    other-length (start .args .table .now) (start .args .iv .now) (start .args .at) (start .pre) (c .if1 .taken)
-
-returns-2 : tie.Need-returns-2
-returns-2 c =
-    let start = c .before .before .before .before .before .before in
-    other-number (start .args .table .now) (start .args .iv .now) (start .args .at) (start .pre)
-    (λ e. c .if2 .taken (c .before .before .load64 .ensures ∙ e ∙ sym (c .before .load642 .ensures)))
-
 returns-3 : tie.Need-returns-3
 returns-3 c =
     let told = c .before .before .before in
@@ -30,13 +19,11 @@ returns-3 c =
 
 pub same-iv-spec : {M : Type 1} → statement M
 same-iv-spec =
-    tie.close
-    (tie.spec
-    returns
-    (λ c κs. search needs)
-    (λ c κs. search needs)
-    returns-2
-    (λ c. search needs)
-    (λ c κs. search needs)
-    (λ c κs. search needs)
-    returns-3)
+    tie.close (tie.spec
+    (λ c. let start = c .before .before .before in
+    other-length (start .args .table .now) (start .args .iv .now) (start .args .at) (start .pre) (c .if1 .taken))
+    (λ c κs. search needs) (λ c κs. search needs)
+    (λ c. let start = c .before .before .before .before .before .before in
+    other-number (start .args .table .now) (start .args .iv .now) (start .args .at) (start .pre)
+    (λ e. c .if2 .taken (c .before .before .load64 .ensures ∙ e ∙ sym (c .before .load642 .ensures))))
+    (λ c. search needs) (λ c κs. search needs) (λ c κs. search needs) returns-3)

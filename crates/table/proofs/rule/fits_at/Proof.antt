@@ -6,25 +6,11 @@ use Rattle.table.specs.WellFormed.{fitting}
 use Rattle.table.proofs.rule.fits_at.Statement.{statement}
 use Rattle.table.proofs.rule.fits_at.Tie as tie
 
-returns : tie.Need-returns
-unfolding fitting
-returns c = simp (c .record-sound .ensures, ← (c .before .before .before .read .ensures), ne-eqb _ _ (c .before .if1 .taken), and-true)
-
-returns-2 : tie.Need-returns-2
-unfolding fitting
-returns-2 c =
-    let used = c .before .before .before .before in
-    simp (c .before .before .record-sound2 .ensures, c .stands-nowhere .ensures, ← (used .before .before .read .ensures), eq-eqb _ _ (used .if1 .left))
-
 pub fits-at-spec : {M : Type 1} → statement M
+unfolding fitting
 fits-at-spec =
-    tie.close
-    (tie.spec
-    (λ c κs. search needs)
-    (λ c κs. search needs)
-    returns
-    (λ c κs. search needs)
-    (λ c. search needs)
-    (λ c. search needs)
-    (λ c κs. search needs)
-    returns-2)
+    tie.close (tie.spec (λ c κs. search needs) (λ c κs. search needs)
+    (λ c. simp (c .record-sound .ensures, ← (c .before .before .before .read .ensures), ne-eqb _ _ (c .before .if1 .taken), and-true))
+    (λ c κs. search needs) (λ c. search needs) (λ c. search needs) (λ c κs. search needs)
+    (λ c. let used = c .before .before .before .before in
+    simp (c .before .before .record-sound2 .ensures, c .stands-nowhere .ensures, ← (used .before .before .read .ensures), eq-eqb _ _ (used .if1 .left))))

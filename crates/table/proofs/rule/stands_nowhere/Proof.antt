@@ -18,10 +18,6 @@ told c =
 
 pub stands-nowhere-spec : {M : Type 1} → statement M
 stands-nowhere-spec =
-    tie.close
-    (tie.spec
-    (λ c κs. search needs)
-    (λ c. search needs)
-    (λ c. search needs)
+    tie.close (tie.spec (λ c κs. search needs) (λ c. search needs) (λ c. search needs)
     (λ c. ap isNowhere (sym (c .enum-told .given .1)) ∙ told (c .before .before))
     (λ c. ap isNowhere (sym (c .enum-told2 .given .1)) ∙ told (c .before .before)))

@@ -13,35 +13,13 @@ use Rattle.table.proofs.rule.well_formed.Tie as tie
 abbrev Inv-loop : tie.InvT-loop
 Inv-loop table n i₀ i = Along (λ (place : ℕ) (rs : List Record). wellFormed rs) table 0 n i
 
-abbrev μ-loop : tie.MeasureT-loop
-μ-loop table n i₀ i = n - i
-
-returns : tie.Need-returns Inv-loop μ-loop
-unfolding wellFormed
-returns c =
-    let told = c .before .fits-at in
-    sym (along-here (c .before .before .before .loop .inv) (c .before .before .loop-test .taken) ∙ simp (← (told .ensures), not-true (told .result) (c .if1 .taken)))
-
-loop-again : tie.Need-loop-again Inv-loop μ-loop
-unfolding wellFormed
-loop-again c =
-    let told = c .before .fits-at in
-    along-goes (c .before .before .before .loop .inv) (c .before .before .loop-test .taken) (simp (← (told .ensures), not-false (told .result) (c .if1 .left)))
-
-returns-2 : tie.Need-returns-2 Inv-loop μ-loop
-unfolding wellFormed
-returns-2 c = sym (along-ends (c .before .loop .inv) (c .loop-test .left))
-
 pub well-formed-spec : {M : Type 1} → statement M
+unfolding wellFormed
 well-formed-spec =
-    tie.close
-    (tie.spec
-    Inv-loop
-    μ-loop
-    (λ c. along-begins (omega arith))
-    (λ c κs. omega arith)
-    returns
-    (λ c. omega arith)
-    (λ c. omega arith)
-    loop-again
-    returns-2)
+    tie.close (tie.spec Inv-loop (λ table n i₀ i. n - i) (λ c. along-begins (omega arith)) (λ c κs. omega arith)
+    (λ c. let told = c .before .fits-at in
+    sym (along-here (c .before .before .before .loop .inv) (c .before .before .loop-test .taken) ∙ simp (← (told .ensures), not-true (told .result) (c .if1 .taken))))
+    (λ c. omega arith) (λ c. omega arith)
+    (λ c. let told = c .before .fits-at in
+    along-goes (c .before .before .before .loop .inv) (c .before .before .loop-test .taken) (simp (← (told .ensures), not-false (told .result) (c .if1 .left))))
+    (λ c. sym (along-ends (c .before .loop .inv) (c .loop-test .left))))

@@ -4,12 +4,10 @@ use borrow.Author.Needs.{needs}
 use Rattle.table.proofs.session.held_at.Statement.{statement}
 use Rattle.table.proofs.session.held_at.Tie as tie
 
-read-requires : tie.Need-read-requires
-read-requires c κs = rw (c .before .place .given .1) at (c .before .before .before .before .pre)
-
-returns : tie.Need-returns
-returns c = rw (c .before .before .place .given .1) (c .read .ensures)
-
 pub held-at-spec : {M : Type 1} → statement M
 held-at-spec =
-    tie.close (tie.spec (λ c. search needs) read-requires (λ c. search needs) (λ c κs. search needs) returns (λ c. search needs))
+    tie.close (tie.spec (λ c. search needs)
+    (λ c κs. rw (c .before .place .given .1) at (c .before .before .before .before .pre))
+    (λ c. search needs) (λ c κs. search needs)
+    (λ c. rw (c .before .before .place .given .1) (c .read .ensures))
+    (λ c. search needs))

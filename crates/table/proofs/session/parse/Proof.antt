@@ -4,21 +4,9 @@ use Rattle.table.specs.Record.{recordOf}
 use Rattle.table.proofs.session.parse.Statement.{statement}
 use Rattle.table.proofs.session.parse.Tie as tie
 
-returns : tie.Need-returns
-unfolding recordOf
-returns c = simp (c .load64 .ensures, c .before .load322 .ensures, c .before .before .before .load32 .ensures, c .before .before .before .before .before .twelve .ensures)
-
 pub parse-spec : {M : Type 1} → statement M
+unfolding recordOf
 parse-spec =
-    tie.close
-    (tie.spec
-    (λ c. search needs)
-    (λ c. search needs)
-    (λ c. search needs)
-    (λ c κs. search needs)
-    (λ c. search needs)
-    (λ c κs. search needs)
-    (λ c. search needs)
-    (λ c κs. search needs)
-    (λ c κs. search needs)
-    returns)
+    tie.close (tie.spec (λ c. search needs) (λ c. search needs) (λ c. search needs) (λ c κs. search needs) (λ c. search needs) (λ c κs. search needs)
+    (λ c. search needs) (λ c κs. search needs) (λ c κs. search needs)
+    (λ c. simp (c .load64 .ensures, c .before .load322 .ensures, c .before .before .before .load32 .ensures, c .before .before .before .before .before .twelve .ensures)))

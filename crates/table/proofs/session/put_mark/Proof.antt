@@ -6,10 +6,7 @@ use Rattle.cells.proofs.Runs.{stored}
 use Rattle.table.proofs.session.put_mark.Statement.{statement}
 use Rattle.table.proofs.session.put_mark.Tie as tie
 
-returns : tie.Need-returns
-returns c =
-    let a = c .args in
-    stored (a .out .now) (a .x ∷ []) (a .at) (omega arith)
-
 pub put-mark-spec : {M : Type 1} → statement M
-put-mark-spec = tie.close (tie.spec (λ c. search needs) (λ c. search needs) returns)
+put-mark-spec =
+    tie.close (tie.spec (λ c. search needs) (λ c. search needs)
+    (λ c. let a = c .args in stored (a .out .now) (a .x ∷ []) (a .at) (omega arith)))

@@ -10,22 +10,11 @@ use Rattle.table.proofs.Records.{length-recordBytes}
 use Rattle.table.proofs.session.store.Statement.{statement}
 use Rattle.table.proofs.session.store.Tie as tie
 
-returns : tie.Need-returns
-returns c =
-    let a = c .before .before .before .before .before .args in
-    let iv : length (a .session .iv) ≡ 12 = search needs in
-    lent (a .table .now) (recordBytes (a .session)) (30 * a .place) (30 * a .place + 30) (c .before .before .write .ensures)
-    (omega (arith, length-recordBytes (a .session) iv))
-
 pub store-spec : {M : Type 1} → statement M
 store-spec =
-    tie.close
-    (tie.spec
+    tie.close (tie.spec (λ c. search needs) (λ c. search needs) (λ c. search needs) (λ c. search needs) (λ c. search needs) (λ c κs. search needs)
     (λ c. search needs)
-    (λ c. search needs)
-    (λ c. search needs)
-    (λ c. search needs)
-    (λ c. search needs)
-    (λ c κs. search needs)
-    (λ c. search needs)
-    returns)
+    (λ c. let a = c .before .before .before .before .before .args in
+    let iv : length (a .session .iv) ≡ 12 = search needs in
+    lent (a .table .now) (recordBytes (a .session)) (30 * a .place) (30 * a .place + 30) (c .before .before .write .ensures)
+    (omega (arith, length-recordBytes (a .session) iv))))

@@ -17,15 +17,6 @@ Inv-loop digits value₀ i₀ value i = (i ≤ length digits) × (value ≡ valu
 abbrev μ-loop : tie.MeasureT-loop
 μ-loop digits value₀ i₀ value i = length digits - i
 
-loop-holds : tie.Need-loop-holds Inv-loop μ-loop
-unfolding valueAfter
-loop-holds c = (omega arith, refl, omega arith)
-
-add-value : tie.Need-add-value Inv-loop μ-loop
-add-value c =
-    let w = c .before .before .before .loop in
-    omega (arith, bounded (w .i) (w .value) (omega (arith, c .before .before .before .before .before .pre)) (w .inv .2), c .digit .ensures .1)
-
 loop-again : tie.Need-loop-again Inv-loop μ-loop
 loop-again c =
     let w = c .before .before .before .loop in
@@ -35,23 +26,14 @@ loop-again c =
       bounded-more (w .i) (w .value) (c .digit .result) (w .inv .2) (c .digit .ensures .1),
     )
 
-returns : tie.Need-returns Inv-loop μ-loop
-returns c =
-    let w = c .before .loop in
-    w .inv .1 ∙ ap (valueAfter 0) (take-all (w .i) (c .before .before .before .args .digits .now) (c .loop-test .left))
-
 pub value-spec : {M : Type 1} → statement M
+unfolding valueAfter
 value-spec =
-    tie.close
-    (tie.spec
-    Inv-loop
-    μ-loop
-    loop-holds
+    tie.close (tie.spec Inv-loop μ-loop (λ c. (omega arith, refl, omega arith))
     (λ c. omega (arith, bounded (c .before .loop .i) (c .before .loop .value) (omega (arith, c .before .before .before .pre)) (c .before .loop .inv .2)))
-    (λ c. search needs)
-    (λ c κs. search needs)
-    add-value
-    (λ c. search needs)
-    (λ c. search needs)
-    loop-again
-    returns)
+    (λ c. search needs) (λ c κs. search needs)
+    (λ c. let w = c .before .before .before .loop in
+    omega (arith, bounded (w .i) (w .value) (omega (arith, c .before .before .before .before .before .pre)) (w .inv .2), c .digit .ensures .1))
+    (λ c. search needs) (λ c. search needs) loop-again
+    (λ c. let w = c .before .loop in
+    w .inv .1 ∙ ap (valueAfter 0) (take-all (w .i) (c .before .before .before .args .digits .now) (c .loop-test .left))))
