@@ -7,6 +7,7 @@ gap, which meet the limits to the second.
 
 import random
 
+import calls
 import client
 import drafts
 import encoding
@@ -81,6 +82,20 @@ def at(stage, alter):
 
 def replaced(stage, name, contents):
     return at(stage, lambda draft: setattr(draft, name, contents))
+
+
+# The thin entry
+
+
+def taken_out(*nonces):
+    """Nonces by the thin entry, over a record that is taken out of a table of two and put back; each again by gate_judge."""
+    table = rec.to_bytes(rec.fresh(IV, HIGHEST)) + rec.to_bytes(rec.fresh(IV[::-1], HIGHEST))
+    for nonce in nonces:
+        call = request_call(n=nonce)
+        thin = call._replace(kind="one", table=table)
+        yield f"nonce {nonce} by the thin entry", thin, (0,)
+        table = calls.answered(thin, table, bytes(model.LEAST_REPLY)).table
+        yield f"nonce {nonce} again, by gate_judge", call._replace(table=table), (16,)
 
 
 # Orders
