@@ -11,4 +11,4 @@ unfolding xtimes
 returns c = refl
 
 pub double-spec : {M : Type 1} → statement M
-double-spec = tie.close (tie.spec (λ c. search needs) returns)
+double-spec = tie.close (tie.spec (search needs) returns)

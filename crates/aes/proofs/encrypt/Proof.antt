@@ -4,6 +4,7 @@ use mathlib.Core.List.{List}
 use mathlib.Core.Path.{_≡_, refl, ap, _∙_, ap₂}
 use Prim.Native.Nat.{_-_, _≤_, ℕ}
 use native.Mathlib.Omega.{arith}
+use borrow.Author.Needs.{needs}
 use Rattle.aes.specs.Cipher.{rounds, cipher, addRoundKey, shiftRows, subBytes}
 use Rattle.aes.specs.InnerCode.{listed}
 use Rattle.aes.proofs.Cipher.{round-more}
@@ -44,16 +45,5 @@ returns c =
 
 pub encrypt-spec : {M : Type 1} → statement M
 encrypt-spec =
-    tie.close
-    (tie.spec
-    Inv-loop
-    μ-loop
-    (λ c κs. tt)
-    (λ c κs. tt)
-    loop-holds
-    round-requires
-    (λ c. omega arith)
-    (λ c. omega arith)
-    loop-again
-    last-round-requires
-    returns)
+    tie.close (tie.spec Inv-loop μ-loop (search needs) (search needs) loop-holds round-requires (search needs)
+    (search needs) loop-again last-round-requires returns)

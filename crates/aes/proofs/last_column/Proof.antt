@@ -10,5 +10,4 @@ returns : tie.Need-returns
 returns c = c .xor .ensures ∙ ap₂ xorWord (c .before .before .sub-word .ensures) (c .before .word .ensures)
 
 pub last-column-spec : {M : Type 1} → statement M
-last-column-spec =
-    tie.close (tie.spec (λ c κs. search needs) (λ c κs. search needs) (λ c κs. search needs) returns)
+last-column-spec = tie.close (tie.spec (λ c κs. search needs) (search needs) (search needs) returns)

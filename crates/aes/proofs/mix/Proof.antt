@@ -10,11 +10,4 @@ unfolding mixWord
 returns c = simp (c .before .before .before .mixed .ensures, c .before .before .mixed2 .ensures, c .before .mixed3 .ensures, c .mixed4 .ensures)
 
 pub mix-spec : {M : Type 1} → statement M
-mix-spec =
-    tie.close
-    (tie.spec
-    (λ c κs. search needs)
-    (λ c κs. search needs)
-    (λ c κs. search needs)
-    (λ c κs. search needs)
-    returns)
+mix-spec = tie.close (tie.spec (search needs) (search needs) (search needs) (search needs) returns)

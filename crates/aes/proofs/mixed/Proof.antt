@@ -11,4 +11,4 @@ unfolding mixed
 returns c = simp (times-two, times-three, c .before .double .ensures, c .double2 .ensures)
 
 pub mixed-spec : {M : Type 1} → statement M
-mixed-spec = tie.close (tie.spec (λ c κs. search needs) (λ c κs. search needs) returns)
+mixed-spec = tie.close (tie.spec (search needs) (search needs) returns)

@@ -12,4 +12,4 @@ returns c =
     constant (c .args .j - 1) (omega arith)
 
 pub round-constant-spec : {M : Type 1} → statement M
-round-constant-spec = tie.close (tie.spec (λ c. search needs) (λ c. search needs) (λ c. search needs) returns)
+round-constant-spec = tie.close (tie.spec (search needs) (search needs) (search needs) returns)

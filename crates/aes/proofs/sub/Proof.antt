@@ -8,4 +8,4 @@ returns : tie.Need-returns
 returns c = c .before .pre .at _ (search needs)
 
 pub sub-spec : {M : Type 1} → statement M
-sub-spec = tie.close (tie.spec (λ c. search needs) returns)
+sub-spec = tie.close (tie.spec (search needs) returns)

@@ -11,10 +11,5 @@ returns c = simp (c .before .before .before .sub .ensures, c .before .before .su
 
 pub sub-word-spec : {M : Type 1} → statement M
 sub-word-spec =
-    tie.close
-    (tie.spec
-    (λ c κs. search needs)
-    (λ c κs. search needs)
-    (λ c κs. search needs)
-    (λ c κs. search needs)
+    tie.close (tie.spec (λ c κs. search needs) (λ c κs. search needs) (λ c κs. search needs) (λ c κs. search needs)
     returns)

@@ -28,11 +28,4 @@ returns-3 c = rw (ne-eqb _ _ (c .before .if1 .left), ne-eqb _ _ (c .if2 .left)) 
 
 pub temp-spec : {M : Type 1} → statement M
 temp-spec =
-    tie.close
-    (tie.spec
-    (λ c κs. search needs)
-    (λ c κs. search needs)
-    returns
-    (λ c κs. search needs)
-    returns-2
-    returns-3)
+    tie.close (tie.spec (λ c κs. search needs) (search needs) returns (λ c κs. search needs) returns-2 returns-3)

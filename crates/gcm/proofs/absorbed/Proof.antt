@@ -16,4 +16,4 @@ returns c =
     ∙ ap (λ (n : ℕ). product n (whole (start .args .h))) (c .before .xor .ensures ∙ ap (bitXor (whole (start .args .y))) (c .before .before .filled .ensures))
 
 pub absorbed-spec : {M : Type 1} → statement M
-absorbed-spec = tie.close (tie.spec (λ c κs. search needs) (λ c κs. search needs) (λ c κs. search needs) returns)
+absorbed-spec = tie.close (tie.spec (search needs) (search needs) (search needs) returns)

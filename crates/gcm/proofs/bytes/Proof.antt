@@ -20,11 +20,4 @@ returns c =
     ∙ block-bytes (b .high) (b .low) (search needs)
 
 pub bytes-spec : {M : Type 1} → statement M
-bytes-spec =
-    tie.close
-    (tie.spec
-    (λ c. search needs)
-    (λ c κs. search needs)
-    (λ c. search needs)
-    (λ c κs. search needs)
-    returns)
+bytes-spec = tie.close (tie.spec (search needs) (search needs) (search needs) (search needs) returns)

@@ -9,4 +9,4 @@ mul-result : tie.Need-mul-result
 mul-result c = record { fits = chosen-below (c .args .bit) (c .args .x) _ (search needs) (search needs) }
 
 pub chosen-spec : {M : Type 1} → statement M
-chosen-spec = tie.close (tie.spec mul-result (λ c. search needs))
+chosen-spec = tie.close (tie.spec mul-result (search needs))

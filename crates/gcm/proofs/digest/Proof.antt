@@ -22,11 +22,4 @@ returns c =
     ∙ digested h cipher (start .pre) (c .before .before .hash .ensures)
 
 pub digest-spec : {M : Type 1} → statement M
-digest-spec =
-    tie.close
-    (tie.spec
-    (λ c κs. search needs)
-    (λ c. search needs)
-    (λ c κs. search needs)
-    (λ c κs. search needs)
-    returns)
+digest-spec = tie.close (tie.spec (search needs) (search needs) (search needs) (search needs) returns)

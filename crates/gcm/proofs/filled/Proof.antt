@@ -11,11 +11,4 @@ returns : tie.Need-returns
 returns c = c .loaded .ensures ∙ ap number (c .before .before .before .put-front .ensures ∙ fronted-zeros _ 16)
 
 pub filled-spec : {M : Type 1} → statement M
-filled-spec =
-    tie.close
-    (tie.spec
-    (λ c. search needs)
-    (λ c κs. search needs)
-    (λ c. search needs)
-    (λ c κs. search needs)
-    returns)
+filled-spec = tie.close (tie.spec (search needs) (search needs) (search needs) (search needs) returns)

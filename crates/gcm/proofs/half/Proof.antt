@@ -40,16 +40,5 @@ returns c x y k bits q =
 
 pub half-spec : {M : Type 1} → statement M
 half-spec =
-    tie.close
-    (tie.spec
-    Inv-loop
-    μ-loop
-    loop-holds
-    (λ c. omega arith)
-    (λ c. search needs)
-    (λ c. omega arith)
-    turned-requires
-    (λ c. omega arith)
-    (λ c. omega arith)
-    loop-again
-    returns)
+    tie.close (tie.spec Inv-loop μ-loop loop-holds (search needs) (search needs) (search needs) turned-requires
+    (search needs) (search needs) loop-again returns)

@@ -18,4 +18,4 @@ returns c =
     ap (λ (n : ℕ). bitXor (h / 2) n * 2 ^ 64 + (l / 2 + h % 2 * 0x8000000000000000)) (c .before .before .chosen .ensures) ∙ halved-whole h l (search needs)
 
 pub halved-spec : {M : Type 1} → statement M
-halved-spec = tie.close (tie.spec (λ c κs. search needs) (λ c. search needs) add-t9 returns)
+halved-spec = tie.close (tie.spec (search needs) (search needs) add-t9 returns)

@@ -19,4 +19,4 @@ returns c key e =
     ∙ ap number (c .before .before .encrypt .ensures ∙ ap (λ (w : List ℕ). cipher w (replicate 16 0)) e ∙ cipher-expanded key (replicate 16 0))
 
 pub hash-key-spec : {M : Type 1} → statement M
-hash-key-spec = tie.close (tie.spec (λ c κs. search needs) (λ c. search needs) (λ c κs. search needs) returns)
+hash-key-spec = tie.close (tie.spec (search needs) (search needs) (search needs) returns)

@@ -12,4 +12,4 @@ returns c =
     ap₂ (λ (h l : ℕ). h * 2 ^ 64 + l) (c .before .load64 .ensures) (c .load642 .ensures) ∙ number-parts (c .before .before .before .args .s .now) 8 8 (c .before .before .before .pre)
 
 pub loaded-spec : {M : Type 1} → statement M
-loaded-spec = tie.close (tie.spec (λ c κs. search needs) (λ c κs. search needs) returns)
+loaded-spec = tie.close (tie.spec (search needs) (search needs) returns)

@@ -14,12 +14,4 @@ returns c =
     ∙ ap (added (start .args .text .now)) (c .before .before .before .before .before .encrypt .ensures ∙ ap (cipher (start .args .keys .now)) (c .before .before .before .before .before .before .bytes .ensures))
 
 pub mask-spec : {M : Type 1} → statement M
-mask-spec =
-    tie.close
-    (tie.spec
-    (λ c κs. search needs)
-    (λ c κs. search needs)
-    (λ c. search needs)
-    (λ c κs. search needs)
-    (λ c. search needs)
-    returns)
+mask-spec = tie.close (tie.spec (search needs) (search needs) (search needs) (search needs) (search needs) returns)

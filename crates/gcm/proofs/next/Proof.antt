@@ -9,4 +9,4 @@ returns : tie.Need-returns
 returns c = inc32-whole (c .before .before .args .b .high) (c .before .before .args .b .low) (search needs)
 
 pub next-spec : {M : Type 1} → statement M
-next-spec = tie.close (tie.spec (λ c. search needs) (λ c. search needs) (λ c. search needs) returns)
+next-spec = tie.close (tie.spec (search needs) (search needs) (search needs) returns)

@@ -21,11 +21,4 @@ returns c =
     )
 
 pub turned-spec : {M : Type 1} → statement M
-turned-spec =
-    tie.close
-    (tie.spec
-    (λ c κs. search needs)
-    (λ c κs. search needs)
-    (λ c κs. search needs)
-    (λ c κs. search needs)
-    returns)
+turned-spec = tie.close (tie.spec (search needs) (search needs) (search needs) (search needs) returns)

@@ -21,5 +21,4 @@ returns c =
 
 pub complete-spec : {M : Type 1} → statement M
 complete-spec =
-    tie.close
-    (tie.spec (λ c. search needs) put-at-requires (λ c. search needs) (λ c κs. search needs) (λ c. search needs) returns)
+    tie.close (tie.spec (λ c. search needs) put-at-requires (search needs) (search needs) (search needs) returns)

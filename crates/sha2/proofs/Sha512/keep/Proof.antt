@@ -19,4 +19,4 @@ returns c =
     took-kept (start .args .self) _ (start .args .part .now) full refl (start .pre .0) refl (c .before .put-at .ensures .is)
 
 pub keep-spec : {M : Type 1} → statement M
-keep-spec = tie.close (tie.spec (λ c. search needs) put-at-requires (λ c. search needs) returns)
+keep-spec = tie.close (tie.spec (λ c. search needs) put-at-requires (search needs) returns)

@@ -5,6 +5,7 @@ use mathlib.Core.List.{List}
 use Prim.Native.Nat.{ℕ, _+_, _*_, _-_, _≤_}
 use native.Mathlib.Numerals.{add-one}
 use native.Mathlib.Omega.{arith}
+use borrow.Author.Needs.{needs}
 use Rattle.cells.specs.Runs.{part}
 use Rattle.cells.proofs.Runs.{length-part}
 use Rattle.sha2.specs.Constants.{K}
@@ -52,19 +53,5 @@ returns-2 c =
 
 pub after-blocks-spec : {M : Type 1} → statement M
 after-blocks-spec =
-    tie.close
-    (tie.spec
-    Inv-loop
-    μ-loop
-    returns
-    loop-holds
-    (λ c. omega arith)
-    (λ c. omega arith)
-    (λ c. omega arith)
-    (λ c. omega arith)
-    (λ c. omega arith)
-    after-block-requires
-    (λ c. omega arith)
-    (λ c. omega arith)
-    loop-again
-    returns-2)
+    tie.close (tie.spec Inv-loop μ-loop returns loop-holds (search needs) (search needs) (search needs) (search needs)
+    (search needs) after-block-requires (search needs) (search needs) loop-again returns-2)

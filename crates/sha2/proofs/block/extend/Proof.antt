@@ -4,6 +4,7 @@ use mathlib.Core.Path.{_≡_}
 use mathlib.Core.List.{List}
 use Prim.Native.Nat.{ℕ, _+_, _-_, _*_, _≤_}
 use native.Mathlib.Omega.{arith}
+use borrow.Author.Needs.{needs}
 use Rattle.sha2.specs.InnerScheduled.{Scheduled}
 use Rattle.sha2.proofs.block.extend.Statement.{statement}
 use Rattle.sha2.proofs.block.extend.Tie as tie
@@ -30,14 +31,5 @@ returns c block laid =
 
 pub extend-spec : {M : Type 1} → statement M
 extend-spec =
-    tie.close
-    (tie.spec
-    Inv-loop
-    μ-loop
-    loop-holds
-    (λ c. omega arith)
-    (λ c κs. omega arith)
-    (λ c. omega arith)
-    (λ c. omega arith)
-    loop-again
-    returns)
+    tie.close (tie.spec Inv-loop μ-loop loop-holds (search needs) (search needs) (search needs) (search needs)
+    loop-again returns)

@@ -10,6 +10,4 @@ unfolding mix
 returns c = cc
 
 pub mix-spec : {M : Type 1} → statement M
-mix-spec =
-    tie.close
-    (tie.spec (λ c κs. search needs) (λ c κs. search needs) (λ c κs. search needs) (λ c κs. search needs) (λ c κs. search needs) returns)
+mix-spec = tie.close (tie.spec (search needs) (search needs) (search needs) (search needs) (search needs) returns)

@@ -20,4 +20,4 @@ returns-2 c =
     c .accepted2 .ensures ∙ simp (lt-leb _ _ near)
 
 pub above-spec : {M : Type 1} → statement M
-above-spec = tie.close (tie.spec (λ c κs. search needs) returns (λ c. search needs) (λ c κs. search needs) returns-2)
+above-spec = tie.close (tie.spec (search needs) returns (search needs) (search needs) returns-2)

@@ -28,13 +28,5 @@ returns-3 c =
 
 pub below-spec : {M : Type 1} → statement M
 below-spec =
-    tie.close
-    (tie.spec
-    (λ c κs. search needs)
-    returns
-    (λ c. search needs)
-    (λ c κs. search needs)
-    returns-2
-    (λ c. search needs)
-    (λ c κs. search needs)
+    tie.close (tie.spec (search needs) returns (search needs) (search needs) returns-2 (search needs) (search needs)
     returns-3)

@@ -25,13 +25,4 @@ returns-3 c =
     ∙ simp (le-ltb _ _ (at .if2 .left), not-false (at .before .before .before .before .before .args .self .any) (at .before .before .before .if1 .left))
 
 pub step-spec : {M : Type 1} → statement M
-step-spec =
-    tie.close
-    (tie.spec
-    (λ c κs. search needs)
-    returns
-    (λ c. search needs)
-    (λ c κs. search needs)
-    returns-2
-    (λ c κs. search needs)
-    returns-3)
+step-spec = tie.close (tie.spec (search needs) returns (search needs) (search needs) returns-2 (search needs) returns-3)

@@ -20,4 +20,4 @@ returns c =
     (toZ-ofZ w64 _ (difference-fits (a .later .0) (a .earlier .0) (omega arith) (omega arith)))
 
 pub age-spec : {M : Type 1} → statement M
-age-spec = tie.close (tie.spec (λ c. search needs) (λ c. search needs) sub-result returns)
+age-spec = tie.close (tie.spec (search needs) (search needs) sub-result returns)
