@@ -2,7 +2,8 @@
 -- Assumes nothing.
 use mathlib.Core.List.{List}
 use mathlib.Core.Path.{_≡_, refl, sym, ap, _∙_}
-use Prim.Native.Nat.{ℕ, _+_, _*_, _-_, _≤_}
+use Prim.Native.Nat.{ℕ, _+_, _*_, _-_, _≤_, min}
+use native.Mathlib.Nat.{zero-min}
 use native.Mathlib.Omega.{arith}
 use borrow.Author.Needs.{needs}
 use lib.ListN.{length, take, drop}
@@ -21,14 +22,14 @@ Inv-loop keys text out₀ m counter₀ n₀ out counter n =
     (n ≤ m)
     × (length out ≡ length text)
     × (whole counter ≡ counterAt (whole counter₀) n)
-    × ((key : List ℕ) → keys ≡ keyExpansion key → take (16 * n) out ≡ masked key (whole counter₀) text n)
+    × ((key : List ℕ) → keys ≡ keyExpansion key → take (min (16 * n) (length text)) out ≡ masked key (whole counter₀) text n)
 
 abbrev μ-loop : tie.MeasureT-loop
 μ-loop keys text out₀ m counter₀ n₀ out counter n = m - n
 
 loop-holds : tie.Need-loop-holds Inv-loop μ-loop
 unfolding counterAt masked
-loop-holds c = (omega arith, omega arith, refl, λ key e. refl)
+loop-holds c = (omega arith, omega arith, refl, λ key e. rw zero-min)
 
 mask-requires : tie.Need-mask-requires Inv-loop μ-loop
 mask-requires c κs =
@@ -59,7 +60,7 @@ loop-again c =
       ap length laid ∙ length-spliced out x (16 * n) (omega arith) ∙ loop .inv .1,
       counter-more icb n (loop .inv .2) (c .next .ensures),
       λ key expands.
-          ap (take (16 * (n + 1))) laid
+          ap (take (min (16 * (n + 1)) (length text))) laid
           ∙ masked-more key icb text n out x (omega arith) (loop .inv .1) (mask-expanded key text keys icb n e (whole (loop .counter)) expands (loop .inv .2) ends)
           (loop .inv .3 key expands),
     )
