@@ -6,7 +6,7 @@ use mathlib.Core.Bool.{Bool, true, false, _&&_, _||_}
 use Prim.Native.Nat.{ℕ, zero, suc, _+_, _-_, _*_, _/_, _%_, _^_, _<_, _≤_, max}
 use native.Mathlib.Nat.{one-mul, mod-lt, div-eq-of-lt, mul-add-mod-self-right, mul-assoc}
 use native.Mathlib.Omega.{arith}
-use borrow.Author.Tests.{ltb-true, ltb-false, leb-true, leb-false, le-leb, lt-leb, eqb-true, eqb-false, eq-eqb, ne-eqb}
+use borrow.Author.Tests.{ltb-true, ltb-false, le-leb, lt-leb, eqb-true, eqb-false, eq-eqb, ne-eqb}
 use lib.Bits.{bitOr, or-shr, or-step, shifted-even}
 use lib.Dec.{lit<, ltb, eqb, leb}
 use lib.Pow.{shl-exact, pow-lt, pow-add, field, mod-mod-pow, shr-shr, shl-shr}
@@ -35,21 +35,20 @@ one-moved d h = shl-exact {a = 1} 1 d 64 (lit< tt) (omega arith) ∙ one-mul (2 
 -- a number moved up s places has no bit below s, and at d the bit that stood s below
 raised : (n s d : ℕ) → bit (n * 2 ^ s) d ≡ (leb s d && bit n (d - s))
 unfolding bit
-raised n s d = either (leb s d) refl
-  where
-    either : (t : Bool) → leb s d ≡ t → eqb (n * 2 ^ s / 2 ^ d % 2) 1 ≡ (t && eqb (n / 2 ^ (d - s) % 2) 1)
-    either true e =
-        let whole : d ≡ s + (d - s) = omega (arith, leb-true s d e) in
-        ap (λ (q : ℕ). eqb (q % 2) 1)
-        (ap (λ (k : ℕ). n * 2 ^ s / 2 ^ k) whole ∙ sym (shr-shr (n * 2 ^ s) s (d - s)) ∙ ap (λ (q : ℕ). q / 2 ^ (d - s)) (shl-shr n s))
-    either false e =
-        let k = s - suc d in
-        let whole : s ≡ suc k + d = omega (arith, leb-false s d e) in
-        ap (λ (q : ℕ). eqb (q % 2) 1)
-        (ap (λ (j : ℕ). n * 2 ^ j / 2 ^ d) whole
-        ∙ ap (λ (q : ℕ). q / 2 ^ d) (ap (λ (q : ℕ). n * q) (pow-add 2 (suc k) d) ∙ sym (mul-assoc n (2 ^ suc k) (2 ^ d)))
-        ∙ shl-shr (n * 2 ^ suc k) d)
-        ∙ ap (λ (r : ℕ). eqb r 1) (shifted-even n k)
+raised n s d =
+    ⊎-elim
+    (λ l.
+    let k = s - suc d in
+    let whole : s ≡ suc k + d = omega arith in
+    let above : n * 2 ^ s / 2 ^ d ≡ n * 2 ^ suc k =
+    ap (λ (j : ℕ). n * 2 ^ j / 2 ^ d) whole ∙ ap (λ (q : ℕ). n * q / 2 ^ d) (pow-add 2 (suc k) d) ∙ rw (← mul-assoc, shl-shr)
+    in
+    rw (lt-leb s d l, above, shifted-even n k))
+    (λ l.
+    let whole : n * 2 ^ s / 2 ^ (s + (d - s)) ≡ n / 2 ^ (d - s) = rw (← (shr-shr (n * 2 ^ s) s (d - s)), shl-shr n s) in
+    let place : s + (d - s) ≡ d = omega arith in
+    rw (le-leb s d l, ← whole, place))
+    (order d s)
 
 -- the bits of one
 one-bit : (d : ℕ) → bit 1 d ≡ eqb 0 d
