@@ -20,10 +20,6 @@ Inv-loop m n k v₀ i₀ v i = (i ≤ n) × (v ≡ afterBlocks v₀ m i)
 abbrev μ-loop : tie.MeasureT-loop
 μ-loop m n k v₀ i₀ v i = n - i
 
-loop-holds : tie.Need-loop-holds Inv-loop μ-loop
-unfolding afterBlocks
-loop-holds c = (omega arith, refl)
-
 after-block-requires : tie.Need-after-block-requires Inv-loop μ-loop
 unfolding K
 after-block-requires c κs =
@@ -52,6 +48,7 @@ returns-2 c =
     c .before .loop .inv .1 ∙ ap (afterBlocks (start .args .v) (start .args .m .now)) e
 
 pub after-blocks-spec : {M : Type 1} → statement M
+unfolding afterBlocks
 after-blocks-spec =
-    tie.close (tie.spec Inv-loop μ-loop returns loop-holds (search needs) (search needs) (search needs) (search needs)
-    (search needs) after-block-requires (search needs) (search needs) loop-again returns-2)
+    tie.close (tie.spec Inv-loop μ-loop returns (λ c. (omega arith, refl)) (search needs) (search needs) (search needs)
+    (search needs) (search needs) after-block-requires (search needs) (search needs) loop-again returns-2)

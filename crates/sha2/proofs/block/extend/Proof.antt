@@ -15,9 +15,6 @@ Inv-loop w₀ q₀ w q = (2 ≤ q) × (q ≤ 10) × ((block : List ℕ) → Sche
 abbrev μ-loop : tie.MeasureT-loop
 μ-loop w₀ q₀ w q = 10 - q
 
-loop-holds : tie.Need-loop-holds Inv-loop μ-loop
-loop-holds c = (omega arith, omega arith, λ block laid. laid)
-
 loop-again : tie.Need-loop-again Inv-loop μ-loop
 loop-again c =
     let loop = c .before .before .before .loop in
@@ -31,5 +28,5 @@ returns c block laid =
 
 pub extend-spec : {M : Type 1} → statement M
 extend-spec =
-    tie.close (tie.spec Inv-loop μ-loop loop-holds (search needs) (search needs) (search needs) (search needs)
-    loop-again returns)
+    tie.close (tie.spec Inv-loop μ-loop (λ c. (omega arith, omega arith, λ block laid. laid)) (search needs)
+    (search needs) (search needs) (search needs) loop-again returns)

@@ -17,10 +17,6 @@ Inv-loop w₀ block t₀ w t = (t ≤ 16) × Scheduled w block t
 abbrev μ-loop : tie.MeasureT-loop
 μ-loop w₀ block t₀ w t = 16 - t
 
-loop-holds : tie.Need-loop-holds Inv-loop μ-loop
-unfolding schedule
-loop-holds c = (omega arith, record { long = omega arith; words = refl })
-
 loop-again : tie.Need-loop-again Inv-loop μ-loop
 loop-again c =
     let loop = c .before .before .loop in (
@@ -37,6 +33,7 @@ returns c =
     rw e at (c .before .loop .inv .1)
 
 pub load-spec : {M : Type 1} → statement M
+unfolding schedule
 load-spec =
-    tie.close (tie.spec Inv-loop μ-loop loop-holds (search needs) (search needs) (search needs) (search needs)
-    (search needs) (search needs) loop-again returns)
+    tie.close (tie.spec Inv-loop μ-loop (λ c. (omega arith, record { long = omega arith; words = refl })) (search needs)
+    (search needs) (search needs) (search needs) (search needs) (search needs) loop-again returns)

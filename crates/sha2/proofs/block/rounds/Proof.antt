@@ -14,10 +14,6 @@ Inv-loop k w x₀ q₀ x q = (q ≤ 10) × (x ≡ rounds k w x₀ (8 * q))
 abbrev μ-loop : tie.MeasureT-loop
 μ-loop k w x₀ q₀ x q = 10 - q
 
-loop-holds : tie.Need-loop-holds Inv-loop μ-loop
-unfolding rounds
-loop-holds c = (omega arith, refl)
-
 loop-again : tie.Need-loop-again Inv-loop μ-loop
 loop-again c =
     let q = c .before .before .loop .q in
@@ -31,6 +27,7 @@ returns c =
     c .before .loop .inv .1 ∙ ap (rounds (start .args .k .now) (start .args .w .now) (start .args .v)) e
 
 pub rounds-spec : {M : Type 1} → statement M
+unfolding rounds
 rounds-spec =
-    tie.close (tie.spec Inv-loop μ-loop loop-holds (search needs) (search needs) (search needs) (search needs)
-    loop-again returns)
+    tie.close (tie.spec Inv-loop μ-loop (λ c. (omega arith, refl)) (search needs) (search needs) (search needs)
+    (search needs) loop-again returns)
