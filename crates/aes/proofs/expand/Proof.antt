@@ -40,11 +40,8 @@ loop-again c =
       ap (take (4 * (i + 1))) (c .extend .ensures) ∙ extended key w i (inv .0) (omega arith) (inv .3),
     )
 
-returns : tie.Need-returns Inv-loop μ-loop
-returns c =
-    whole _ (c .before .loop .w) (c .before .loop .i) (omega arith) (c .before .loop .inv .2) (c .before .loop .inv .3)
-
 pub expand-spec : {M : Type 1} → statement M
 expand-spec =
     tie.close (tie.spec Inv-loop μ-loop (search needs) (λ c. refl) (search needs) loop-holds extend-requires
-    (search needs) (search needs) loop-again returns)
+    (search needs) (search needs) loop-again
+    (λ c. whole _ (c .before .loop .w) (c .before .loop .i) (omega arith) (c .before .loop .inv .2) (c .before .loop .inv .3)))

@@ -21,10 +21,6 @@ Inv-loop text stream out₀ i₀ out i =
 abbrev μ-loop : tie.MeasureT-loop
 μ-loop text stream out₀ i₀ out i = length text - i
 
-loop-holds : tie.Need-loop-holds Inv-loop μ-loop
-unfolding added
-loop-holds c = (omega arith, c .pre .1, refl)
-
 loop-again : tie.Need-loop-again Inv-loop μ-loop
 loop-again c =
     let start = c .before .before .before .before in
@@ -46,6 +42,7 @@ returns c =
     ∙ ap (λ (l : List ℕ). added l (c .before .before .args .stream .now)) (take-all i text (omega arith))
 
 pub add-spec : {M : Type 1} → statement M
+unfolding added
 add-spec =
-    tie.close (tie.spec Inv-loop μ-loop loop-holds (search needs) (search needs) (search needs) (search needs)
-    (search needs) loop-again (search needs) returns)
+    tie.close (tie.spec Inv-loop μ-loop (λ c. (omega arith, c .pre .1, refl)) (search needs) (search needs)
+    (search needs) (search needs) (search needs) loop-again (search needs) returns)

@@ -16,9 +16,6 @@ Inv-loop w s₀ i₀ s i = (i ≤ 64) × ((x y k : ℕ) → BitsFrom x k w → S
 abbrev μ-loop : tie.MeasureT-loop
 μ-loop w s₀ i₀ s i = 64 - i
 
-loop-holds : tie.Need-loop-holds Inv-loop μ-loop
-loop-holds c = (omega arith, λ x y k bits p. rw (add-zero k) p)
-
 loop-again : tie.Need-loop-again Inv-loop μ-loop
 unfolding zAt vAt
 loop-again c =
@@ -37,5 +34,5 @@ returns c x y k bits q =
 
 pub half-spec : {M : Type 1} → statement M
 half-spec =
-    tie.close (tie.spec Inv-loop μ-loop loop-holds (search needs) (search needs) (search needs) (λ c κs. mod-lt _ (omega arith))
-    (search needs) (search needs) loop-again returns)
+    tie.close (tie.spec Inv-loop μ-loop (λ c. (omega arith, λ x y k bits p. rw (add-zero k) p)) (search needs)
+    (search needs) (search needs) (λ c κs. mod-lt _ (omega arith)) (search needs) (search needs) loop-again returns)

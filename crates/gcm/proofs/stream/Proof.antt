@@ -27,10 +27,6 @@ Inv-loop keys text out₀ m counter₀ n₀ out counter n =
 abbrev μ-loop : tie.MeasureT-loop
 μ-loop keys text out₀ m counter₀ n₀ out counter n = m - n
 
-loop-holds : tie.Need-loop-holds Inv-loop μ-loop
-unfolding counterAt masked
-loop-holds c = (omega arith, omega arith, refl, λ key e. rw zero-min)
-
 mask-requires : tie.Need-mask-requires Inv-loop μ-loop
 mask-requires c κs =
     let text = c .before .before .before .before .before .before .before .before .args .text .now in
@@ -74,7 +70,8 @@ returns c key e =
     (c .before .loop .inv .1) (c .before .loop .inv .3 key e)
 
 pub stream-spec : {M : Type 1} → statement M
+unfolding counterAt masked
 stream-spec =
-    tie.close (tie.spec Inv-loop μ-loop (search needs) loop-holds (search needs) (search needs) (search needs)
-    (search needs) (search needs) (search needs) (search needs) (search needs) mask-requires (search needs)
-    (search needs) (search needs) loop-again (search needs) returns)
+    tie.close (tie.spec Inv-loop μ-loop (search needs) (λ c. (omega arith, omega arith, refl, λ key e. rw zero-min))
+    (search needs) (search needs) (search needs) (search needs) (search needs) (search needs) (search needs)
+    (search needs) mask-requires (search needs) (search needs) (search needs) loop-again (search needs) returns)
