@@ -14,8 +14,7 @@ use Rattle.aes.proofs.Cipher.{cipher-expanded, length-aes256}
 use Rattle.aes.proofs.Schedule.{laid}
 use Rattle.cells.specs.Runs.{part, spliced}
 use Rattle.cells.specs.Numbers.{bytesOf}
-use Rattle.gcm.specs.Gctr.{inc32, counterAt, added, maskedBlock, masked, gctr}
-use Rattle.gcm.specs.Gcm.{preCounter, crypted}
+use Rattle.gcm.specs.Gctr.{counterAt, added, maskedBlock, masked, gctr}
 use Rattle.gcm.proofs.Addition.{length-added, added-back}
 
 -- the length of a block of a run, and the block by its length
@@ -123,17 +122,4 @@ pub mask-expanded : (key xs keys : List ℕ) (icb n e counter : ℕ) → keys �
     → added (take (e - 16 * n) (drop (16 * n) xs)) (cipher keys (bytesOf 16 counter)) ≡ maskedBlock key icb xs n
 unfolding maskedBlock
 mask-expanded key xs keys icb n e counter ek ec ee =
-    ap₂ added (block-part xs (16 * n) e ee)
-    (ap₂ (λ (w : List ℕ) (m : ℕ). cipher w (bytesOf 16 m)) ek ec ∙ cipher-expanded key (bytesOf 16 (counterAt icb n)))
-
--- the counter block of the next turn
-pub counter-more : (icb n : ℕ) {counter next : ℕ} → counter ≡ counterAt icb n → next ≡ inc32 counter → next ≡ counterAt icb (n + 1)
-unfolding counterAt
-counter-more icb n ec en =
-    let e : suc n ≡ n + 1 = omega arith in
-    en ∙ ap inc32 ec ∙ ap (counterAt icb) e
-
--- GCTR from the counter block after the first
-pub crypted-by : (key iv text : List ℕ) {first next : ℕ} → first ≡ preCounter iv → next ≡ inc32 first → gctr key next text ≡ crypted key iv text
-unfolding crypted
-crypted-by key iv text ef en = ap (λ (n : ℕ). gctr key n text) (en ∙ ap inc32 ef)
+    rw (block-part xs (16 * n) e ee, ek, ec, cipher-expanded)

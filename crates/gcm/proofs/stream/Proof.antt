@@ -4,6 +4,7 @@ use mathlib.Core.List.{List}
 use mathlib.Core.Path.{_≡_, refl, sym, ap, _∙_}
 use Prim.Native.Nat.{ℕ, _+_, _*_, _-_, _≤_, min}
 use native.Mathlib.Nat.{zero-min}
+use native.Mathlib.Numerals.{add-one}
 use native.Mathlib.Omega.{arith}
 use borrow.Author.Needs.{needs}
 use lib.ListN.{length, take, drop}
@@ -11,9 +12,9 @@ use Rattle.aes.specs.Cipher.{cipher, keyExpansion}
 use Rattle.cells.specs.Numbers.{bytesOf}
 use Rattle.aes.proofs.Cipher.{length-cipher}
 use Rattle.cells.proofs.Runs.{lent, length-spliced}
-use Rattle.gcm.specs.Gctr.{added, counterAt, masked}
+use Rattle.gcm.specs.Gctr.{inc32, added, counterAt, masked}
 use Rattle.gcm.specs.InnerCode.{whole}
-use Rattle.gcm.proofs.Masking.{length-lent, length-added-lent, masked-more, masked-all, mask-expanded, counter-more}
+use Rattle.gcm.proofs.Masking.{length-lent, length-added-lent, masked-more, masked-all, mask-expanded}
 use Rattle.gcm.proofs.stream.Statement.{statement}
 use Rattle.gcm.proofs.stream.Tie as tie
 
@@ -38,6 +39,7 @@ mask-requires c κs =
     (omega (arith, length-lent text at e ends), length-lent out at e (ends ∙ omega arith) ∙ sym (length-lent text at e ends))
 
 loop-again : tie.Need-loop-again Inv-loop μ-loop
+unfolding counterAt
 loop-again c =
     let start = c .before .before .before .before .before .before .before .before .before .before .before .before in
     let loop = c .before .before .before .before .before .before .before .before .loop in
@@ -54,7 +56,7 @@ loop-again c =
     let laid = lent out x (16 * n) e (c .before .before .before .mask .ensures) (sym size) in (
       omega arith,
       ap length laid ∙ length-spliced out x (16 * n) (omega arith) ∙ loop .inv .1,
-      counter-more icb n (loop .inv .2) (c .next .ensures),
+      rw add-one (c .next .ensures ∙ ap inc32 (loop .inv .2)),
       λ key expands.
           ap (take (min (16 * (n + 1)) (length text))) laid
           ∙ masked-more key icb text n out x (omega arith) (loop .inv .1) (mask-expanded key text keys icb n e (whole (loop .counter)) expands (loop .inv .2) ends)
