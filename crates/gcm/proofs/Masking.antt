@@ -1,48 +1,30 @@
 -- GCTR: how it grows block by block, and that it takes itself back.
 -- Assumes nothing.
-use mathlib.Core.Bool.{Bool, true, false}
-use mathlib.Core.List.{List, [], _++_, append-nil}
-use mathlib.Core.Logic.{_⊎_, inl, inr, ⊎-elim}
+use mathlib.Core.List.{List, _++_}
+use mathlib.Core.Logic.{⊎-elim}
 use mathlib.Core.Path.{_≡_, refl, sym, ap, ap₂, _∙_}
 use Prim.Native.Nat.{ℕ, zero, suc, _+_, _-_, _*_, _/_, _≤_, _<_, min}
 use native.Mathlib.Nat.{not-suc-le-zero, le-of-suc-le-suc, eq-or-lt-of-le}
+use native.Mathlib.Numerals.{add-one}
 use native.Mathlib.Omega.{arith}
-use borrow.Author.Tests.{ltb-true, ltb-false}
-use lib.Dec.{ltb}
-use lib.ListN.{length, take, drop, length-append, length-take, length-drop, drop-of-length-le}
-use lib.Seq.{take-all, take-add, drop-at, take-append-le, drop-append-le, length-take-le}
+use lib.ListN.{length, take, drop, take-append-drop, length-append, length-take, length-drop}
+use lib.Seq.{take-all, take-at, take-add, drop-at, take-append-le, drop-append-le}
 use Rattle.aes.specs.Cipher.{cipher, keyExpansion, aes256}
 use Rattle.aes.proofs.Cipher.{cipher-expanded, length-aes256}
 use Rattle.aes.proofs.Schedule.{laid}
 use Rattle.cells.specs.Runs.{part, spliced}
 use Rattle.cells.specs.Numbers.{bytesOf}
-use Rattle.gcm.specs.Gctr.{inc32, counterAt, added, maskedBlock, masked, gctr}
-use Rattle.gcm.specs.Gcm.{preCounter, crypted}
+use Rattle.gcm.specs.Gctr.{counterAt, added, maskedBlock, masked, gctr}
 use Rattle.gcm.proofs.Addition.{length-added, added-back}
-
--- the two cases of an order
-pub below-or-not : (a b : ℕ) → (a < b) ⊎ (b ≤ a)
-below-or-not a b = by (ltb a b) refl
-  where
-    by : (t : Bool) → ltb a b ≡ t → (a < b) ⊎ (b ≤ a)
-    by true e = inl (ltb-true a b e)
-    by false e = inr (ltb-false a b e)
 
 -- the length of a block of a run, and the block by its length
 pub length-block : (xs : List ℕ) (at : ℕ) → length (part xs at 16) ≡ min 16 (length xs - at)
 length-block xs at = length-take 16 (drop at xs) ∙ ap (min 16) (length-drop at xs)
 
 pub block-part : (xs : List ℕ) (at e : ℕ) → e ≡ at + min 16 (length xs - at) → take (e - at) (drop at xs) ≡ part xs at 16
-block-part xs at e h = ⊎-elim short long (below-or-not (length xs - at) 16)
-  where
-    short : length xs - at < 16 → take (e - at) (drop at xs) ≡ part xs at 16
-    short lt =
-        take-all (e - at) (drop at xs) (omega (arith, length-drop at xs)) ∙ sym (take-all 16 (drop at xs) (omega (arith, length-drop at xs)))
-
-    long : 16 ≤ length xs - at → take (e - at) (drop at xs) ≡ part xs at 16
-    long le =
-        let size : e - at ≡ 16 = omega arith in
-        ap (λ (n : ℕ). take n (drop at xs)) size
+block-part xs at e h =
+    ap (take (e - at)) (sym (take-append-drop 16 (drop at xs)))
+    ∙ take-at (part xs at 16) (drop 16 (drop at xs)) (e - at) (length-block xs at ∙ omega arith)
 
 -- what is lent of two runs of one length for a block
 pub length-lent : (xs : List ℕ) (at e : ℕ) → e ≡ at + min 16 (length xs - at) → length (take (e - at) (drop at xs)) ≡ e - at
@@ -52,20 +34,6 @@ pub length-added-lent : (xs ys : List ℕ) (at e : ℕ) → e ≡ at + min 16 (l
     → length (added (take (e - at) (drop at xs)) ys) ≡ e - at
 length-added-lent xs ys at e h k =
     length-added (take (e - at) (drop at xs)) ys (omega (arith, length-lent xs at e h)) ∙ length-lent xs at e h
-
--- the last block of a run laid after the others may be short
-last-laid : (w x : List ℕ) (n m : ℕ) → n ≤ length w → length w ≤ m → n + length x ≡ length w → take m (spliced w n x) ≡ take n w ++ x
-unfolding spliced
-last-laid w x n m h k e =
-    let rest : drop (length x) (drop n w) ≡ [] = drop-of-length-le (drop n w) {i = length x} (omega (arith, length-drop n w)) in
-    let size : length (take n w ++ x) ≤ m = omega (arith, length-append (take n w) x, length-take-le n w h) in
-    ap (λ (l : List ℕ). take m (take n w ++ (x ++ l))) rest
-    ∙ ap (λ (l : List ℕ). take m (take n w ++ l)) (append-nil x)
-    ∙ take-all m (take n w ++ x) size
-
-pub block-laid : (w x : List ℕ) (n : ℕ) → n ≤ length w → length x ≡ min 16 (length w - n) → take (n + 16) (spliced w n x) ≡ take n w ++ x
-block-laid w x n h e =
-    ⊎-elim (λ lt. last-laid w x n (n + 16) h (omega arith) (omega arith)) (λ le. laid w x n (n + 16) h (omega arith)) (below-or-not (length w - n) 16)
 
 module _ (key : List ℕ) (icb : ℕ) (xs : List ℕ) where
   pub length-maskedBlock : (n : ℕ) → length (maskedBlock key icb xs n) ≡ min 16 (length xs - 16 * n)
@@ -103,28 +71,25 @@ module _ (key : List ℕ) (icb : ℕ) (xs : List ℕ) where
       (λ lt. masked-before m n lt (omega arith) ∙ masked-part m n lt (omega arith))
       (eq-or-lt-of-le (le-of-suc-le-suc h))
 
-  -- a turn of the loop over the blocks
-  grown : (n : ℕ) (out x : List ℕ) → 16 * n < length xs → length out ≡ length xs → x ≡ maskedBlock key icb xs n → take (16 * n) out ≡ masked key icb xs n
-      → take (16 * n + 16) (spliced out (16 * n) x) ≡ masked key icb xs (suc n)
-  unfolding masked
-  grown n out x h e ex eo =
-      block-laid out x (16 * n) (omega arith) (ap length ex ∙ length-maskedBlock n ∙ ap (λ (m : ℕ). min 16 (m - 16 * n)) (sym e)) ∙ ap₂ _++_ eo ex
-
+  -- a turn of the loop over the blocks, of which the last may be short
   pub masked-more : (n : ℕ) (out x : List ℕ) → 16 * n < length xs → length out ≡ length xs → x ≡ maskedBlock key icb xs n
-      → take (16 * n) out ≡ masked key icb xs n → take (16 * (n + 1)) (spliced out (16 * n) x) ≡ masked key icb xs (n + 1)
+      → take (min (16 * n) (length xs)) out ≡ masked key icb xs n
+      → take (min (16 * (n + 1)) (length xs)) (spliced out (16 * n) x) ≡ masked key icb xs (n + 1)
+  unfolding masked
   masked-more n out x h e ex eo =
-      let f : 16 * (n + 1) ≡ 16 * n + 16 = omega arith in
-      let g : suc n ≡ n + 1 = omega arith in
-      ap (λ (m : ℕ). take m (spliced out (16 * n) x)) f ∙ grown n out x h e ex eo ∙ ap (masked key icb xs) g
+      let before : min (16 * n) (length xs) ≡ 16 * n = omega arith in
+      let size : min (16 * suc n) (length xs) ≡ 16 * n + length x = omega (arith, ap length ex, length-maskedBlock n) in
+      rw add-one (laid out x (16 * n) _ (omega arith) size ∙ ap₂ _++_ (rw before at eo) ex)
 
   pub length-gctr : length (gctr key icb xs) ≡ length xs
   unfolding gctr
   length-gctr = length-masked ((length xs + 15) / 16) ∙ omega arith
 
   -- all blocks are there
-  pub masked-all : (n : ℕ) (out : List ℕ) → n ≡ (length xs + 15) / 16 → length out ≡ length xs → take (16 * n) out ≡ masked key icb xs n → out ≡ gctr key icb xs
+  pub masked-all : (n : ℕ) (out : List ℕ) → n ≡ (length xs + 15) / 16 → length out ≡ length xs
+      → take (min (16 * n) (length xs)) out ≡ masked key icb xs n → out ≡ gctr key icb xs
   unfolding gctr
-  masked-all n out e h eo = sym (take-all (16 * n) out (omega arith)) ∙ eo ∙ ap (masked key icb xs) e
+  masked-all n out e h eo = sym (take-all (min (16 * n) (length xs)) out (omega arith)) ∙ eo ∙ ap (masked key icb xs) e
 
   gctr-part : (n : ℕ) → n < (length xs + 15) / 16 → part (gctr key icb xs) (16 * n) 16 ≡ maskedBlock key icb xs n
   unfolding gctr
@@ -157,17 +122,4 @@ pub mask-expanded : (key xs keys : List ℕ) (icb n e counter : ℕ) → keys �
     → added (take (e - 16 * n) (drop (16 * n) xs)) (cipher keys (bytesOf 16 counter)) ≡ maskedBlock key icb xs n
 unfolding maskedBlock
 mask-expanded key xs keys icb n e counter ek ec ee =
-    ap₂ added (block-part xs (16 * n) e ee)
-    (ap₂ (λ (w : List ℕ) (m : ℕ). cipher w (bytesOf 16 m)) ek ec ∙ cipher-expanded key (bytesOf 16 (counterAt icb n)))
-
--- the counter block of the next turn
-pub counter-more : (icb n : ℕ) {counter next : ℕ} → counter ≡ counterAt icb n → next ≡ inc32 counter → next ≡ counterAt icb (n + 1)
-unfolding counterAt
-counter-more icb n ec en =
-    let e : suc n ≡ n + 1 = omega arith in
-    en ∙ ap inc32 ec ∙ ap (counterAt icb) e
-
--- GCTR from the counter block after the first
-pub crypted-by : (key iv text : List ℕ) {first next : ℕ} → first ≡ preCounter iv → next ≡ inc32 first → gctr key next text ≡ crypted key iv text
-unfolding crypted
-crypted-by key iv text ef en = ap (λ (n : ℕ). gctr key n text) (en ∙ ap inc32 ef)
+    rw (block-part xs (16 * n) e ee, ek, ec, cipher-expanded)

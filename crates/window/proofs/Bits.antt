@@ -1,15 +1,32 @@
 -- What each bit of a window's word is after a mark and after a move.
 -- Assumes nothing.
 use mathlib.Core.Path.{_≡_, refl, sym, ap, _∙_}
+use mathlib.Core.Logic.{_⊎_, inl, inr, ⊎-elim}
 use mathlib.Core.Bool.{Bool, true, false, _&&_, _||_}
 use Prim.Native.Nat.{ℕ, zero, suc, _+_, _-_, _*_, _/_, _%_, _^_, _<_, _≤_, max}
 use native.Mathlib.Nat.{one-mul, mod-lt, div-eq-of-lt, mul-add-mod-self-right, mul-assoc}
 use native.Mathlib.Omega.{arith}
-use borrow.Author.Tests.{leb-true, leb-false, eqb-true, eqb-false, eq-eqb, ne-eqb}
+use borrow.Author.Tests.{ltb-true, ltb-false, le-leb, lt-leb, eqb-true, eqb-false, eq-eqb, ne-eqb}
 use lib.Bits.{bitOr, or-shr, or-step, shifted-even}
-use lib.Dec.{lit<, eqb, leb}
+use lib.Dec.{lit<, ltb, eqb, leb}
 use lib.Pow.{shl-exact, pow-lt, pow-add, field, mod-mod-pow, shr-shr, shl-shr}
 use Rattle.window.specs.Window.{bit, moved, marked}
+
+-- the two cases of an order
+pub order : (a b : ℕ) → (a < b) ⊎ (b ≤ a)
+order a b = by (ltb a b) refl
+  where
+    by : (t : Bool) → ltb a b ≡ t → (a < b) ⊎ (b ≤ a)
+    by true e = inl (ltb-true a b e)
+    by false e = inr (ltb-false a b e)
+
+-- two tests of equal numbers that hold together
+pub alike : (a b c d : ℕ) → (a ≡ b → c ≡ d) → (c ≡ d → a ≡ b) → eqb a b ≡ eqb c d
+alike a b c d f g = by (eqb a b) refl
+  where
+    by : (t : Bool) → eqb a b ≡ t → eqb a b ≡ eqb c d
+    by true e = e ∙ sym (eq-eqb c d (f (eqb-true a b e)))
+    by false e = e ∙ sym (ne-eqb c d (λ k. eqb-false a b e (g k)))
 
 -- a one in a word of 64 bits, moved within it
 pub one-moved : (d : ℕ) → d < 64 → 1 * 2 ^ d % 2 ^ 64 ≡ 2 ^ d
@@ -18,21 +35,20 @@ one-moved d h = shl-exact {a = 1} 1 d 64 (lit< tt) (omega arith) ∙ one-mul (2 
 -- a number moved up s places has no bit below s, and at d the bit that stood s below
 raised : (n s d : ℕ) → bit (n * 2 ^ s) d ≡ (leb s d && bit n (d - s))
 unfolding bit
-raised n s d = either (leb s d) refl
-  where
-    either : (t : Bool) → leb s d ≡ t → eqb (n * 2 ^ s / 2 ^ d % 2) 1 ≡ (t && eqb (n / 2 ^ (d - s) % 2) 1)
-    either true e =
-        let whole : d ≡ s + (d - s) = omega (arith, leb-true s d e) in
-        ap (λ (q : ℕ). eqb (q % 2) 1)
-        (ap (λ (k : ℕ). n * 2 ^ s / 2 ^ k) whole ∙ sym (shr-shr (n * 2 ^ s) s (d - s)) ∙ ap (λ (q : ℕ). q / 2 ^ (d - s)) (shl-shr n s))
-    either false e =
-        let k = s - suc d in
-        let whole : s ≡ suc k + d = omega (arith, leb-false s d e) in
-        ap (λ (q : ℕ). eqb (q % 2) 1)
-        (ap (λ (j : ℕ). n * 2 ^ j / 2 ^ d) whole
-        ∙ ap (λ (q : ℕ). q / 2 ^ d) (ap (λ (q : ℕ). n * q) (pow-add 2 (suc k) d) ∙ sym (mul-assoc n (2 ^ suc k) (2 ^ d)))
-        ∙ shl-shr (n * 2 ^ suc k) d)
-        ∙ ap (λ (r : ℕ). eqb r 1) (shifted-even n k)
+raised n s d =
+    ⊎-elim
+    (λ l.
+    let k = s - suc d in
+    let whole : s ≡ suc k + d = omega arith in
+    let above : n * 2 ^ s / 2 ^ d ≡ n * 2 ^ suc k =
+    ap (λ (j : ℕ). n * 2 ^ j / 2 ^ d) whole ∙ ap (λ (q : ℕ). n * q / 2 ^ d) (pow-add 2 (suc k) d) ∙ rw (← mul-assoc, shl-shr)
+    in
+    rw (lt-leb s d l, above, shifted-even n k))
+    (λ l.
+    let whole : n * 2 ^ s / 2 ^ (s + (d - s)) ≡ n / 2 ^ (d - s) = rw (← (shr-shr (n * 2 ^ s) s (d - s)), shl-shr n s) in
+    let place : s + (d - s) ≡ d = omega arith in
+    rw (le-leb s d l, ← whole, place))
+    (order d s)
 
 -- the bits of one
 one-bit : (d : ℕ) → bit 1 d ≡ eqb 0 d
@@ -42,15 +58,11 @@ one-bit (suc d) = ap (λ (q : ℕ). eqb (q % 2) 1) (div-eq-of-lt (pow-lt {i = 0}
 
 -- a power has one bit
 pub bit-power : (s d : ℕ) → bit (2 ^ s) d ≡ eqb s d
-bit-power s d = ap (λ (n : ℕ). bit n d) (sym (one-mul (2 ^ s))) ∙ raised 1 s d ∙ either (leb s d) refl
-  where
-    same : (t : Bool) → eqb s d ≡ t → s ≤ d → eqb 0 (d - s) ≡ t
-    same true e h = eq-eqb 0 (d - s) (omega (arith, eqb-true s d e))
-    same false e h = ne-eqb 0 (d - s) (λ k. eqb-false s d e (omega arith))
-
-    either : (t : Bool) → leb s d ≡ t → (t && bit 1 (d - s)) ≡ eqb s d
-    either true e = one-bit (d - s) ∙ same (eqb s d) refl (leb-true s d e)
-    either false e = sym (ne-eqb s d (λ k. omega (arith, leb-false s d e)))
+bit-power s d =
+    ap (λ (n : ℕ). bit n d) (sym (one-mul (2 ^ s))) ∙ raised 1 s d
+    ∙ ⊎-elim (λ l. rw (lt-leb s d l) (sym (ne-eqb s d (λ k. omega arith))))
+    (λ l. rw (le-leb s d l) (one-bit (d - s) ∙ alike 0 (d - s) s d (λ e. omega arith) (λ e. omega arith)))
+    (order d s)
 
 -- a word of 64 bits keeps those of a number that it has
 kept : (n d : ℕ) → d < 64 → bit (n % 2 ^ 64) d ≡ bit n d
@@ -82,11 +94,8 @@ joined a b d =
 
 pub bit-marked : (bits s d : ℕ) → bit (marked bits s) d ≡ (bit bits d || eqb s d)
 unfolding marked
-bit-marked bits s d = joined bits (2 ^ s) d ∙ ap (λ (t : Bool). bit bits d || t) (bit-power s d)
+bit-marked bits s d = rw (joined bits (2 ^ s) d, bit-power s d)
 
 pub bit-moved : (bits s d : ℕ) → d < 64 → bit (moved bits s) d ≡ ((leb s d && bit bits (d - s)) || eqb 0 d)
 unfolding moved
-bit-moved bits s d h =
-    joined (bits * 2 ^ s % 2 ^ 64) 1 d
-    ∙ ap (λ (t : Bool). t || bit 1 d) (kept (bits * 2 ^ s) d h ∙ raised bits s d)
-    ∙ ap (λ (t : Bool). (leb s d && bit bits (d - s)) || t) (one-bit d)
+bit-moved bits s d h = rw (joined (bits * 2 ^ s % 2 ^ 64) 1 d, kept (bits * 2 ^ s) d h, raised bits s d, one-bit d)

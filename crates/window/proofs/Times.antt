@@ -1,16 +1,18 @@
 -- Laws of differences of two times: their range, and when one exceeds a limit.
 -- Assumes nothing.
-use mathlib.Core.Path.{_≡_, refl, sym, ap, _∙_}
+use mathlib.Core.Path.{_≡_, refl, ap, _∙_}
+use mathlib.Core.Logic.{⊎-elim}
 use mathlib.Core.Bool.{Bool, true, false, cond}
 use Prim.Native.Nat.{ℕ, zero, suc, _+_, _-_, _≤_, _<_, _^_}
 use native.Mathlib.Omega.{arith}
-use borrow.Author.Tests.{ltb-true, ltb-false, lt-ltb, le-ltb}
+use borrow.Author.Tests.{lt-ltb, le-ltb}
 use lib.Dec.{ltb}
 use lib.IntN.{pos, negsuc, subℕ}
-use lib.Signed.{mag, ltZ}
+use lib.Signed.{mag}
 use mir.Syntax.{w64}
 use mir.Val.{SFits}
 use Rattle.window.specs.Time.{difference, exceeds}
+use Rattle.window.proofs.Bits.{order}
 
 -- below zero or not, as one test tells
 by-test : (later earlier : ℕ) → difference later earlier ≡ subℕ later earlier
@@ -28,24 +30,15 @@ difference-fits later earlier p q = rw by-test (record { sfits = either (ltb lat
 -- a limit is exceeded exactly if the earlier time and the limit together come before the later time
 pub exceeds-sum : (later earlier limit : ℕ) → exceeds later earlier limit ≡ ltb (earlier + limit) later
 unfolding exceeds
-exceeds-sum later earlier limit = rw by-test (either (ltb later earlier) refl)
-  where
-    within : (t : Bool) → ltb limit (later - earlier) ≡ t → t ≡ ltb (earlier + limit) later
-    within true e = sym (lt-ltb (earlier + limit) later (omega (arith, ltb-true limit (later - earlier) e)))
-    within false e = sym (le-ltb (earlier + limit) later (omega (arith, ltb-false limit (later - earlier) e)))
-
-    either : (t : Bool) → ltb later earlier ≡ t
-        → ltZ (pos limit) (cond t (negsuc (earlier - suc later)) (pos (later - earlier))) ≡ ltb (earlier + limit) later
-    either true e = sym (le-ltb (earlier + limit) later (omega (arith, ltb-true later earlier e)))
-    either false e = within (ltb limit (later - earlier)) refl
+exceeds-sum later earlier limit =
+    rw by-test
+    (⊎-elim (λ l. rw (lt-ltb later earlier l, le-ltb (earlier + limit) later (omega arith)))
+    (λ l. rw (le-ltb later earlier l)
+    (⊎-elim (λ m. rw (lt-ltb limit (later - earlier) m, lt-ltb (earlier + limit) later (omega arith)))
+    (λ m. rw (le-ltb limit (later - earlier) m, le-ltb (earlier + limit) later (omega arith)))
+    (order limit (later - earlier))))
+    (order later earlier))
 
 -- a difference below zero, or of nothing, exceeds no limit
 pub ahead : (later earlier limit : ℕ) → later ≤ earlier → exceeds later earlier limit ≡ false
 ahead later earlier limit h = exceeds-sum later earlier limit ∙ le-ltb (earlier + limit) later (omega arith)
-
--- the limit itself passes, and one second more does not
-pub at-limit : (earlier limit : ℕ) → exceeds (earlier + limit) earlier limit ≡ false
-at-limit earlier limit = exceeds-sum (earlier + limit) earlier limit ∙ le-ltb (earlier + limit) (earlier + limit) (omega arith)
-
-pub past-limit : (earlier limit : ℕ) → exceeds (earlier + limit + 1) earlier limit ≡ true
-past-limit earlier limit = exceeds-sum (earlier + limit + 1) earlier limit ∙ lt-ltb (earlier + limit) (earlier + limit + 1) (omega arith)

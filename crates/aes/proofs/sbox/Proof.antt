@@ -6,9 +6,6 @@ use Rattle.aes.proofs.Substitution.{substitutes}
 use Rattle.aes.proofs.sbox.Statement.{statement}
 use Rattle.aes.proofs.sbox.Tie as tie
 
-returns : tie.Need-returns
-unfolding xtimes timesBits times squares inverse affineBit affineBits subByte
-returns c = substitutes _ tt
-
 pub sbox-spec : {M : Type 1} → statement M
-sbox-spec = tie.close (tie.spec returns)
+unfolding affineBit affineBits inverse squares subByte times timesBits xtimes
+sbox-spec = tie.close (tie.spec (λ c. substitutes _ tt))

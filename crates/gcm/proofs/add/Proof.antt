@@ -5,6 +5,7 @@ use mathlib.Core.Path.{_≡_, refl, sym, ap, _∙_}
 use Prim.Native.Nat.{ℕ, _-_, _≤_}
 use native.Mathlib.Numerals.{add-one}
 use native.Mathlib.Omega.{arith}
+use borrow.Author.Needs.{needs}
 use lib.Bits.{bitXor}
 use lib.ListN.{length, getD, take, length-set}
 use lib.Seq.{take-all, take-suc-set}
@@ -19,10 +20,6 @@ Inv-loop text stream out₀ i₀ out i =
 
 abbrev μ-loop : tie.MeasureT-loop
 μ-loop text stream out₀ i₀ out i = length text - i
-
-loop-holds : tie.Need-loop-holds Inv-loop μ-loop
-unfolding added
-loop-holds c = (omega arith, c .pre .1, refl)
 
 loop-again : tie.Need-loop-again Inv-loop μ-loop
 loop-again c =
@@ -45,17 +42,7 @@ returns c =
     ∙ ap (λ (l : List ℕ). added l (c .before .before .args .stream .now)) (take-all i text (omega arith))
 
 pub add-spec : {M : Type 1} → statement M
+unfolding added
 add-spec =
-    tie.close
-    (tie.spec
-    Inv-loop
-    μ-loop
-    loop-holds
-    (λ c. omega arith)
-    (λ c. omega arith)
-    (λ c. omega arith)
-    (λ c. omega arith)
-    (λ c. omega arith)
-    loop-again
-    (λ c. omega arith)
-    returns)
+    tie.close (tie.spec Inv-loop μ-loop (λ c. (omega arith, c .pre .1, refl)) (search needs) (search needs)
+    (search needs) (search needs) (search needs) loop-again (search needs) returns)

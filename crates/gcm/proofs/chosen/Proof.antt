@@ -5,8 +5,6 @@ use Rattle.gcm.proofs.Product.{chosen-below}
 use Rattle.gcm.proofs.chosen.Statement.{statement}
 use Rattle.gcm.proofs.chosen.Tie as tie
 
-mul-result : tie.Need-mul-result
-mul-result c = record { fits = chosen-below (c .args .bit) (c .args .x) _ (search needs) (search needs) }
-
 pub chosen-spec : {M : Type 1} → statement M
-chosen-spec = tie.close (tie.spec mul-result (λ c. search needs))
+chosen-spec =
+    tie.close (tie.spec (λ c. record { fits = chosen-below _ _ _ (search needs) (search needs) }) (search needs))

@@ -18,10 +18,6 @@ Inv-loop h s m y₀ n₀ y n = (n ≤ m) × (whole y ≡ hashed (whole h) (padde
 abbrev μ-loop : tie.MeasureT-loop
 μ-loop h s m y₀ n₀ y n = m - n
 
-loop-holds : tie.Need-loop-holds Inv-loop μ-loop
-unfolding hashed
-loop-holds c = (omega arith, refl)
-
 absorbed-requires : tie.Need-absorbed-requires Inv-loop μ-loop
 absorbed-requires c κs =
     omega (arith, length-lent (c .before .before .before .before .before .before .args .s .now) (16 * c .before .before .before .loop .n) (c .before .end .result) (c .before .end .ensures))
@@ -41,20 +37,7 @@ returns c =
     c .before .loop .inv .1 ∙ ap (hashed _ _) (e ∙ c .before .before .count .ensures)
 
 pub hash-spec : {M : Type 1} → statement M
+unfolding hashed
 hash-spec =
-    tie.close
-    (tie.spec
-    Inv-loop
-    μ-loop
-    (λ c κs. tt)
-    loop-holds
-    (λ c. omega arith)
-    (λ c κs. omega arith)
-    (λ c. omega arith)
-    (λ c. search needs)
-    (λ c. search needs)
-    absorbed-requires
-    (λ c. omega arith)
-    (λ c. omega arith)
-    loop-again
-    returns)
+    tie.close (tie.spec Inv-loop μ-loop (search needs) (λ c. (omega arith, refl)) (search needs) (search needs)
+    (search needs) (search needs) (search needs) absorbed-requires (search needs) (search needs) loop-again returns)

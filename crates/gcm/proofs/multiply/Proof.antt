@@ -19,4 +19,4 @@ returns c =
     c .before .half2 .ensures (whole x) (whole y) 64 (λ i h. bit-low (x .high) (x .low) i below h) p .0
 
 pub multiply-spec : {M : Type 1} → statement M
-multiply-spec = tie.close (tie.spec (λ c κs. search needs) (λ c κs. search needs) returns)
+multiply-spec = tie.close (tie.spec (search needs) (search needs) returns)

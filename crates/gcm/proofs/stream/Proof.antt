@@ -2,7 +2,9 @@
 -- Assumes nothing.
 use mathlib.Core.List.{List}
 use mathlib.Core.Path.{_≡_, refl, sym, ap, _∙_}
-use Prim.Native.Nat.{ℕ, _+_, _*_, _-_, _≤_}
+use Prim.Native.Nat.{ℕ, _+_, _*_, _-_, _≤_, min}
+use native.Mathlib.Nat.{zero-min}
+use native.Mathlib.Numerals.{add-one}
 use native.Mathlib.Omega.{arith}
 use borrow.Author.Needs.{needs}
 use lib.ListN.{length, take, drop}
@@ -10,9 +12,9 @@ use Rattle.aes.specs.Cipher.{cipher, keyExpansion}
 use Rattle.cells.specs.Numbers.{bytesOf}
 use Rattle.aes.proofs.Cipher.{length-cipher}
 use Rattle.cells.proofs.Runs.{lent, length-spliced}
-use Rattle.gcm.specs.Gctr.{added, counterAt, masked}
+use Rattle.gcm.specs.Gctr.{inc32, added, counterAt, masked}
 use Rattle.gcm.specs.InnerCode.{whole}
-use Rattle.gcm.proofs.Masking.{length-lent, length-added-lent, masked-more, masked-all, mask-expanded, counter-more}
+use Rattle.gcm.proofs.Masking.{length-lent, length-added-lent, masked-more, masked-all, mask-expanded}
 use Rattle.gcm.proofs.stream.Statement.{statement}
 use Rattle.gcm.proofs.stream.Tie as tie
 
@@ -21,14 +23,10 @@ Inv-loop keys text out₀ m counter₀ n₀ out counter n =
     (n ≤ m)
     × (length out ≡ length text)
     × (whole counter ≡ counterAt (whole counter₀) n)
-    × ((key : List ℕ) → keys ≡ keyExpansion key → take (16 * n) out ≡ masked key (whole counter₀) text n)
+    × ((key : List ℕ) → keys ≡ keyExpansion key → take (min (16 * n) (length text)) out ≡ masked key (whole counter₀) text n)
 
 abbrev μ-loop : tie.MeasureT-loop
 μ-loop keys text out₀ m counter₀ n₀ out counter n = m - n
-
-loop-holds : tie.Need-loop-holds Inv-loop μ-loop
-unfolding counterAt masked
-loop-holds c = (omega arith, omega arith, refl, λ key e. refl)
 
 mask-requires : tie.Need-mask-requires Inv-loop μ-loop
 mask-requires c κs =
@@ -41,6 +39,7 @@ mask-requires c κs =
     (omega (arith, length-lent text at e ends), length-lent out at e (ends ∙ omega arith) ∙ sym (length-lent text at e ends))
 
 loop-again : tie.Need-loop-again Inv-loop μ-loop
+unfolding counterAt
 loop-again c =
     let start = c .before .before .before .before .before .before .before .before .before .before .before .before in
     let loop = c .before .before .before .before .before .before .before .before .loop in
@@ -57,9 +56,9 @@ loop-again c =
     let laid = lent out x (16 * n) e (c .before .before .before .mask .ensures) (sym size) in (
       omega arith,
       ap length laid ∙ length-spliced out x (16 * n) (omega arith) ∙ loop .inv .1,
-      counter-more icb n (loop .inv .2) (c .next .ensures),
+      rw add-one (c .next .ensures ∙ ap inc32 (loop .inv .2)),
       λ key expands.
-          ap (take (16 * (n + 1))) laid
+          ap (take (min (16 * (n + 1)) (length text))) laid
           ∙ masked-more key icb text n out x (omega arith) (loop .inv .1) (mask-expanded key text keys icb n e (whole (loop .counter)) expands (loop .inv .2) ends)
           (loop .inv .3 key expands),
     )
@@ -73,25 +72,8 @@ returns c key e =
     (c .before .loop .inv .1) (c .before .loop .inv .3 key e)
 
 pub stream-spec : {M : Type 1} → statement M
+unfolding counterAt masked
 stream-spec =
-    tie.close
-    (tie.spec
-    Inv-loop
-    μ-loop
-    (λ c κs. tt)
-    loop-holds
-    (λ c. omega arith)
-    (λ c κs. omega arith)
-    (λ c. omega arith)
-    (λ c. search needs)
-    (λ c. search needs)
-    (λ c. omega arith)
-    (λ c. search needs)
-    (λ c. search needs)
-    mask-requires
-    (λ c κs. tt)
-    (λ c. omega arith)
-    (λ c. omega arith)
-    loop-again
-    (λ c. omega arith)
-    returns)
+    tie.close (tie.spec Inv-loop μ-loop (search needs) (λ c. (omega arith, omega arith, refl, λ key e. rw zero-min))
+    (search needs) (search needs) (search needs) (search needs) (search needs) (search needs) (search needs)
+    (search needs) mask-requires (search needs) (search needs) (search needs) loop-again (search needs) returns)

@@ -6,8 +6,8 @@ use lib.Bits.{xor-block}
 use Rattle.gcm.proofs.xor.Statement.{statement}
 use Rattle.gcm.proofs.xor.Tie as tie
 
-returns : tie.Need-returns
-returns c = sym (xor-block 64 (c .before .before .before .before .args .x .high) (c .before .before .before .before .args .y .high) (c .before .before .before .before .args .x .low) (c .before .before .before .before .args .y .low) (search needs) (search needs))
-
 pub xor-spec : {M : Type 1} → statement M
-xor-spec = tie.close (tie.spec returns)
+xor-spec =
+    tie.close (tie.spec (λ c.
+    let a = c .before .before .before .before .args in
+    sym (xor-block 64 (a .x .high) (a .y .high) (a .x .low) (a .y .low) (search needs) (search needs))))

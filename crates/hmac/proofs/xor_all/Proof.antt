@@ -4,6 +4,7 @@ use mathlib.Core.Path.{_≡_, refl, _∙_}
 use mathlib.Core.List.{_++_}
 use Prim.Native.Nat.{_-_, _≤_}
 use native.Mathlib.Omega.{arith}
+use borrow.Author.Needs.{needs}
 use lib.ListN.{take, drop}
 use Rattle.hmac.specs.Hmac.{xored}
 use Rattle.hmac.proofs.KeyBlock.{xored-more, xored-all}
@@ -15,10 +16,6 @@ Inv-loop x block out₀ i₀ out i = (i ≤ 128) × (out ≡ xored x (take i blo
 
 abbrev μ-loop : tie.MeasureT-loop
 μ-loop x block out₀ i₀ out i = 128 - i
-
-loop-holds : tie.Need-loop-holds Inv-loop μ-loop
-unfolding xored
-loop-holds c = (omega arith, refl)
 
 loop-again : tie.Need-loop-again Inv-loop μ-loop
 loop-again c =
@@ -32,15 +29,7 @@ returns c =
     c .before .loop .inv .1 ∙ xored-all (start .args .x) (start .args .t1) (c .before .loop .i) (omega arith)
 
 pub xor-all-spec : {M : Type 1} → statement M
+unfolding xored
 xor-all-spec =
-    tie.close
-    (tie.spec
-    Inv-loop
-    μ-loop
-    loop-holds
-    (λ c. omega arith)
-    (λ c. omega arith)
-    (λ c. omega arith)
-    (λ c. omega arith)
-    loop-again
-    returns)
+    tie.close (tie.spec Inv-loop μ-loop (λ c. (omega arith, refl)) (search needs) (search needs) (search needs)
+    (search needs) loop-again returns)

@@ -7,34 +7,20 @@ use Rattle.sha2.proofs.digest.Tie as tie
 
 returns : tie.Need-returns
 returns c =
-    laid-out _
-    (c .before .before .before .before .before .before .before .before .before .before .before .before .before .before .before .before .before .before .before .before .before .before .put64 .ensures)
-    (c .before .before .before .before .before .before .before .before .before .before .before .before .before .before .before .before .before .before .before .put642 .ensures)
-    (c .before .before .before .before .before .before .before .before .before .before .before .before .before .before .before .before .put643 .ensures)
-    (c .before .before .before .before .before .before .before .before .before .before .before .before .before .put644 .ensures)
-    (c .before .before .before .before .before .before .before .before .before .before .put645 .ensures)
-    (c .before .before .before .before .before .before .before .put646 .ensures)
-    (c .before .before .before .before .put647 .ensures)
-    (c .before .put648 .ensures)
+    simp (
+      c .before .put648 .ensures,
+      c .before .before .before .before .put647 .ensures,
+      c .before .before .before .before .before .before .before .put646 .ensures,
+      c .before .before .before .before .before .before .before .before .before .before .put645 .ensures,
+      c .before .before .before .before .before .before .before .before .before .before .before .before .before .put644 .ensures,
+      c .before .before .before .before .before .before .before .before .before .before .before .before .before .before .before .before .put643 .ensures,
+      c .before .before .before .before .before .before .before .before .before .before .before .before .before .before .before .before .before .before .before .put642 .ensures,
+      c .before .before .before .before .before .before .before .before .before .before .before .before .before .before .before .before .before .before .before .before .before .before .put64 .ensures,
+    )
+    (laid-out _)
 
 pub digest-spec : {M : Type 1} → statement M
 digest-spec =
-    tie.close
-    (tie.spec
-    (λ c. search needs)
-    (λ c κs. search needs)
-    (λ c. search needs)
-    (λ c κs. search needs)
-    (λ c. search needs)
-    (λ c κs. search needs)
-    (λ c. search needs)
-    (λ c κs. search needs)
-    (λ c. search needs)
-    (λ c κs. search needs)
-    (λ c. search needs)
-    (λ c κs. search needs)
-    (λ c. search needs)
-    (λ c κs. search needs)
-    (λ c. search needs)
-    (λ c κs. search needs)
-    returns)
+    tie.close (tie.spec (search needs) (search needs) (search needs) (search needs) (search needs) (search needs)
+    (search needs) (search needs) (search needs) (search needs) (search needs) (search needs) (search needs)
+    (search needs) (search needs) (search needs) returns)

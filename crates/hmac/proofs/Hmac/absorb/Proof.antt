@@ -20,4 +20,4 @@ returns c =
     }
 
 pub absorb-spec : {M : Type 1} → statement M
-absorb-spec = tie.close (tie.spec (λ c κs. search needs) returns)
+absorb-spec = tie.close (tie.spec (search needs) returns)

@@ -17,6 +17,4 @@ returns c key text p =
     p
 
 pub finish-spec : {M : Type 1} → statement M
-finish-spec =
-    tie.close
-    (tie.spec (λ c κs. search needs) (λ c. search needs) (λ c κs. search needs) (λ c κs. search needs) returns)
+finish-spec = tie.close (tie.spec (search needs) (search needs) (search needs) (search needs) returns)

@@ -19,10 +19,7 @@ returns c block laid =
 
 pub eight-words-spec : {M : Type 1} → statement M
 eight-words-spec =
-    tie.close
-    (tie.spec
-    (λ c κs. omega (arith, c .before .pre))
-    (λ c κs. omega (arith, c .before .before .before .pre))
+    tie.close (tie.spec (λ c κs. omega (arith, c .before .pre)) (λ c κs. omega (arith, c .before .before .before .pre))
     (λ c κs. omega (arith, c .before .before .before .before .before .pre))
     (λ c κs. omega (arith, c .before .before .before .before .before .before .before .pre))
     (λ c κs. omega (arith, c .before .before .before .before .before .before .before .before .before .pre))

@@ -5,9 +5,6 @@ use Rattle.sha2.specs.Word.{Maj}
 use Rattle.sha2.proofs.word.maj.Statement.{statement}
 use Rattle.sha2.proofs.word.maj.Tie as tie
 
-returns : tie.Need-returns
-unfolding Maj
-returns c = refl
-
 pub maj-spec : {M : Type 1} → statement M
-maj-spec = tie.close (tie.spec returns)
+unfolding Maj
+maj-spec = tie.close (tie.spec (λ c. refl))

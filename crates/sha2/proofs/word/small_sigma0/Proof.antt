@@ -5,9 +5,6 @@ use Rattle.sha2.specs.Word.{σ0}
 use Rattle.sha2.proofs.word.small_sigma0.Statement.{statement}
 use Rattle.sha2.proofs.word.small_sigma0.Tie as tie
 
-returns : tie.Need-returns
-unfolding σ0
-returns c = refl
-
 pub small-sigma0-spec : {M : Type 1} → statement M
-small-sigma0-spec = tie.close (tie.spec returns)
+unfolding σ0
+small-sigma0-spec = tie.close (tie.spec (λ c. refl))

@@ -7,17 +7,14 @@ use Rattle.window.proofs.Times.{difference-fits}
 use Rattle.window.proofs.time.age.Statement.{statement}
 use Rattle.window.proofs.time.age.Tie as tie
 
-sub-result : tie.Need-sub-result
-sub-result c =
-    let a = c .before .before .args in
-    rw (toZ-pos w64 (a .later .0) (omega arith), toZ-pos w64 (a .earlier .0) (omega arith))
-    (difference-fits (a .later .0) (a .earlier .0) (omega arith) (omega arith))
-
-returns : tie.Need-returns
-returns c =
-    let a = c .before .before .args in
-    rw (toZ-pos w64 (a .later .0) (omega arith), toZ-pos w64 (a .earlier .0) (omega arith))
-    (toZ-ofZ w64 _ (difference-fits (a .later .0) (a .earlier .0) (omega arith) (omega arith)))
-
 pub age-spec : {M : Type 1} → statement M
-age-spec = tie.close (tie.spec (λ c. search needs) (λ c. search needs) sub-result returns)
+age-spec =
+    tie.close (tie.spec (search needs) (search needs)
+    (λ c.
+    let a = c .before .before .args in
+    rw (toZ-pos w64 (a .later .0) (omega arith), toZ-pos w64 (a .earlier .0) (omega arith))
+    (difference-fits (a .later .0) (a .earlier .0) (omega arith) (omega arith)))
+    (λ c.
+    let a = c .before .before .args in
+    rw (toZ-pos w64 (a .later .0) (omega arith), toZ-pos w64 (a .earlier .0) (omega arith))
+    (toZ-ofZ w64 _ (difference-fits (a .later .0) (a .earlier .0) (omega arith) (omega arith)))))

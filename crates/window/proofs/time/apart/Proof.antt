@@ -22,4 +22,4 @@ returns c =
     (ap (λ (z : ℤ). ltZ (pos (a .limit)) z) (toZ-ofZ w64 (c .age .result) told ∙ c .age .ensures))
 
 pub apart-spec : {M : Type 1} → statement M
-apart-spec = tie.close (tie.spec (λ c. search needs) (λ c κs. search needs) returns)
+apart-spec = tie.close (tie.spec (search needs) (search needs) returns)
