@@ -373,7 +373,7 @@ static inline gate_answer gate_judge_request(const gate_orders *orders, uint32_t
 
 /* The record is not null: it has no length that could say so. */
 static inline gate_answer gate_judge_one_request(const gate_orders *orders, uint32_t clock, gate_run server_key,
-                                            const gate_request *request, gate_record *record, gate_room reply) {
+                                                 const gate_request *request, gate_record *record, gate_room reply) {
     return gate_answer_of(gate_judge_one(
         orders->mask, gate_lent(orders->extra), orders->extra.length, orders->request_life, orders->idle,
         orders->session_life, clock, gate_lent(server_key), server_key.length, gate_lent(request->value),
