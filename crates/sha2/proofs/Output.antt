@@ -1,6 +1,6 @@
 -- The eight words of a hash value, written one after the other.
 -- Assumes nothing.
-use mathlib.Core.Path.{_≡_, refl}
+use mathlib.Core.Path.{_≡_, refl, ap, _∙_}
 use mathlib.Core.List.{List}
 use Prim.Native.Nat.{ℕ}
 use lib.ListN.{length, replicate}
@@ -9,12 +9,26 @@ use Rattle.cells.specs.Runs.{spliced}
 use Rattle.sha2.specs.declared.block.Words.{Words}
 use Rattle.sha2.specs.Hash.{digest, sha512}
 
-pub laid-out : (v : Words)
-    → spliced (spliced (spliced (spliced (spliced (spliced (spliced (spliced (replicate 64 0) 0 (bytesOf 8 (v .a))) 8 (bytesOf 8 (v .b))) 16 (bytesOf 8 (v .c)))
-    24 (bytesOf 8 (v .d))) 32 (bytesOf 8 (v .e))) 40 (bytesOf 8 (v .f))) 48 (bytesOf 8 (v .g))) 56 (bytesOf 8 (v .h))
-    ≡ digest v
+pub laid-out : (v : Words) {o1 o2 o3 o4 o5 o6 o7 o8 : List ℕ}
+    → o1 ≡ spliced (replicate 64 0) 0 (bytesOf 8 (v .a))
+    → o2 ≡ spliced o1 8 (bytesOf 8 (v .b))
+    → o3 ≡ spliced o2 16 (bytesOf 8 (v .c))
+    → o4 ≡ spliced o3 24 (bytesOf 8 (v .d))
+    → o5 ≡ spliced o4 32 (bytesOf 8 (v .e))
+    → o6 ≡ spliced o5 40 (bytesOf 8 (v .f))
+    → o7 ≡ spliced o6 48 (bytesOf 8 (v .g))
+    → o8 ≡ spliced o7 56 (bytesOf 8 (v .h))
+    → o8 ≡ digest v
 unfolding spliced bytesOf digest
-laid-out v = refl
+laid-out v e1 e2 e3 e4 e5 e6 e7 e8 =
+    e8
+    ∙ ap (λ (o : List ℕ). spliced o 56 (bytesOf 8 (v .h))) (e7
+    ∙ ap (λ (o : List ℕ). spliced o 48 (bytesOf 8 (v .g))) (e6
+    ∙ ap (λ (o : List ℕ). spliced o 40 (bytesOf 8 (v .f))) (e5
+    ∙ ap (λ (o : List ℕ). spliced o 32 (bytesOf 8 (v .e))) (e4
+    ∙ ap (λ (o : List ℕ). spliced o 24 (bytesOf 8 (v .d))) (e3
+    ∙ ap (λ (o : List ℕ). spliced o 16 (bytesOf 8 (v .c))) (e2
+    ∙ ap (λ (o : List ℕ). spliced o 8 (bytesOf 8 (v .b))) e1))))))
 
 -- a digest has 64 bytes
 pub length-sha512 : (m : List ℕ) → length (sha512 m) ≡ 64

@@ -1,6 +1,6 @@
 -- The padding of FIPS 180-4, 5.1.2: its zeros are as many as the standard says, and it is laid out in an array of 144 bytes.
 -- Assumes nothing.
-use mathlib.Core.Path.{_≡_, refl, ap, _∙_}
+use mathlib.Core.Path.{_≡_, refl, sym, ap, _∙_}
 use mathlib.Core.List.{List, _∷_, _++_, append-assoc}
 use Prim.Native.Nat.{ℕ, zero, suc, _+_, _*_, _/_, _%_, _^_, _≤_, _<_}
 use native.Mathlib.Nat.{le-of-suc-le-suc, not-suc-le-zero}
@@ -40,5 +40,9 @@ padding-laid n l h e =
     let z = zeros n in
     let small : z < 128 = omega arith in
     let at : z + 9 ≡ suc (z + 8) = omega arith in
-    rw (e, front-spliced (128 ∷ replicate 143 0) (bytesOf 8 (8 * n)) (z + 9) (z + 17) (omega arith) (omega (arith, length-bytesOf 8 (8 * n))), at)
-    (rw (take-replicate (z + 8) 143 0 (omega arith), ← (replicate-append-replicate {A = ℕ} z 8 0), append-assoc, long-length (8 * n) (omega arith)))
+    ap (take (z + 17)) e
+    ∙ front-spliced (128 ∷ replicate 143 0) (bytesOf 8 (8 * n)) (z + 9) (z + 17) (omega arith) (omega (arith, length-bytesOf 8 (8 * n)))
+    ∙ ap (λ (x : ℕ). take x (128 ∷ replicate 143 0) ++ bytesOf 8 (8 * n)) at
+    ∙ ap (λ (x : List ℕ). 128 ∷ (x ++ bytesOf 8 (8 * n))) (take-replicate (z + 8) 143 0 (omega arith) ∙ sym (replicate-append-replicate z 8 0))
+    ∙ ap (λ (x : List ℕ). 128 ∷ x) (append-assoc (replicate z 0) (replicate 8 0) (bytesOf 8 (8 * n)))
+    ∙ ap (λ (x : List ℕ). 128 ∷ (replicate z 0 ++ x)) (sym (long-length (8 * n) (omega arith)))

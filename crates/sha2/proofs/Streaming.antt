@@ -1,6 +1,6 @@
 -- A state takes in one more part: it stays within the block that was begun, ends it, or comes where none was begun.
 -- Assumes nothing.
-use mathlib.Core.Path.{_≡_, refl, sym, ap, _∙_}
+use mathlib.Core.Path.{_≡_, refl, sym, ap, ap₂, _∙_}
 use mathlib.Core.List.{List, _++_, append-assoc}
 use Prim.Native.Nat.{ℕ, zero, suc, _+_, _-_, _*_, _/_, _%_, _≤_, _<_}
 use native.Mathlib.Nat.{add-zero, add-suc}
@@ -12,6 +12,7 @@ use Rattle.cells.proofs.Runs.{length-spliced}
 use Rattle.sha2.specs.declared.block.Words.{Words}
 use Rattle.sha2.specs.declared.Sha512.{Sha512}
 use Rattle.sha2.specs.Constants.{initial}
+use Rattle.sha2.specs.Block.{afterBlock}
 use Rattle.sha2.specs.Hash.{afterBlocks}
 use Rattle.sha2.specs.InnerTaken.{Taken, TookIn}
 
@@ -20,16 +21,19 @@ pub blocks-before : (v : Words) (m rest : List ℕ) (n : ℕ) → 128 * n ≤ le
 unfolding afterBlocks
 blocks-before v m rest zero h = refl
 blocks-before v m rest (suc n) h =
-    let fits : 128 ≤ length (drop (128 * n) m) = simp length-drop (omega arith) in
-    rw (blocks-before v m rest n (omega arith), drop-append-le (128 * n) m rest (omega arith), take-append-le 128 (drop (128 * n) m) rest fits)
+    ap₂ afterBlock (blocks-before v m rest n (omega arith))
+    (ap (take 128) (drop-append-le (128 * n) m rest (omega arith))
+    ∙ take-append-le 128 (drop (128 * n) m) rest (simp length-drop (omega arith)))
 
 -- blocks may be taken in two runs
 pub blocks-split : (v : Words) (m : List ℕ) (n k : ℕ) → afterBlocks v m (n + k) ≡ afterBlocks (afterBlocks v m n) (drop (128 * n) m) k
 unfolding afterBlocks
-blocks-split v m n zero = rw add-zero
+blocks-split v m n zero = ap (afterBlocks v m) (add-zero n)
 blocks-split v m n (suc k) =
-    let e : 128 * (n + k) ≡ 128 * n + 128 * k = omega arith in
-    rw (add-suc, blocks-split v m n k, drop-drop, e)
+    let e : 128 * n + 128 * k ≡ 128 * (n + k) = omega arith in
+    ap (afterBlocks v m) (add-suc n k)
+    ∙ ap₂ afterBlock (blocks-split v m n k)
+    (ap (λ (x : ℕ). part m x 128) (sym e) ∙ ap (take 128) (sym (drop-drop (128 * k) (128 * n) m)))
 
 -- the front of a list with ys written over it from byte at on
 pub front-spliced : (xs ys : List ℕ) (at n : ℕ) → at ≤ length xs → n ≡ at + length ys → take n (spliced xs at ys) ≡ take at xs ++ ys
@@ -70,8 +74,14 @@ took-in s r part k ek el ev et = record { counted = el; appended = appended }
         let at : 128 * q + 128 * k ≡ 128 * (length all / 128) = omega arith in
         record {
           counted = omega arith;
-          hashed = rw (more, blocks-split initial all q k, rest, blocks-before initial m part q (omega arith), ← (p .hashed)) ev;
-          kept = rw (left, ← at, ← (drop-drop (128 * k) (128 * q) all), rest) et;
+          hashed =
+              ev
+              ∙ ap₂ (λ (v : Words) (l : List ℕ). afterBlocks v l k) (p .hashed ∙ sym (blocks-before initial m part q (omega arith))) (sym rest)
+              ∙ sym (blocks-split initial all q k)
+              ∙ ap (afterBlocks initial all) (sym more);
+          kept =
+              ap (λ (x : ℕ). take x (r .tail)) left ∙ et ∙ ap (drop (128 * k)) (sym rest) ∙ drop-drop (128 * k) (128 * q) all
+              ∙ ap (λ (x : ℕ). drop x all) at;
         }
 
 -- one part after the other

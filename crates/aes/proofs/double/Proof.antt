@@ -6,6 +6,9 @@ use Rattle.aes.specs.Field.{xtimes}
 use Rattle.aes.proofs.double.Statement.{statement}
 use Rattle.aes.proofs.double.Tie as tie
 
-pub double-spec : {M : Type 1} → statement M
+returns : tie.Need-returns
 unfolding xtimes
-double-spec = tie.close (tie.spec (search needs) (λ c. refl))
+returns c = refl
+
+pub double-spec : {M : Type 1} → statement M
+double-spec = tie.close (tie.spec (λ c. search needs) returns)

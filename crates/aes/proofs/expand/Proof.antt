@@ -3,7 +3,6 @@
 use mathlib.Core.Path.{_≡_, refl, ap, _∙_}
 use Prim.Native.Nat.{_*_, _-_, _≤_, _+_}
 use native.Mathlib.Omega.{arith}
-use borrow.Author.Needs.{needs}
 use lib.ListN.{length, take}
 use Rattle.cells.proofs.Runs.{length-spliced, length-fronted}
 use Rattle.aes.specs.Cipher.{expanded}
@@ -40,8 +39,11 @@ loop-again c =
       ap (take (4 * (i + 1))) (c .extend .ensures) ∙ extended key w i (inv .0) (omega arith) (inv .3),
     )
 
+returns : tie.Need-returns Inv-loop μ-loop
+returns c =
+    whole _ (c .before .loop .w) (c .before .loop .i) (omega arith) (c .before .loop .inv .2) (c .before .loop .inv .3)
+
 pub expand-spec : {M : Type 1} → statement M
 expand-spec =
-    tie.close (tie.spec Inv-loop μ-loop (search needs) (λ c. refl) (search needs) loop-holds extend-requires
-    (search needs) (search needs) loop-again
-    (λ c. whole _ (c .before .loop .w) (c .before .loop .i) (omega arith) (c .before .loop .inv .2) (c .before .loop .inv .3)))
+    tie.close (tie.spec Inv-loop μ-loop (λ c κs. tt) (λ c. refl) (λ c κs. omega arith) loop-holds extend-requires (λ c. omega arith)
+    (λ c. omega arith) loop-again returns)

@@ -11,4 +11,5 @@ returns : tie.Need-returns
 returns c = c .xor .ensures ∙ ap₂ xorWord (c .before .before .mix .ensures ∙ ap mixWord (c .before .before .before .sub-word .ensures)) (c .before .word .ensures)
 
 pub full-column-spec : {M : Type 1} → statement M
-full-column-spec = tie.close (tie.spec (λ c κs. search needs) (search needs) (search needs) (search needs) returns)
+full-column-spec =
+    tie.close (tie.spec (λ c κs. search needs) (λ c κs. search needs) (λ c κs. search needs) (λ c κs. search needs) returns)

@@ -6,8 +6,9 @@ use Rattle.aes.proofs.Field.{times-two, times-three}
 use Rattle.aes.proofs.mixed.Statement.{statement}
 use Rattle.aes.proofs.mixed.Tie as tie
 
-pub mixed-spec : {M : Type 1} → statement M
+returns : tie.Need-returns
 unfolding mixed
-mixed-spec =
-    tie.close (tie.spec (search needs) (search needs)
-    (λ c. simp (times-two, times-three, c .before .double .ensures, c .double2 .ensures)))
+returns c = simp (times-two, times-three, c .before .double .ensures, c .double2 .ensures)
+
+pub mixed-spec : {M : Type 1} → statement M
+mixed-spec = tie.close (tie.spec (λ c κs. search needs) (λ c κs. search needs) returns)

@@ -27,5 +27,5 @@ returns c =
 
 pub round-spec : {M : Type 1} → statement M
 round-spec =
-    tie.close (tie.spec (search needs) (λ c κs. search needs) (search needs) (search needs) (λ c κs. search needs)
-    (search needs) (search needs) (λ c κs. search needs) (search needs) (search needs) (λ c κs. search needs) returns)
+    tie.close (tie.spec (λ c. search needs) (λ c κs. search needs) (λ c. search needs) (λ c. search needs) (λ c κs. search needs) (λ c. search needs)
+    (λ c. search needs) (λ c κs. search needs) (λ c. search needs) (λ c. search needs) (λ c κs. search needs) returns)

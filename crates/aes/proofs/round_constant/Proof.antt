@@ -7,6 +7,9 @@ use Rattle.aes.proofs.Schedule.{constant}
 use Rattle.aes.proofs.round_constant.Statement.{statement}
 use Rattle.aes.proofs.round_constant.Tie as tie
 
+returns : tie.Need-returns
+returns c =
+    constant (c .args .j - 1) (omega arith)
+
 pub round-constant-spec : {M : Type 1} → statement M
-round-constant-spec =
-    tie.close (tie.spec (search needs) (search needs) (search needs) (λ c. constant (c .args .j - 1) (omega arith)))
+round-constant-spec = tie.close (tie.spec (λ c. search needs) (λ c. search needs) (λ c. search needs) returns)

@@ -6,6 +6,9 @@ use Rattle.aes.proofs.Substitution.{substitutes}
 use Rattle.aes.proofs.sbox.Statement.{statement}
 use Rattle.aes.proofs.sbox.Tie as tie
 
+returns : tie.Need-returns
+unfolding xtimes timesBits times squares inverse affineBit affineBits subByte
+returns c = substitutes _ tt
+
 pub sbox-spec : {M : Type 1} → statement M
-unfolding affineBit affineBits inverse squares subByte times timesBits xtimes
-sbox-spec = tie.close (tie.spec (λ c. substitutes _ tt))
+sbox-spec = tie.close (tie.spec returns)

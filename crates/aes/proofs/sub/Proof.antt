@@ -4,5 +4,8 @@ use borrow.Author.Needs.{needs}
 use Rattle.aes.proofs.sub.Statement.{statement}
 use Rattle.aes.proofs.sub.Tie as tie
 
+returns : tie.Need-returns
+returns c = c .before .pre .at _ (search needs)
+
 pub sub-spec : {M : Type 1} → statement M
-sub-spec = tie.close (tie.spec (search needs) (λ c. c .before .pre .at _ (search needs)))
+sub-spec = tie.close (tie.spec (λ c. search needs) returns)

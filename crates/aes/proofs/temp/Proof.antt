@@ -18,9 +18,14 @@ returns c =
     (constant-added (s .a) (s .b) (s .c) (s .d) (c .before .round-constant .result)
     ∙ ap₂ xorWord (c .before .before .sub-word .ensures) (ap (λ (k : ℕ). k ∷ 0 ∷ 0 ∷ 0 ∷ []) (c .before .round-constant .ensures)))
 
-pub temp-spec : {M : Type 1} → statement M
+returns-2 : tie.Need-returns-2
 unfolding temp
+returns-2 c = rw (ne-eqb _ _ (c .before .before .if1 .left), eq-eqb _ _ (c .before .if2 .taken)) (c .sub-word2 .ensures)
+
+returns-3 : tie.Need-returns-3
+unfolding temp
+returns-3 c = rw (ne-eqb _ _ (c .before .if1 .left), ne-eqb _ _ (c .if2 .left)) refl
+
+pub temp-spec : {M : Type 1} → statement M
 temp-spec =
-    tie.close (tie.spec (λ c κs. search needs) (search needs) returns (λ c κs. search needs)
-    (λ c. rw (ne-eqb _ _ (c .before .before .if1 .left), eq-eqb _ _ (c .before .if2 .taken)) (c .sub-word2 .ensures))
-    (λ c. rw (ne-eqb _ _ (c .before .if1 .left), ne-eqb _ _ (c .if2 .left)) refl))
+    tie.close (tie.spec (λ c κs. search needs) (λ c κs. search needs) returns (λ c κs. search needs) returns-2 returns-3)

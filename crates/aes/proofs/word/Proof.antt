@@ -6,8 +6,11 @@ use Rattle.aes.specs.Cipher.{wordAt, scheduled}
 use Rattle.aes.proofs.word.Statement.{statement}
 use Rattle.aes.proofs.word.Tie as tie
 
+returns : tie.Need-returns
+unfolding wordAt scheduled
+returns c = simp add-zero
+
 pub word-spec : {M : Type 1} → statement M
-unfolding scheduled wordAt
 word-spec =
-    tie.close (tie.spec (search needs) (search needs) (search needs) (search needs) (search needs) (search needs)
-    (search needs) (search needs) (search needs) (search needs) (search needs) (λ c. simp add-zero))
+    tie.close (tie.spec (λ c. search needs) (λ c. search needs) (λ c. search needs) (λ c. search needs) (λ c. search needs) (λ c. search needs)
+    (λ c. search needs) (λ c. search needs) (λ c. search needs) (λ c. search needs) (λ c. search needs) returns)

@@ -5,6 +5,9 @@ use Rattle.aes.specs.Cipher.{xorWord}
 use Rattle.aes.proofs.xor.Statement.{statement}
 use Rattle.aes.proofs.xor.Tie as tie
 
-pub xor-spec : {M : Type 1} → statement M
+returns : tie.Need-returns
 unfolding xorWord
-xor-spec = tie.close (tie.spec (λ c. refl))
+returns c = refl
+
+pub xor-spec : {M : Type 1} → statement M
+xor-spec = tie.close (tie.spec returns)

@@ -7,20 +7,18 @@ use Rattle.sha2.proofs.digest.Tie as tie
 
 returns : tie.Need-returns
 returns c =
-    simp (
-      c .before .put648 .ensures,
-      c .before .before .before .before .put647 .ensures,
-      c .before .before .before .before .before .before .before .put646 .ensures,
-      c .before .before .before .before .before .before .before .before .before .before .put645 .ensures,
-      c .before .before .before .before .before .before .before .before .before .before .before .before .before .put644 .ensures,
-      c .before .before .before .before .before .before .before .before .before .before .before .before .before .before .before .before .put643 .ensures,
-      c .before .before .before .before .before .before .before .before .before .before .before .before .before .before .before .before .before .before .before .put642 .ensures,
-      c .before .before .before .before .before .before .before .before .before .before .before .before .before .before .before .before .before .before .before .before .before .before .put64 .ensures,
-    )
-    (laid-out _)
+    laid-out _
+    (c .before .before .before .before .before .before .before .before .before .before .before .before .before .before .before .before .before .before .before .before .before .before .put64 .ensures)
+    (c .before .before .before .before .before .before .before .before .before .before .before .before .before .before .before .before .before .before .before .put642 .ensures)
+    (c .before .before .before .before .before .before .before .before .before .before .before .before .before .before .before .before .put643 .ensures)
+    (c .before .before .before .before .before .before .before .before .before .before .before .before .before .put644 .ensures)
+    (c .before .before .before .before .before .before .before .before .before .before .put645 .ensures)
+    (c .before .before .before .before .before .before .before .put646 .ensures)
+    (c .before .before .before .before .put647 .ensures)
+    (c .before .put648 .ensures)
 
 pub digest-spec : {M : Type 1} → statement M
 digest-spec =
-    tie.close (tie.spec (search needs) (search needs) (search needs) (search needs) (search needs) (search needs)
-    (search needs) (search needs) (search needs) (search needs) (search needs) (search needs) (search needs)
-    (search needs) (search needs) (search needs) returns)
+    tie.close (tie.spec (λ c. search needs) (λ c κs. search needs) (λ c. search needs) (λ c κs. search needs) (λ c. search needs)
+    (λ c κs. search needs) (λ c. search needs) (λ c κs. search needs) (λ c. search needs) (λ c κs. search needs) (λ c. search needs)
+    (λ c κs. search needs) (λ c. search needs) (λ c κs. search needs) (λ c. search needs) (λ c κs. search needs) returns)

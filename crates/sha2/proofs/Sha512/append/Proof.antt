@@ -40,5 +40,5 @@ returns-3 c =
 
 pub append-spec : {M : Type 1} → statement M
 append-spec =
-    tie.close (tie.spec (search needs) (λ c. search needs) (search needs) (search needs) (λ c. search needs)
-    slice-aggregate-complete complete-requires (search needs) (search needs) (search needs) whole-requires-2 returns-3)
+    tie.close (tie.spec (λ c κs. search needs) (λ c. search needs) (λ c. search needs) (λ c κs. search needs) (λ c. search needs)
+    slice-aggregate-complete complete-requires (λ c. search needs) (λ c. search needs) (λ c. search needs) whole-requires-2 returns-3)

@@ -8,6 +8,10 @@ use Rattle.sha2.proofs.Streaming.{took-complete}
 use Rattle.sha2.proofs.Sha512.complete.Statement.{statement}
 use Rattle.sha2.proofs.Sha512.complete.Tie as tie
 
+put-at-requires : tie.Need-put-at-requires
+put-at-requires c κs =
+    let full : length (c .before .before .before .before .args .self .tail) ≡ 128 = search needs in omega arith
+
 returns : tie.Need-returns
 returns c =
     let start = c .before .before .before .before .before .before .before .before in
@@ -17,6 +21,5 @@ returns c =
 
 pub complete-spec : {M : Type 1} → statement M
 complete-spec =
-    tie.close (tie.spec (λ c. search needs)
-    (λ c κs. let full : length (c .before .before .before .before .args .self .tail) ≡ 128 = search needs in omega arith)
-    (search needs) (search needs) (search needs) returns)
+    tie.close
+    (tie.spec (λ c. search needs) put-at-requires (λ c. search needs) (λ c κs. search needs) (λ c. search needs) returns)

@@ -6,6 +6,9 @@ use Rattle.sha2.specs.Hash.{afterBlocks}
 use Rattle.sha2.proofs.Sha512.new.Statement.{statement}
 use Rattle.sha2.proofs.Sha512.new.Tie as tie
 
+returns : tie.Need-returns
+unfolding initial afterBlocks
+returns c = (refl, record { counted = refl; hashed = refl; kept = refl })
+
 pub new-spec : {M : Type 1} → statement M
-unfolding afterBlocks initial
-new-spec = tie.close (tie.spec (λ c. (refl, record { counted = refl; hashed = refl; kept = refl })))
+new-spec = tie.close (tie.spec returns)

@@ -29,5 +29,5 @@ returns c =
 
 pub whole-spec : {M : Type 1} → statement M
 whole-spec =
-    tie.close (tie.spec (search needs) (search needs) (λ c. search needs) (search needs) (search needs) (search needs)
-    put-at-requires (search needs) returns)
+    tie.close (tie.spec (λ c κs. search needs) (λ c. search needs) (λ c. search needs) (λ c. search needs) (λ c. search needs) (λ c. search needs)
+    put-at-requires (λ c. search needs) returns)

@@ -23,4 +23,5 @@ returns c =
     (whole-schedule block (extend .last .0) (extend .ensures block (load .ensures))))
 
 pub after-block-spec : {M : Type 1} → statement M
-after-block-spec = tie.close (tie.spec (search needs) (search needs) (search needs) (search needs) returns)
+after-block-spec =
+    tie.close (tie.spec (λ c κs. search needs) (λ c κs. search needs) (λ c κs. search needs) (λ c κs. search needs) returns)

@@ -5,7 +5,6 @@ use mathlib.Core.List.{List}
 use Prim.Native.Nat.{ℕ, _+_, _*_, _-_, _≤_}
 use native.Mathlib.Numerals.{add-one}
 use native.Mathlib.Omega.{arith}
-use borrow.Author.Needs.{needs}
 use Rattle.cells.specs.Runs.{part}
 use Rattle.cells.proofs.Runs.{length-part}
 use Rattle.sha2.specs.Constants.{K}
@@ -19,6 +18,10 @@ Inv-loop m n k v₀ i₀ v i = (i ≤ n) × (v ≡ afterBlocks v₀ m i)
 
 abbrev μ-loop : tie.MeasureT-loop
 μ-loop m n k v₀ i₀ v i = n - i
+
+loop-holds : tie.Need-loop-holds Inv-loop μ-loop
+unfolding afterBlocks
+loop-holds c = (omega arith, refl)
 
 after-block-requires : tie.Need-after-block-requires Inv-loop μ-loop
 unfolding K
@@ -48,7 +51,6 @@ returns-2 c =
     c .before .loop .inv .1 ∙ ap (afterBlocks (start .args .v) (start .args .m .now)) e
 
 pub after-blocks-spec : {M : Type 1} → statement M
-unfolding afterBlocks
 after-blocks-spec =
-    tie.close (tie.spec Inv-loop μ-loop returns (λ c. (omega arith, refl)) (search needs) (search needs) (search needs)
-    (search needs) (search needs) after-block-requires (search needs) (search needs) loop-again returns-2)
+    tie.close (tie.spec Inv-loop μ-loop returns loop-holds (λ c. omega arith) (λ c. omega arith) (λ c. omega arith) (λ c. omega arith)
+    (λ c. omega arith) after-block-requires (λ c. omega arith) (λ c. omega arith) loop-again returns-2)

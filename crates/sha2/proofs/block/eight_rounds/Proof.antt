@@ -2,7 +2,7 @@
 -- Assumes nothing.
 use mathlib.Core.Path.{ap, sym, _∙_}
 use native.Mathlib.Nat.{add-zero}
-use borrow.Author.Needs.{needs}
+use native.Mathlib.Omega.{arith}
 use Rattle.sha2.specs.Block.{rounds}
 use Rattle.sha2.proofs.block.eight_rounds.Statement.{statement}
 use Rattle.sha2.proofs.block.eight_rounds.Tie as tie
@@ -22,5 +22,5 @@ returns c v0 p =
 
 pub eight-rounds-spec : {M : Type 1} → statement M
 eight-rounds-spec =
-    tie.close (tie.spec (search needs) (search needs) (search needs) (search needs) (search needs) (search needs)
-    (search needs) (search needs) returns)
+    tie.close (tie.spec (λ c κs. omega arith) (λ c κs. omega arith) (λ c κs. omega arith) (λ c κs. omega arith) (λ c κs. omega arith)
+    (λ c κs. omega arith) (λ c κs. omega arith) (λ c κs. omega arith) returns)

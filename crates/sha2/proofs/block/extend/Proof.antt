@@ -4,7 +4,6 @@ use mathlib.Core.Path.{_≡_}
 use mathlib.Core.List.{List}
 use Prim.Native.Nat.{ℕ, _+_, _-_, _*_, _≤_}
 use native.Mathlib.Omega.{arith}
-use borrow.Author.Needs.{needs}
 use Rattle.sha2.specs.InnerScheduled.{Scheduled}
 use Rattle.sha2.proofs.block.extend.Statement.{statement}
 use Rattle.sha2.proofs.block.extend.Tie as tie
@@ -14,6 +13,9 @@ Inv-loop w₀ q₀ w q = (2 ≤ q) × (q ≤ 10) × ((block : List ℕ) → Sche
 
 abbrev μ-loop : tie.MeasureT-loop
 μ-loop w₀ q₀ w q = 10 - q
+
+loop-holds : tie.Need-loop-holds Inv-loop μ-loop
+loop-holds c = (omega arith, omega arith, λ block laid. laid)
 
 loop-again : tie.Need-loop-again Inv-loop μ-loop
 loop-again c =
@@ -28,5 +30,4 @@ returns c block laid =
 
 pub extend-spec : {M : Type 1} → statement M
 extend-spec =
-    tie.close (tie.spec Inv-loop μ-loop (λ c. (omega arith, omega arith, λ block laid. laid)) (search needs)
-    (search needs) (search needs) (search needs) loop-again returns)
+    tie.close (tie.spec Inv-loop μ-loop loop-holds (λ c. omega arith) (λ c κs. omega arith) (λ c. omega arith) (λ c. omega arith) loop-again returns)

@@ -4,7 +4,6 @@ use mathlib.Core.Path.{_≡_, refl}
 use Prim.Native.Nat.{_+_, _-_, _≤_}
 use native.Mathlib.Numerals.{add-one}
 use native.Mathlib.Omega.{arith}
-use borrow.Author.Needs.{needs}
 use Rattle.sha2.specs.InnerScheduled.{Scheduled}
 use Rattle.sha2.specs.Block.{schedule}
 use Rattle.sha2.proofs.Schedule.{own-word}
@@ -16,6 +15,10 @@ Inv-loop w₀ block t₀ w t = (t ≤ 16) × Scheduled w block t
 
 abbrev μ-loop : tie.MeasureT-loop
 μ-loop w₀ block t₀ w t = 16 - t
+
+loop-holds : tie.Need-loop-holds Inv-loop μ-loop
+unfolding schedule
+loop-holds c = (omega arith, record { long = omega arith; words = refl })
 
 loop-again : tie.Need-loop-again Inv-loop μ-loop
 loop-again c =
@@ -33,7 +36,6 @@ returns c =
     rw e at (c .before .loop .inv .1)
 
 pub load-spec : {M : Type 1} → statement M
-unfolding schedule
 load-spec =
-    tie.close (tie.spec Inv-loop μ-loop (λ c. (omega arith, record { long = omega arith; words = refl })) (search needs)
-    (search needs) (search needs) (search needs) (search needs) (search needs) loop-again returns)
+    tie.close (tie.spec Inv-loop μ-loop loop-holds (λ c. omega arith) (λ c κs. omega arith) (λ c. omega arith) (λ c. omega arith) (λ c. omega arith)
+    (λ c. omega arith) loop-again returns)

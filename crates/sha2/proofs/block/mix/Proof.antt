@@ -5,6 +5,11 @@ use Rattle.sha2.specs.Block.{mix}
 use Rattle.sha2.proofs.block.mix.Statement.{statement}
 use Rattle.sha2.proofs.block.mix.Tie as tie
 
-pub mix-spec : {M : Type 1} → statement M
+returns : tie.Need-returns
 unfolding mix
-mix-spec = tie.close (tie.spec (search needs) (search needs) (search needs) (search needs) (search needs) (λ c. cc))
+returns c = cc
+
+pub mix-spec : {M : Type 1} → statement M
+mix-spec =
+    tie.close
+    (tie.spec (λ c κs. search needs) (λ c κs. search needs) (λ c κs. search needs) (λ c κs. search needs) (λ c κs. search needs) returns)

@@ -5,8 +5,11 @@ use Rattle.sha2.specs.Block.{T1, T2, roundOf}
 use Rattle.sha2.proofs.block.round.Statement.{statement}
 use Rattle.sha2.proofs.block.round.Tie as tie
 
-pub round-spec : {M : Type 1} → statement M
+returns : tie.Need-returns
 unfolding T1 T2 roundOf
+returns c = cc
+
+pub round-spec : {M : Type 1} → statement M
 round-spec =
-    tie.close (tie.spec (search needs) (search needs) (search needs) (search needs) (search needs) (search needs)
-    (search needs) (search needs) (search needs) (search needs) (search needs) (λ c. cc))
+    tie.close (tie.spec (λ c κs. search needs) (λ c κs. search needs) (λ c κs. search needs) (λ c κs. search needs) (λ c κs. search needs)
+    (λ c κs. search needs) (λ c κs. search needs) (λ c κs. search needs) (λ c κs. search needs) (λ c κs. search needs) (λ c κs. search needs) returns)

@@ -3,7 +3,6 @@
 use mathlib.Core.Path.{_≡_, refl, ap, _∙_}
 use Prim.Native.Nat.{_+_, _-_, _*_, _≤_}
 use native.Mathlib.Omega.{arith}
-use borrow.Author.Needs.{needs}
 use Rattle.sha2.specs.Block.{rounds}
 use Rattle.sha2.proofs.block.rounds.Statement.{statement}
 use Rattle.sha2.proofs.block.rounds.Tie as tie
@@ -13,6 +12,10 @@ Inv-loop k w x₀ q₀ x q = (q ≤ 10) × (x ≡ rounds k w x₀ (8 * q))
 
 abbrev μ-loop : tie.MeasureT-loop
 μ-loop k w x₀ q₀ x q = 10 - q
+
+loop-holds : tie.Need-loop-holds Inv-loop μ-loop
+unfolding rounds
+loop-holds c = (omega arith, refl)
 
 loop-again : tie.Need-loop-again Inv-loop μ-loop
 loop-again c =
@@ -27,7 +30,5 @@ returns c =
     c .before .loop .inv .1 ∙ ap (rounds (start .args .k .now) (start .args .w .now) (start .args .v)) e
 
 pub rounds-spec : {M : Type 1} → statement M
-unfolding rounds
 rounds-spec =
-    tie.close (tie.spec Inv-loop μ-loop (λ c. (omega arith, refl)) (search needs) (search needs) (search needs)
-    (search needs) loop-again returns)
+    tie.close (tie.spec Inv-loop μ-loop loop-holds (λ c. omega arith) (λ c κs. omega arith) (λ c. omega arith) (λ c. omega arith) loop-again returns)

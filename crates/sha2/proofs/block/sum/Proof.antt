@@ -5,8 +5,11 @@ use Rattle.sha2.specs.Block.{sumOf}
 use Rattle.sha2.proofs.block.sum.Statement.{statement}
 use Rattle.sha2.proofs.block.sum.Tie as tie
 
-pub sum-spec : {M : Type 1} → statement M
+returns : tie.Need-returns
 unfolding sumOf
+returns c = cc
+
+pub sum-spec : {M : Type 1} → statement M
 sum-spec =
-    tie.close (tie.spec (search needs) (search needs) (search needs) (search needs) (search needs) (search needs)
-    (search needs) (search needs) (λ c. cc))
+    tie.close (tie.spec (λ c κs. search needs) (λ c κs. search needs) (λ c κs. search needs) (λ c κs. search needs) (λ c κs. search needs)
+    (λ c κs. search needs) (λ c κs. search needs) (λ c κs. search needs) returns)

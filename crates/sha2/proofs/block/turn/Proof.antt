@@ -5,7 +5,11 @@ use Rattle.sha2.proofs.Rounds.{one-more}
 use Rattle.sha2.proofs.block.turn.Statement.{statement}
 use Rattle.sha2.proofs.block.turn.Tie as tie
 
+returns : tie.Need-returns
+returns c v0 p =
+    one-more _ _ v0 _ _ _ _ p (c .round .ensures)
+
 pub turn-spec : {M : Type 1} → statement M
 turn-spec =
-    tie.close (tie.spec (search needs) (search needs) (search needs) (search needs) (search needs) (search needs)
-    (search needs) (λ c v0 p. one-more _ _ v0 _ _ _ _ p (c .round .ensures)))
+    tie.close (tie.spec (λ c. search needs) (λ c. search needs) (λ c. search needs) (λ c. search needs) (λ c. search needs) (λ c. search needs)
+    (λ c κs. search needs) returns)

@@ -5,6 +5,9 @@ use Rattle.sha2.specs.Word.{Σ0}
 use Rattle.sha2.proofs.word.big_sigma0.Statement.{statement}
 use Rattle.sha2.proofs.word.big_sigma0.Tie as tie
 
-pub big-sigma0-spec : {M : Type 1} → statement M
+returns : tie.Need-returns
 unfolding Σ0
-big-sigma0-spec = tie.close (tie.spec (λ c. refl))
+returns c = refl
+
+pub big-sigma0-spec : {M : Type 1} → statement M
+big-sigma0-spec = tie.close (tie.spec returns)

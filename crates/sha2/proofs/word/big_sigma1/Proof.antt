@@ -5,6 +5,9 @@ use Rattle.sha2.specs.Word.{Σ1}
 use Rattle.sha2.proofs.word.big_sigma1.Statement.{statement}
 use Rattle.sha2.proofs.word.big_sigma1.Tie as tie
 
-pub big-sigma1-spec : {M : Type 1} → statement M
+returns : tie.Need-returns
 unfolding Σ1
-big-sigma1-spec = tie.close (tie.spec (λ c. refl))
+returns c = refl
+
+pub big-sigma1-spec : {M : Type 1} → statement M
+big-sigma1-spec = tie.close (tie.spec returns)

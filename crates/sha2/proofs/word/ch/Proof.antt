@@ -5,6 +5,9 @@ use Rattle.sha2.specs.Word.{Ch}
 use Rattle.sha2.proofs.word.ch.Statement.{statement}
 use Rattle.sha2.proofs.word.ch.Tie as tie
 
-pub ch-spec : {M : Type 1} → statement M
+returns : tie.Need-returns
 unfolding Ch
-ch-spec = tie.close (tie.spec (λ c. refl))
+returns c = refl
+
+pub ch-spec : {M : Type 1} → statement M
+ch-spec = tie.close (tie.spec returns)

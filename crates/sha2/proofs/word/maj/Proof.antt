@@ -5,6 +5,9 @@ use Rattle.sha2.specs.Word.{Maj}
 use Rattle.sha2.proofs.word.maj.Statement.{statement}
 use Rattle.sha2.proofs.word.maj.Tie as tie
 
-pub maj-spec : {M : Type 1} → statement M
+returns : tie.Need-returns
 unfolding Maj
-maj-spec = tie.close (tie.spec (λ c. refl))
+returns c = refl
+
+pub maj-spec : {M : Type 1} → statement M
+maj-spec = tie.close (tie.spec returns)

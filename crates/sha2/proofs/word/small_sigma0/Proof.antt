@@ -5,6 +5,9 @@ use Rattle.sha2.specs.Word.{σ0}
 use Rattle.sha2.proofs.word.small_sigma0.Statement.{statement}
 use Rattle.sha2.proofs.word.small_sigma0.Tie as tie
 
-pub small-sigma0-spec : {M : Type 1} → statement M
+returns : tie.Need-returns
 unfolding σ0
-small-sigma0-spec = tie.close (tie.spec (λ c. refl))
+returns c = refl
+
+pub small-sigma0-spec : {M : Type 1} → statement M
+small-sigma0-spec = tie.close (tie.spec returns)

@@ -5,6 +5,9 @@ use Rattle.sha2.specs.Word.{σ1}
 use Rattle.sha2.proofs.word.small_sigma1.Statement.{statement}
 use Rattle.sha2.proofs.word.small_sigma1.Tie as tie
 
-pub small-sigma1-spec : {M : Type 1} → statement M
+returns : tie.Need-returns
 unfolding σ1
-small-sigma1-spec = tie.close (tie.spec (λ c. refl))
+returns c = refl
+
+pub small-sigma1-spec : {M : Type 1} → statement M
+small-sigma1-spec = tie.close (tie.spec returns)
