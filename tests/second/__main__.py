@@ -77,6 +77,12 @@ def run_cases(arguments):
     return cases.run(sys.stdout)
 
 
+def run_rules(arguments):
+    import rules  # here alone, as above
+
+    return rules.run(sys.stdout)
+
+
 def report_numbers(counts):
     """True if every number 0 to 20 came up."""
     missing = [number for number in range(21) if counts.numbers[number] == 0]
@@ -117,6 +123,9 @@ def command_line():
 
     command = commands.add_parser("cases", help="run the self-tests")
     command.set_defaults(run=run_cases)
+
+    command = commands.add_parser("rules", help="hold docs/RULES.md to the model")
+    command.set_defaults(run=run_rules)
 
     command = commands.add_parser("coverage", help="count how often each number and each fault comes up")
     add_seed_and_count(command)

@@ -4,9 +4,9 @@ A string is a sentence. What follows it are its cases, each a function of placin
 """
 
 from histories import Disagreement
-from sentences import codes, coverage, drawn, lines, netstrings, numbers, orders, thin, values
+from sentences import codes, coverage, drawn, edges, lines, netstrings, numbers, orders, thin, values
 
-SUBJECTS = (orders, values, lines, coverage, netstrings, codes, numbers, thin, drawn)
+SUBJECTS = (orders, values, lines, coverage, netstrings, codes, numbers, thin, edges, drawn)
 
 
 def write(writer):

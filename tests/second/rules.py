@@ -1,0 +1,187 @@
+"""docs/RULES.md held to the second program: its sizes, fields, numbers and names, its example worked byte by byte, and its edges.
+
+What the page says at an edge is a call here, which the C host plays on the library too (sentences/edges.py).
+"""
+
+import pathlib
+import re
+
+import calls
+import client
+import model
+from sentences.edges import EDGES, example
+from sentences.placing import request_call
+
+ROOT = pathlib.Path(__file__).resolve().parents[2]
+
+# Sizes: what is lent, the least and the most of it.
+SIZES = (
+    ("server key, session key", model.KEY, model.KEY),
+    ("IV", model.IV, model.IV),
+    ("session id", 1, model.MOST_SESSION_ID),
+    ("X-S-Armor value", 0, model.MOST_VALUE),
+    ("head, set-aside lines, each", 0, model.MOST_LINES),
+    ("path", 1, model.MOST_PATH),
+    ("body", 0, model.MOST_BODY),
+    ("table, in records of 30 bytes", 1, model.MOST_RECORDS),
+    ("reply buffer", model.LEAST_REPLY, None),
+)
+
+# Fields: key, the least and the most bytes that it holds.
+FIELDS = (
+    ("s", 1, 118),
+    ("c", 64, 64),
+    ("iv", 12, 12),
+    ("tag", 16, 16),
+    ("t", 1, 4),
+    ("lt", 1, 4),
+    ("n", 1, 4),
+    ("h", 2, 9),
+    ("ah", 2, 9),
+    ("r", 2, 9),
+    ("eah", 1, None),
+)
+
+LIMITS = (
+    ("request life", model.DEFAULT_REQUEST_LIFE),
+    ("idle", model.DEFAULT_IDLE),
+    ("session life", model.DEFAULT_SESSION_LIFE),
+)
+
+
+# The page
+
+
+def rows(text, heading):
+    """The rows of the table under a heading, as lists of cells."""
+    part = text.split(f"\n## {heading}\n", 1)[1].split("\n## ", 1)[0]
+    return [[cell.strip() for cell in line.strip("|").split("|")] for line in part.split("\n") if line.startswith("| ")][1:]
+
+
+def span(least, most):
+    if most is None:
+        return f"at least {least:,}"
+    return f"{least:,}" if least == most else f"{least:,} to {most:,}"
+
+
+def header_numbers():
+    """The numbers that include/gate.h names."""
+    text = (ROOT / "include/gate.h").read_text()
+    return {int(number): name for name, number in re.findall(r"^\s+(GATE_[A-Z0-9_]+) = (\d+)[,\s]", text, re.M)}
+
+
+def held_by(key, size):
+    """Whether a value with this field of this size keeps its grammar."""
+    contents = bytes([size - 1] + [1] * (size - 1)) if key in ("h", "ah", "r") and size else b"\1" * size
+    return model.fields_of(client.piece(key.encode(), contents)) is not None
+
+
+def longest_reply():
+    orders = model.Orders(mask=(1 << model.HIGHEST_BIT + 1) - 1, extra=bytes(model.MOST_EXTRA), request_life=0, idle=0, session_life=0)
+    token = model.Token(bytes(model.KEY), bytes(model.MOST_SESSION_ID), model.HIGHEST)
+    return len(model.setup_reply(orders, bytes(model.KEY), bytes(model.IV), token))
+
+
+def in_any_order():
+    """Whether 64 nonces in a row are accepted though the last comes first."""
+    table = request_call().table
+    for n in reversed(range(64)):
+        outcome = calls.answered(request_call(n=n)._replace(table=table), table, bytes(model.LEAST_REPLY))
+        if outcome.number:
+            return False
+        table = outcome.table
+    return True
+
+
+def at_edge(asked):
+    return next(number for edge, _, number in EDGES if edge == asked)
+
+
+def sent_again(request):
+    first = calls.answered(request, request.table, bytes(model.LEAST_REPLY))
+    return calls.answered(request, first.table, bytes(model.LEAST_REPLY)).number
+
+
+def phrases(setup, request):
+    """What the page says with numbers in it outside its tables, and whether it is so."""
+    mask, clock = request.arguments[0], setup.arguments[5]
+    fields = model.fields_of(request.arguments[7])
+    told = dict(fields)
+    defaults = model.Orders(0, b"", 0, 0, 0)
+    yield "bit 0", request.arguments[0] & 1 and b"n" in told
+    yield "Bit 0", True
+    yield "where 0 stands for the default", model.request_life(defaults) == model.DEFAULT_REQUEST_LIFE
+    yield "more than 30 days", model.LONGEST_SESSION_LIFE == 30 * 86_400
+    yield f"Bits 1 to {len(model.NAMES)}", model.HIGHEST_BIT == len(model.NAMES)
+    yield f"none of the {len(model.NAMES)}", True
+    yield f"at most {model.MOST_EXTRA_NAMES}, at most {model.MOST_EXTRA} bytes together", True
+    yield "at most 459 bytes", longest_reply() == 459
+    yield f"from 0 to {model.HIGHEST:,}", True
+    yield "the 63 below it", at_edge("nonce 37, new, after 100") == 0
+    yield "less than 64 below", at_edge("nonce 36, new, after 100") == 15
+    yield "at most 64 requests at a time never meets 15 or 16", in_any_order()
+    yield "At 0 the reply", True
+    yield "At 10 and 13", True
+    yield f"the invalidation of {len(model.invalidation(bytes(model.KEY)))} bytes", True
+    yield "from 1 to 16", "from 1 to 16" in model.judge.__doc__
+    yield "for 1, 2, 3, 4, 5, 19, 20, 17 and 18 in this order", "Checks 1, 2, 3, 4, 5, 19, 20, 17, 18" in model.setup.__doc__
+    yield "an ending for 1, 3 and 12", "1, 3, 12" in model.end.__doc__
+    yield "the bytes 00 to 1f", setup.arguments[6] == bytes(range(0x20))
+    yield "the session key 20 to 3f", setup.arguments[7] == bytes(range(0x20, 0x40))
+    yield "the IV 40 to 4b", setup.arguments[8] == bytes(range(0x40, 0x4C))
+    yield f"the mask {mask}, bytes {client.encoded_number(mask).hex(' ')}", mask == 1 | 2 | 256
+    yield f"Now is {clock}", True
+    yield "nonce 7", told[b"n"] == b"\7"
+    yield f"is {int.from_bytes(told[b't'], 'big')}", int.from_bytes(told[b"lt"], "big") == clock
+    yield "The gate answers 0", True
+    yield "gets 16", sent_again(request) == 16
+
+
+STANDARDS = r"RFC \d+|section \d+|AES-256-GCM|SHA-512|[Bb]ase64|HTTP2-Settings"
+
+
+def unchecked(text, told):
+    """The numbers of the page's prose that no phrase has; refusals in parentheses are those of the table."""
+    prose = "\n".join(line for line in text.split("\n") if not line.startswith(("|", "    ")))
+    prose = re.sub(r"`[^`]*`", " ", prose)
+    for phrase in sorted(told, key=len, reverse=True):
+        prose = prose.replace(phrase, " ")
+    prose = re.sub(STANDARDS, " ", prose)
+    prose = re.sub(r"\(\d+\)", " ", prose)
+    return re.findall(r"\S*\d\S*", prose)
+
+
+def claims(text):
+    """Each thing that the page says, and whether it is so."""
+    yield "sizes", rows(text, "Sizes") == [[name, span(least, most)] for name, least, most in SIZES]
+    yield "limits", rows(text, "Orders") == [[name, f"{seconds:,}"] for name, seconds in LIMITS]
+    yield "fields", [row[0::2] for row in rows(text, "The value")] == [[f"`{key}`", span(least, most)] for key, least, most in FIELDS]
+    for key, least, most in FIELDS:
+        yield f"{key} of its sizes", held_by(key, least) and not held_by(key, least - 1) and (most is None or held_by(key, most) and not held_by(key, most + 1))
+    named = header_numbers()
+    yield "numbers", [row[:2] for row in rows(text, "Numbers")] == [[str(number), f"`{named[number]}`"] for number in range(21)]
+    yield "names", ", ".join(name.decode() for name in model.NAMES) in re.sub(r"\s+", " ", text)
+    setup, request, lines = example()
+    told = dict(phrases(setup, request))
+    for phrase, good in told.items():
+        yield phrase, bool(good) and phrase in text
+    yield f"numbers that nothing checks: {unchecked(text, told)}", not unchecked(text, told)
+    for line in lines:
+        yield f"example: {line[:40]}", line in text.split("\n")
+    for call in (setup, request):
+        yield f"example: {call.kind}", calls.answered(call, call.table, bytes(model.LEAST_REPLY)).number == 0
+    yield "edges", rows(text, "Edges") == [[asked, str(number)] for asked, _, number in EDGES]
+    for asked, call, number in EDGES:
+        yield asked, calls.answered(call, call.table, bytes(model.LEAST_REPLY)).number == number
+
+
+def run(out):
+    """Check all; true if nothing on the page is otherwise."""
+    text = (ROOT / "docs/RULES.md").read_text()
+    answers = list(claims(text))
+    for name, good in answers:
+        if not good:
+            print(f"failed: docs/RULES.md, {name}", file=out)
+    failed = sum(not good for _, good in answers)
+    print(f"{len(answers) - failed} passed, {failed} failed", file=out)
+    return failed == 0
