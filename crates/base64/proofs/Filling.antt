@@ -16,7 +16,7 @@ use Rattle.base64.specs.Alphabet.{character}
 use Rattle.base64.specs.Encoding.{encoded}
 use Rattle.base64.specs.Decoding.{Decoding, nothing, bytes, decoded}
 use Rattle.base64.specs.InnerAnswers.{sizeOf, measured, Outcome, outcome, pickOutcome, into, decodedInto}
-use Rattle.base64.specs.InnerSteps.{content, byteOf, characterOf, placeOf}
+use Rattle.base64.specs.InnerSteps.{content, byteOf, characterOf, byteAt}
 use Rattle.base64.proofs.Alphabet.{six}
 use Rattle.base64.proofs.Groups.{in-two, in-bytes}
 
@@ -71,8 +71,8 @@ character-encoded (a ∷ b ∷ c ∷ rest) (suc (suc (suc zero))) h l =
     rw (lt-ltb 2 (length (a ∷ b ∷ c ∷ rest)) (omega arith)) (ap character (in-bytes a b c _ (h 1) (h 2) (h 3) .3))
 character-encoded (a ∷ b ∷ c ∷ rest) (suc (suc (suc (suc i)))) h l =
     let g : suc (suc (suc (suc i))) % 4 ≡ i % 4 = omega arith in
-    let e : placeOf (suc (suc (suc (suc i)))) ≡ suc (suc (suc (placeOf i))) = omega arith in
-    let f : suc (suc (suc (placeOf i))) + 1 ≡ suc (suc (suc (placeOf i + 1))) = omega arith in
+    let e : byteAt (suc (suc (suc (suc i)))) ≡ suc (suc (suc (byteAt i))) = omega arith in
+    let f : suc (suc (suc (byteAt i))) + 1 ≡ suc (suc (suc (byteAt i + 1))) = omega arith in
     rw (e, f, g, leb·suc-suc, leb·suc-suc, leb·suc-suc) (character-encoded rest i (λ k. h (suc (suc (suc k)))) (omega arith))
 
 -- what decoding answers, by the size

@@ -55,8 +55,8 @@ byteOf text i = eightOf (sixBits (getD text (i + i / 3) 0)) (sixBits (getD text 
 abbrev pub sixOf : ℕ → ℕ → ℕ → ℕ
 sixOf a b k = (a * 256 + b) / 2 ^ (10 - 6 * k % 8) % 64
 
-abbrev pub placeOf : ℕ → ℕ
-placeOf i = i / 4 * 3 + 3 * (i % 4) / 4
+abbrev pub byteAt : ℕ → ℕ
+byteAt i = i / 4 * 3 + 3 * (i % 4) / 4
 
 abbrev pub characterOf : List ℕ → ℕ → ℕ
-characterOf bs i = cond (ltb (placeOf i) (length bs)) (character (sixOf (getD bs (placeOf i) 0) (getD bs (placeOf i + 1) 0) (i % 4))) pad
+characterOf bs i = cond (ltb (byteAt i) (length bs)) (character (sixOf (getD bs (byteAt i) 0) (getD bs (byteAt i + 1) 0) (i % 4))) pad

@@ -18,7 +18,7 @@ use Rattle.orders.specs.declared.Limits.{Limits}
 use Rattle.lines.specs.Lines.{linesIn, goodBlock}
 use Rattle.lines.specs.Values.{repeated}
 use Rattle.coverage.specs.Coverage.{asOrdered}
-use Rattle.token.specs.Token.{Token, openedToken, given, theToken}
+use Rattle.token.specs.Token.{Token, openedToken, hasToken, theToken}
 use Rattle.signed.specs.SignedText.{ordersNonce, requestText}
 use Rattle.table.specs.declared.session.Record.{Record}
 use Rattle.table.specs.Record.{windowOf, withWindow}
@@ -100,7 +100,7 @@ readingPart q =
 -- 9 and 10: the token
 unfoldable pub tokenPart : Request → List Check
 tokenPart q =
-    check 9 (not (given (openedOf q)))
+    check 9 (not (hasToken (openedOf q)))
     ∷ check 10 (leb (tokenOf q .expiry) (q .clock))
     ∷ []
 

@@ -16,7 +16,7 @@ use Rattle.netstring.specs.Netstring.{netstrings}
 use Rattle.netstring.specs.InnerReading.{PartAt, NoPart}
 use Rattle.netstring.proofs.Determined.{netstrings-determined, netstrings-append}
 use Rattle.token.specs.declared.Unsealed.{Unsealed}
-use Rattle.token.specs.Token.{Token, tokenText, tokenIn, tokenFrom, given, theToken}
+use Rattle.token.specs.Token.{Token, tokenText, tokenIn, tokenFrom, hasToken, theToken}
 use Rattle.token.specs.InnerHeld.{IsToken, Unseals}
 use Rattle.token.proofs.Text.{Sized}
 use Rattle.token.proofs.Exactly.{fits-means, fits-so, token-found, no-token}
@@ -32,11 +32,11 @@ from-wrong (some text) e = cc
 
 -- an answer that holds no token
 pub unseals-none : {o : Option Token} {r : Unsealed} → o ≡ none → r .good ≡ false → Unseals o r
-unseals-none e bad = record { is = bad ∙ ap given (sym e); holds = λ good. absurd (false≢true (sym bad ∙ good)) }
+unseals-none e bad = record { is = bad ∙ ap hasToken (sym e); holds = λ good. absurd (false≢true (sym bad ∙ good)) }
 
 -- an answer that holds one
 pub unseals-some : {o : Option Token} {t : Token} {r : Unsealed} → o ≡ some t → r .good ≡ true → IsToken t r → Unseals o r
-unseals-some {r = r} e good holds = record { is = good ∙ ap given (sym e); holds = λ _. subst (λ (p : Option Token). IsToken (theToken p) r) (sym e) holds }
+unseals-some {r = r} e good holds = record { is = good ∙ ap hasToken (sym e); holds = λ _. subst (λ (p : Option Token). IsToken (theToken p) r) (sym e) holds }
 
 abbrev parts : Token → List (List ℕ)
 parts t = t .key ∷ t .id ∷ decimal (t .expiry) ∷ []

@@ -6,7 +6,7 @@ use mathlib.Core.Option.{Option}
 use Prim.Native.Nat.{_≤_}
 use lib.ListN.{length, take}
 use Rattle.gcm.specs.Gcm.{Sealed}
-use Rattle.token.specs.Token.{Token, given, theToken}
+use Rattle.token.specs.Token.{Token, hasToken, theToken}
 use Rattle.token.specs.declared.Unsealed.{Unsealed}
 use Rattle.token.specs.declared.SealedToken.{SealedToken}
 
@@ -21,7 +21,7 @@ pub record IsToken (t : Token) (r : Unsealed) : Type 0 where
 
 -- what became of opening: whether there is a token, and its parts
 pub record Unseals (o : Option Token) (r : Unsealed) : Type 0 where
-  pub is : r .good ≡ given o
+  pub is : r .good ≡ hasToken o
   pub holds : r .good ≡ true → IsToken (theToken o) r
 
 -- a sealed token in its struct

@@ -62,9 +62,9 @@ tokenFrom (some text) = tokenIn text
 unfoldable pub openedToken : List ℕ → List ℕ → List ℕ → List ℕ → Option Token
 openedToken serverKey iv s tag = tokenFrom (opened serverKey iv [] s tag)
 
-abbrev pub given : Option Token → Bool
-given none = false
-given (some t) = true
+abbrev pub hasToken : Option Token → Bool
+hasToken none = false
+hasToken (some t) = true
 
 -- an empty token where there is none
 abbrev pub theToken : Option Token → Token

@@ -6,7 +6,7 @@ use mathlib.Core.List.{List, [], _∷_, _++_, append-assoc}
 use Prim.Native.Nat.{ℕ}
 use borrow.Author.Tests.{eq-eqb, not-false}
 use lib.Dec.{eqb, leb}
-use Rattle.token.specs.Token.{given}
+use Rattle.token.specs.Token.{hasToken}
 use Rattle.window.specs.Time.{exceeds}
 use Rattle.gate.specs.State.{State}
 use Rattle.stages.specs.Request.{Request}
@@ -78,10 +78,10 @@ not-first c cs n e other = by (c .holds) refl e
     by false p f = p
 
 -- the token opens, unless 9 is given
-pub opens : (q : Request) (later : List Check) (n : ℕ) → first (tokenPart q ++ later) ≡ n → (n ≡ 9 → ⊥) → given (openedOf q) ≡ true
+pub opens : (q : Request) (later : List Check) (n : ℕ) → first (tokenPart q ++ later) ≡ n → (n ≡ 9 → ⊥) → hasToken (openedOf q) ≡ true
 unfolding tokenPart
 opens q later n e nine =
-    not-false _ (not-first (check 9 (not (given (openedOf q)))) (check 10 (leb (tokenOf q .expiry) (q .clock)) ∷ later) n e nine)
+    not-false _ (not-first (check 9 (not (hasToken (openedOf q)))) (check 10 (leb (tokenOf q .expiry) (q .clock)) ∷ later) n e nine)
 
 -- the session is found, unless 12 is given
 pub finds : (q : Request) (state : State) (later : List Check) (n : ℕ) → first (sessionPart q (state .table) ++ later) ≡ n → (n ≡ 12 → ⊥)
@@ -95,19 +95,19 @@ finds q state later n e twelve =
         check 13 (exceeds (timeOf q) (lastTimeOf q) (limits q .idle)) ∷ check 14 (exceeds (q .clock) (timeOf q) (limits q .«request_life»)) ∷ []
 
 -- whether a check for this number holds
-abbrev pub holding : ℕ → List Check → Bool
-holding n [] = false
-holding n (c ∷ cs) = (eqb (c .number) n && c .holds) || holding n cs
+abbrev pub holdsFor : ℕ → List Check → Bool
+holdsFor n [] = false
+holdsFor n (c ∷ cs) = (eqb (c .number) n && c .holds) || holdsFor n cs
 
-given-holds : (n : ℕ) (cs : List Check) → (n ≡ 0 → ⊥) → first cs ≡ n → holding n cs ≡ true
+given-holds : (n : ℕ) (cs : List Check) → (n ≡ 0 → ⊥) → first cs ≡ n → holdsFor n cs ≡ true
 given-holds n [] nz e = absurd (nz (sym e))
 given-holds n (c ∷ cs) nz e = by (c .holds) e (given-holds n cs nz)
   where
-    by : (t : Bool) → cond t (c .number) (first cs) ≡ n → (first cs ≡ n → holding n cs ≡ true)
-        → ((eqb (c .number) n && t) || holding n cs) ≡ true
+    by : (t : Bool) → cond t (c .number) (first cs) ≡ n → (first cs ≡ n → holdsFor n cs ≡ true)
+        → ((eqb (c .number) n && t) || holdsFor n cs) ≡ true
     by true f later = rw (eq-eqb (c .number) n f)
     by false f later = rw (later f) (or-true (eqb (c .number) n && false))
 
 -- where no check for a number holds, the number is not given
-pub never-given : (n : ℕ) (cs : List Check) → (n ≡ 0 → ⊥) → holding n cs ≡ false → first cs ≡ n → ⊥
+pub never-given : (n : ℕ) (cs : List Check) → (n ≡ 0 → ⊥) → holdsFor n cs ≡ false → first cs ≡ n → ⊥
 never-given n cs nz h e = true≢false (sym (given-holds n cs nz e) ∙ h)

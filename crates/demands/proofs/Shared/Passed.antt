@@ -23,7 +23,7 @@ use Rattle.table.specs.WellFormed.{WellFormed}
 use Rattle.table.proofs.Tests.{both}
 use Rattle.table.proofs.Meaning.{wellFormed-is}
 use Rattle.coverage.specs.Coverage.{asOrdered}
-use Rattle.token.specs.Token.{given}
+use Rattle.token.specs.Token.{hasToken}
 use Rattle.gate.specs.Calls.{Setup}
 use Rattle.gate.specs.State.{State}
 use Rattle.stages.specs.Request.{Request}
@@ -51,14 +51,14 @@ pub record Passed (q : Request) (state : State) : Type 0 where
   pub lines : (goodBlock (q .head) && goodBlock (q .aside)) ≡ true
   pub once : (twice q (q .head) || twice q (q .aside)) ≡ false
   pub covers : asOrdered (q .orders .numbers .mask) (q .orders .extra) (fieldsOf q) ≡ true
-  pub opened : given (openedOf q) ≡ true
+  pub opened : hasToken (openedOf q) ≡ true
 
 value-good : (v : List ℕ) (o : Option (List Field)) → grammar v ≡ o → missing o ≡ false → requestFields (carried v) ≡ true
     → requestAnswer v ≡ Answer.Good
 value-good v none p m f = absurd (true≢false m)
 value-good v (some fs) p m f = request-by v true (kept-is v fs p) f
 
-pub all-passed : (q : Request) (state : State) → first (entryPart q state) ≡ 0 → first (readingPart q) ≡ 0 → given (openedOf q) ≡ true → Passed q state
+pub all-passed : (q : Request) (state : State) → first (entryPart q state) ≡ 0 → first (readingPart q) ≡ 0 → hasToken (openedOf q) ≡ true → Passed q state
 unfolding entryPart readingPart coveringPart fieldsOf
 all-passed q state entry reading opened =
     let lent = entry-passed (requestFits q state) (q .orders) state entry in
