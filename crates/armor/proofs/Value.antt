@@ -1,7 +1,7 @@
 -- The fields of a value are those whose text it is.
 -- Assumes nothing.
 use mathlib.Core.Path.{_≡_, refl, sym, ap, ap₂, subst, _∙_}
-use mathlib.Core.Logic.{_↔_, _⊎_, inl, inr}
+use mathlib.Core.Logic.{_↔_, _⊎_, inl, inr, ⊎-elim}
 use mathlib.Core.Bool.{Bool, true, false, cond}
 use mathlib.Core.List.{List, [], _∷_, _++_, append-assoc}
 use mathlib.Core.Option.{Option, none, some}
@@ -17,7 +17,7 @@ use Rattle.base64.proofs.Exactly.{decoded-exactly, decoded-bytes}
 use Rattle.base64.proofs.Encoded.{length-encoded, encoded-no-semicolon}
 use Rattle.armor.specs.Pieces.{colon, semicolon, upTo, after, onto, pieces, Without}
 use Rattle.armor.specs.Keys.{Rule, obeys, ruleOf}
-use Rattle.armor.specs.Value.{Field, Formed, AllFormed, fieldText, joined, textsOf, allGood, ValueOf, decodedObeys, textObeys, pieceGood, pieceField, fieldOf, withField, fieldsIn, grammar}
+use Rattle.armor.specs.Value.{Field, field, Formed, AllFormed, fieldText, joined, textsOf, allGood, ValueOf, decodedObeys, textObeys, pieceGood, pieceField, fieldOf, withField, fieldsIn, grammar}
 use Rattle.armor.specs.Value
 use Rattle.armor.proofs.Numerals.{both, at-once}
 use Rattle.armor.proofs.Pieces.{upTo-without, split-at-first, upTo-joined, after-joined, upTo-whole, after-whole, pieces-cut, without-rest}
@@ -61,16 +61,17 @@ of-field p f h =
     rw (h .key-is, h .bytes-are) (simp (le-leb 1 (length (f .key)) named, le-leb 1 (length (f .bytes)) held, h .good))
 
 -- a field's text is cut into that field
-text-field : (f : Field) → Formed f → obeys (ruleOf (f .key)) (f .bytes) ≡ true → IsField (fieldText f) f
+text-key : (f : Field) → Formed f → upTo colon (fieldText f) ≡ f .key
 unfolding fieldText
-text-field f h good = record {
-  key-is = upTo-joined colon (f .key) (encoded (f .bytes)) (h .no-colon);
-  bytes-are =
-      ap decoded (after-joined colon (f .key) (encoded (f .bytes)) (h .no-colon)) ∙ decoded-exactly (encoded (f .bytes)) (f .bytes) (h .of-bytes) .1 refl;
-  named = h .named;
-  held = h .held;
-  good = good;
-}
+text-key f h = upTo-joined colon (f .key) (encoded (f .bytes)) (h .no-colon)
+
+text-content : (f : Field) → Formed f → decoded (after colon (fieldText f)) ≡ bytes (f .bytes)
+unfolding fieldText
+text-content f h =
+    ap decoded (after-joined colon (f .key) (encoded (f .bytes)) (h .no-colon)) ∙ decoded-exactly (encoded (f .bytes)) (f .bytes) (h .of-bytes) .1 refl
+
+text-field : (f : Field) → Formed f → obeys (ruleOf (f .key)) (f .bytes) ≡ true → IsField (fieldText f) f
+text-field f h good = record { key-is = text-key f h; bytes-are = text-content f h; named = h .named; held = h .held; good = good }
 
 -- runs without a byte, joined and taken apart
 without-joined : (b : ℕ) (xs ys : List ℕ) → Without b xs → Without b ys → Without b (xs ++ ys)
@@ -274,3 +275,28 @@ value-of (x ∷ xs) fs e =
 -- the fields that are found are those whose text the value is, where they keep their rules
 pub grammar-exactly : (v : List ℕ) (fs : List Field) → (grammar v ≡ some fs) ↔ (ValueOf v fs × (allGood fs ≡ true))
 grammar-exactly v fs = (value-of v fs, λ h. grammar-by v fs (h .0 .one-or-more) (h .0 .formed) (h .1) (h .0 .text))
+
+-- a value is the text of one list of fields at most, whether these keep their rules or not
+text-same : (f g : Field) → Formed f → Formed g → fieldText f ≡ fieldText g → f ≡ g
+text-same f g h k e =
+    let left = text-content f h in
+    let right = text-content g k in
+    let content : f .bytes ≡ g .bytes = cc in
+    ap₂ field (sym (text-key f h) ∙ ap (upTo colon) e ∙ text-key g k) content
+
+texts-same : (fs gs : List Field) → AllFormed fs → AllFormed gs → textsOf fs ≡ textsOf gs → fs ≡ gs
+unfolding textsOf
+texts-same [] [] h k e = refl
+texts-same [] (g ∷ gs) h k e = absurd (let z : _≡_ {A = ℕ} 0 1 = cc in omega arith)
+texts-same (f ∷ fs) [] h k e = absurd (let z : _≡_ {A = ℕ} 0 1 = cc in omega arith)
+texts-same (f ∷ fs) (g ∷ gs) h k e =
+    let first : fieldText f ≡ fieldText g = cc in
+    let rest : textsOf fs ≡ textsOf gs = cc in
+    ap₂ _∷_ (text-same f g (h .0) (k .0) first) (texts-same fs gs (h .1) (k .1) rest)
+
+pieces-value : (v : List ℕ) (fs : List Field) → ValueOf v fs → pieces v ≡ textsOf fs
+pieces-value v fs h =
+    ⊎-elim (λ e. ap pieces e ∙ pieces-texts fs (h .formed)) (λ e. ap pieces e ∙ pieces-closed fs (h .one-or-more) (h .formed)) (h .text)
+
+pub fields-determined : (v : List ℕ) (fs gs : List Field) → ValueOf v fs → ValueOf v gs → fs ≡ gs
+fields-determined v fs gs h k = texts-same fs gs (h .formed) (k .formed) (sym (pieces-value v fs h) ∙ pieces-value v gs k)

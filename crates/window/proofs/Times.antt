@@ -42,3 +42,10 @@ exceeds-sum later earlier limit =
 -- a difference below zero, or of nothing, exceeds no limit
 pub ahead : (later earlier limit : ℕ) → later ≤ earlier → exceeds later earlier limit ≡ false
 ahead later earlier limit h = exceeds-sum later earlier limit ∙ le-ltb (earlier + limit) later (omega arith)
+
+-- the limit itself passes, and one second more does not
+pub at-limit : (earlier limit : ℕ) → exceeds (earlier + limit) earlier limit ≡ false
+at-limit earlier limit = exceeds-sum (earlier + limit) earlier limit ∙ le-ltb (earlier + limit) (earlier + limit) (omega arith)
+
+pub past-limit : (earlier limit : ℕ) → exceeds (earlier + limit + 1) earlier limit ≡ true
+past-limit earlier limit = exceeds-sum (earlier + limit + 1) earlier limit ∙ lt-ltb (earlier + limit) (earlier + limit + 1) (omega arith)
