@@ -1,6 +1,6 @@
 -- The laws that callers' proofs cite, and those of this crate's own functions.
-pub mod Tests
 pub mod Field
 pub mod Substitution
 pub mod Schedule
 pub mod Cipher
+pub mod Bytes

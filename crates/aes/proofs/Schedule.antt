@@ -5,18 +5,19 @@ use mathlib.Core.Path.{_≡_, refl, sym, ap, ap₂, _∙_}
 use Prim.Native.Nat.{ℕ, suc, _+_, _-_, _*_, _%_, _^_, _≤_, _<_}
 use native.Mathlib.Omega.{arith}
 use lib.Bits.{bitXor, xor-zero-r}
-use lib.Dec.{eqb, eqb→eq}
+use borrow.Author.Tests.{eqb-true}
+use lib.Dec.{eqb}
 use lib.ListN.{length, take, drop, length-append}
 use lib.Seq.{getD-take, take-at, take-all, length-take-le}
 use Rattle.cells.specs.Runs.{spliced, fronted}
+use Rattle.cells.proofs.Spans.{every-at}
 use Rattle.aes.specs.Field.{xtimes, powerOfX}
 use Rattle.aes.specs.Cipher.{scheduled, wordAt, xorWord, temp, nextWord, expanded, keyExpansion}
-use Rattle.aes.proofs.Tests.{each-at}
 
 -- the round constants of AES-256 are powers of two as numbers, too
 pub constant : (n : ℕ) → n < 7 → 1 * 2 ^ n % 256 ≡ powerOfX n
 unfolding xtimes powerOfX
-constant n h = eqb→eq _ _ (each-at (λ (k : ℕ). eqb (1 * 2 ^ k % 256) (powerOfX k)) 7 tt n h)
+constant n h = eqb-true _ _ (every-at (λ (k : ℕ). eqb (1 * 2 ^ k % 256) (powerOfX k)) 7 refl n h)
 
 scheduled-before : (w : List ℕ) (n i r : ℕ) → i < n → r < 4 → scheduled (take (4 * n) w) i r ≡ scheduled w i r
 unfolding scheduled

@@ -14,7 +14,7 @@ use lib.Seq.{take-all, take-at}
 use borrow.Author.Tests.{eqb-true, leb-true, le-leb, eq-eqb, ne-eqb}
 use Rattle.cells.specs.Runs.{Bytes, spliced, part}
 use Rattle.cells.specs.Numbers.{bytesOf, number}
-use Rattle.cells.proofs.Numbers.{length-bytesOf, bytes-rest, number-below, number-of, bytesOf-number, bytesOf-append, number-append}
+use Rattle.cells.proofs.Numbers.{length-bytesOf, bytes-bytesOf, bytes-rest, number-below, number-of, bytesOf-number, bytesOf-append, number-append, bytes-first}
 use Rattle.cells.proofs.Runs.{spliced-front, fronted-whole, length-spliced}
 use Rattle.armor.specs.Numerals.{shortest, plain, numberBytes, isNumeral, isNumber, maskBytes, isMask, maskOf}
 
@@ -115,6 +115,18 @@ number-numberBytes n h = number-shortest (bytesOf 8 n) ∙ number-of 8 n h
 pub length-numberBytes : (n : ℕ) → (1 ≤ length (numberBytes n)) × (length (numberBytes n) ≤ 8)
 unfolding numberBytes bytesOf
 length-numberBytes n = length-shortest (n / 2 ^ (8 * 7) % 256) (bytesOf 7 n)
+
+bytes-shortest : (bs : List ℕ) → Bytes bs → Bytes (shortest bs)
+bytes-shortest =
+    by-shortest (λ xs s. Bytes xs → Bytes s) (λ h. h) (λ b h. h) (λ c bs s h k. h (bytes-rest 0 (c ∷ bs) k)) (λ b c bs e h. h)
+
+pub bytes-numberBytes : (n : ℕ) → Bytes (numberBytes n)
+unfolding numberBytes
+bytes-numberBytes n = bytes-shortest (bytesOf 8 n) (bytes-bytesOf 8 n)
+
+pub bytes-maskBytes : (m : ℕ) → Bytes (maskBytes m)
+unfolding maskBytes
+bytes-maskBytes m = bytes-first (length (numberBytes m)) (numberBytes m) (omega (arith, length-numberBytes m .1)) (bytes-numberBytes m)
 
 pub length-maskBytes : (m : ℕ) → length (maskBytes m) ≤ 9
 unfolding maskBytes

@@ -9,6 +9,7 @@ use native.Mathlib.Omega.{arith}
 use lib.ListN.{length, getD, drop, set, length-append, List·getD-append}
 use lib.Seq.{drop-cons, lt-length-set, getD-set-same, drop-set-lt}
 use borrow.Author.Tests.{lt-ltb, le-ltb}
+use Rattle.cells.specs.Runs.{Bytes}
 use Rattle.cells.specs.Decimal.{decimalTo, decimal, valueAfter}
 
 -- any depth above the number serves
@@ -91,6 +92,15 @@ digits-some (b then ds) = omega arith
 
 pub decimal-some : (n : ℕ) → 1 ≤ length (decimal n)
 decimal-some n = digits-some (decimal-digits n)
+
+digits-bytes : {ds : List ℕ} → Digits ds → Bytes ds
+digits-bytes (one l u) zero = omega arith
+digits-bytes (one l u) (suc i) = omega arith
+digits-bytes (b then ds) zero = omega (arith, b .1)
+digits-bytes (b then ds) (suc i) = digits-bytes ds i
+
+pub bytes-decimal : (n : ℕ) → Bytes (decimal n)
+bytes-decimal n = digits-bytes (decimal-digits n)
 
 -- only zero begins with a zero
 pub decimal-lead : (n : ℕ) → getD (decimal n) 0 0 ≡ 48 → n ≡ 0

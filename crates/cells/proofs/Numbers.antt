@@ -26,9 +26,17 @@ bytes-bytesOf zero n i = omega arith
 bytes-bytesOf (suc k) n zero = mod-lt (n / 2 ^ (8 * k)) (omega arith)
 bytes-bytesOf (suc k) n (suc i) = bytes-bytesOf k n i
 
--- the rest of a run of bytes is one
+-- the rest of a run of bytes is one, and so are a byte before one, and two joined
 pub bytes-rest : (b : ℕ) (bs : List ℕ) → Bytes (b ∷ bs) → Bytes bs
 bytes-rest b bs h i = h (suc i)
+
+pub bytes-first : (b : ℕ) (bs : List ℕ) → b < 256 → Bytes bs → Bytes (b ∷ bs)
+bytes-first b bs h k zero = h
+bytes-first b bs h k (suc i) = k i
+
+pub bytes-joined : (xs ys : List ℕ) → Bytes xs → Bytes ys → Bytes (xs ++ ys)
+bytes-joined [] ys h k = k
+bytes-joined (x ∷ xs) ys h k = bytes-first x (xs ++ ys) (h 0) (bytes-joined xs ys (bytes-rest x xs h) k)
 
 pub number-below : (bs : List ℕ) → Bytes bs → number bs < 2 ^ (8 * length bs)
 unfolding number

@@ -1,9 +1,11 @@
--- Laws of runs that all pass a test, and of the loops that look for a run's end.
+-- Laws of runs that all pass a test, of the loops that look for a run's end, and of a test at every number below a bound.
 -- Assumes nothing.
-use mathlib.Core.Path.{_≡_, refl, sym, ap, _∙_}
+use mathlib.Core.Path.{_≡_, refl, sym, ap, subst, _∙_}
+use mathlib.Core.Logic.{⊎-elim}
 use mathlib.Core.List.{List, [], _∷_, _++_}
 use mathlib.Core.Bool.{Bool, true, false, cond, _&&_, and-true, and-eq-true-iff}
-use Prim.Native.Nat.{ℕ, suc, _+_, _-_, _≤_, _<_}
+use Prim.Native.Nat.{ℕ, zero, suc, _+_, _-_, _≤_, _<_}
+use native.Mathlib.Nat.{not-suc-le-zero, le-of-suc-le-suc, eq-or-lt-of-le}
 use native.Mathlib.Numerals.{add-one}
 use native.Mathlib.Omega.{arith}
 use lib.Dec.{eqb, eqb·suc-suc, eqb·zero-suc}
@@ -97,3 +99,14 @@ stops p block xs ys at c y s h t f =
       size,
       ap (λ (k : ℕ). drop k block) size ∙ sym (drop-drop (length xs) at block) ∙ ap (drop (length xs)) h ∙ drop-append-seam xs (y ∷ ys),
     )
+
+-- a test that antt computes at every number below n holds at each
+abbrev pub everyBelow : (ℕ → Bool) → ℕ → Bool
+everyBelow f zero = true
+everyBelow f (suc n) = f n && everyBelow f n
+
+pub every-at : (f : ℕ → Bool) (n : ℕ) → everyBelow f n ≡ true → (k : ℕ) → k < n → f k ≡ true
+every-at f zero t k h = absurd (not-suc-le-zero h)
+every-at f (suc n) t k h =
+    let both = and-eq-true-iff (f n) (everyBelow f n) .0 t in
+    ⊎-elim (λ e. subst (λ (m : ℕ). f m ≡ true) (sym e) (both .0)) (λ l. every-at f n (both .1) k l) (eq-or-lt-of-le (le-of-suc-le-suc h))

@@ -5,22 +5,19 @@
 pub mod SignedText
 pub mod Reading
 use mathlib.Core.Path.{_≡_, sym, ap, _∙_}
-use mathlib.Core.List.{List, [], _++_, append-nil, List·Memᴰ}
+use mathlib.Core.List.{[], _++_, append-nil}
 use Prim.Native.Nat.{ℕ, zero, suc, _%_, _<_}
 use native.Mathlib.Omega.{arith}
 use borrow.Author.Tests.{eq-eqb}
 use Rattle.cells.specs.Numbers.{number}
 use Rattle.armor.specs.Numerals.{numberBytes, maskBytes}
-use Rattle.armor.specs.Keys.{keyS, keyT, keyLt, keyN, keyH, keyAh, keyTag, keyEah}
+use Rattle.armor.specs.Keys.{keyN}
 use Rattle.armor.proofs.Fields.{none-held}
-use Rattle.names.specs.Covered.{coveredNames}
-use Rattle.lines.specs.Lines.{linesIn}
-use Rattle.lines.specs.Values.{coveredValue}
 use Rattle.signed.specs.SignedText.{signedText}
 use Rattle.signed.proofs.SameText as Text
 use Rattle.gate.specs.State.{State}
 use Rattle.stages.specs.Request.{Request}
-use Rattle.stages.specs.Parts.{fieldsOf, ivOf, nonceOf, timeOf, lastTimeOf, signatureOf, openedOf, tokenOf, textOf, readingPart, tokenPart}
+use Rattle.stages.specs.Parts.{fieldsOf, nonceOf, timeOf, lastTimeOf, openedOf, tokenOf, textOf, readingPart, tokenPart}
 use Rattle.gate.specs.Judge.{entryPart, judged}
 use Rattle.stages.proofs.Checks.{none-holds}
 use Rattle.gate.proofs.Numbers.{entry-numbered}

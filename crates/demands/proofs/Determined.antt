@@ -3,7 +3,7 @@
 -- gate_judge, gate_end and gate_judge_one, and for the primitives: over everything that can be lent to a call, two results that its contract
 -- allows are one. docs/CONTRACTS.md goes through the functions that are not exported: most have an equation for a contract, which leaves no choice.
 -- Assumes nothing.
-use mathlib.Core.Path.{_≡_, refl, sym, ap, _∙_}
+use mathlib.Core.Path.{_≡_, sym, ap, _∙_}
 use mathlib.Core.List.{List, []}
 use Prim.Native.Nat.{ℕ, _+_, _*_, _/_, _%_}
 use native.Mathlib.Omega.{arith}

@@ -1,15 +1,15 @@
--- Each number of document 01 is given by some call, so no check is idle: here every number of a setup and of an ending, and 1 to 9 of a
--- request. 0 and 10 to 16 of a request need a token that opens, and AES takes more steps than a proof may compute: the stored
--- calls of tests/host give them.
+-- Each number of document 01 is given by some call, so no check is idle: here every number of a setup and of an ending, and 0 to 9 of a
+-- request. 0 is given to a client's request, by Client's theorem; 10 to 16 need a token that opens, too, and the stored calls of tests/host
+-- give them.
 -- Assumes nothing.
 use mathlib.Core.Path.{_≡_, refl, ap, _∙_}
 use mathlib.Core.Bool.{Bool, true, false}
 use mathlib.Core.List.{List, [], _∷_, _++_}
 use mathlib.Core.Option.{none}
-use Prim.Native.Nat.{ℕ, _^_}
+use Prim.Native.Nat.{ℕ, zero, suc, _^_}
 use native.Mathlib.Omega.{arith}
 use lib.ListN.{length, replicate, length-append}
-use Rattle.cells.specs.Runs.{same}
+use Rattle.cells.specs.Runs.{Bytes, same}
 use Rattle.cells.specs.Numbers.{bytesOf, number}
 use Rattle.gcm.specs.Gcm.{tagOf, crypted, given, opened}
 use Rattle.gcm.proofs.Opening.{length-crypted}
@@ -24,6 +24,7 @@ use Rattle.armor.specs.Value
 use Rattle.armor.specs.Fields.{contents, times, the, rightTimes, nonceBit, requestFields, setupFields}
 use Rattle.cells.specs.Text.{codes}
 use Rattle.cells.specs.Spans.{all, leading}
+use Rattle.cells.proofs.Numbers.{bytes-bytesOf}
 use Rattle.names.specs.Names.{hasByte, tokenByte, isToken, lower, sameName, headerNames}
 use Rattle.names.specs.Extra.{extraNames, goodNames, goodExtra}
 use Rattle.names.specs.Covered.{chosen, coveredNames}
@@ -49,6 +50,8 @@ use Rattle.stages.specs.Parts.{fieldsOf, ivOf, openedOf, twice, readingPart, co
 use Rattle.gate.specs.Judge.{entryPart, requestChecks, answered, judged}
 use Rattle.gate.specs.End.{endChecks, ended}
 use Rattle.demands.specs.History.{empty}
+use Rattle.demands.specs.Client.{Message, clientRequest, LentBytes, Fair}
+use Rattle.demands.proofs.Client.{client-accepted}
 
 -- limits by default, and no extra names
 abbrev pub ordering : ℕ → Orders
@@ -164,3 +167,39 @@ request-witnesses = record {
   eight = refl;
   nine = rw (unopened (zeros 32) (zeros 12) (zeros 16) 0);
 }
+
+-- nothing but a path
+abbrev pub plainly : Message
+plainly = record { head = []; aside = []; path = codes "/"; body = []; time = 0; last-time = 0; nonce = 0 }
+
+lent-zeros : LentBytes (asking 2 0 offer)
+unfolding bytesOf
+lent-zeros = record {
+  server-key = bytes-bytesOf 32 0;
+  session-key = bytes-bytesOf 32 0;
+  iv = bytes-bytesOf 12 0;
+  session-id = bytes-bytesOf 1 0;
+  extra = bytes-bytesOf 0 0;
+}
+
+fair : Fair (asking 2 0 offer) plainly 0 (zeros 1024)
+unfolding codes same textOf goodBlock linesIn linesUpTo startsLine frontLine repeated timesNamed coveredNames chosen headerNames extraNames expiryOf limitsOf
+fair = record {
+  head-fits = omega arith;
+  aside-fits = omega arith;
+  path-some = omega arith;
+  path-fits = omega arith;
+  body-fits = omega arith;
+  reply-room = omega arith;
+  lines = refl;
+  once = refl;
+  time-fits = omega arith;
+  last-time-fits = omega arith;
+  nonce-fits = omega arith;
+  lasts = omega arith;
+  active = omega arith;
+  timely = omega arith;
+}
+
+pub request-accepted : judged (clientRequest (asking 2 0 offer) plainly 0 (zeros 1024)) (setUp (asking 2 0 offer) (empty 1) .state) .number ≡ 0
+request-accepted = client-accepted (asking 2 0 offer) (empty 1) plainly 0 (zeros 1024) lent-zeros (setup-witnesses .zero) fair

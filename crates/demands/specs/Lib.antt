@@ -1,7 +1,8 @@
--- What the demands speak of: of demand 1 Order, Tables and Effects, of demand 2 History and Passing, of demand 3 Passing and Agreement.
+-- What the demands speak of: of demand 1 Order, Tables and Effects, of demand 2 History and Passing, of demand 3 Passing and Agreement; a request that meets what they ask: Client.
 pub mod Order
 pub mod Tables
 pub mod Effects
 pub mod History
 pub mod Passing
 pub mod Agreement
+pub mod Client

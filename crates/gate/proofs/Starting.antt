@@ -61,16 +61,17 @@ offer-lasts s end (O.Until expiry) t u = record { none = t ∙ u .none; is = u .
 offer-lasts s end (O.Refused number) t u = record { is = t ∙ u .is; some = u .some }
 
 -- what the sizes of a setup say
-pub record Lent (s : Setup) : Type 0 where
+pub record Lent (s : Setup) (state : State) : Type 0 where
   pub server-key : length (s .server-key) ≡ 32
   pub session-key : length (s .session-key) ≡ 32
   pub iv : length (s .iv) ≡ 12
   pub session-id-some : 1 ≤ length (s .session-id)
   pub session-id-fits : length (s .session-id) ≤ 64
   pub value : length (s .value) ≤ 4096
+  pub table : tableFits (state .table) ≡ true
   pub reply : 1024 ≤ length (s .reply)
 
-pub lent : (s : Setup) (state : State) → setupFits s state ≡ true → Lent s
+pub lent : (s : Setup) (state : State) → setupFits s state ≡ true → Lent s state
 unfolding setupFits
 lent s state e =
     let server = both _ _ e in
@@ -87,6 +88,7 @@ lent s state e =
       session-id-some = leb-true _ _ (within .0);
       session-id-fits = leb-true _ _ (within .1);
       value = leb-true _ _ (value .0);
+      table = rest .0;
       reply = leb-true _ _ (rest .1);
     }
 

@@ -5,3 +5,4 @@ pub mod Product
 pub mod Blocks
 pub mod Masking
 pub mod Hashing
+pub mod SealedBytes

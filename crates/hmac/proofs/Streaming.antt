@@ -5,8 +5,9 @@ use mathlib.Core.List.{List, [], _++_, append-nil, append-assoc}
 use Prim.Native.Nat.{ℕ}
 use native.Mathlib.Omega.{arith}
 use lib.ListN.{length, length-append}
+use Rattle.cells.specs.Runs.{Bytes}
 use Rattle.sha2.specs.Hash.{sha512}
-use Rattle.sha2.proofs.Output.{length-sha512}
+use Rattle.sha2.proofs.Output.{length-sha512, bytes-sha512}
 use Rattle.hmac.specs.declared.Hmac.{Hmac}
 use Rattle.hmac.specs.Hmac.{innerKey, outerKey, hmac, hmacSha512}
 use Rattle.hmac.specs.InnerKeyed.{KeyedOver, TookIn}
@@ -43,3 +44,7 @@ took-in-turn s t r a b p q =
 pub length-hmac : (key text : List ℕ) → length (hmacSha512 key text) ≡ 64
 unfolding hmac
 length-hmac key text = length-sha512 (outerKey sha512 128 key ++ sha512 (innerKey sha512 128 key ++ text))
+
+pub bytes-hmac : (key text : List ℕ) → Bytes (hmacSha512 key text)
+unfolding hmac
+bytes-hmac key text = bytes-sha512 (outerKey sha512 128 key ++ sha512 (innerKey sha512 128 key ++ text))

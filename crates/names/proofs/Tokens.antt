@@ -1,25 +1,12 @@
 -- The two numbers whose bits mark the bytes of a token agree with RFC 9110, by one computed test.
 -- Assumes nothing.
-use mathlib.Core.Path.{_≡_, refl, sym, subst}
-use mathlib.Core.Logic.{⊎-elim}
-use mathlib.Core.Bool.{Bool, true, false, cond, _&&_, Bool·beq, and-eq-true-iff}
-use Prim.Native.Nat.{ℕ, zero, suc, _-_, _/_, _%_, _^_, _<_}
-use native.Mathlib.Nat.{eq-or-lt-of-le, le-of-suc-le-suc}
-use native.Mathlib.Omega.{arith}
+use mathlib.Core.Path.{_≡_, refl, sym}
+use mathlib.Core.Bool.{Bool, true, false, cond, Bool·beq}
+use Prim.Native.Nat.{ℕ, _-_, _/_, _%_, _^_, _<_}
 use lib.Dec.{ltb, eqb}
 use Rattle.cells.specs.Text.{codes}
+use Rattle.cells.proofs.Spans.{everyBelow, every-at}
 use Rattle.names.specs.Names.{hasByte, tokenByte}
-
--- the test passes at each number below n
-abbrev pub everyBelow : (ℕ → Bool) → ℕ → Bool
-everyBelow f zero = true
-everyBelow f (suc n) = f n && everyBelow f n
-
-pub every-at : (f : ℕ → Bool) (n : ℕ) → everyBelow f n ≡ true → (k : ℕ) → k < n → f k ≡ true
-every-at f zero t k h = absurd (omega arith)
-every-at f (suc n) t k h =
-    let both = and-eq-true-iff (f n) (everyBelow f n) .0 t in
-    ⊎-elim (λ e. subst (λ (m : ℕ). f m ≡ true) (sym e) (both .0)) (λ l. every-at f n (both .1) k l) (eq-or-lt-of-le (le-of-suc-le-suc h))
 
 beq-eq : (a b : Bool) → Bool·beq a b ≡ true → a ≡ b
 beq-eq true true h = refl

@@ -6,9 +6,11 @@ use Prim.Native.Nat.{ℕ, _+_, _-_}
 use native.Mathlib.Omega.{arith}
 use lib.ListN.{length, take, drop, replicate, length-append, length-drop}
 use lib.Seq.{take-all, drop-append-le}
-use Rattle.cells.specs.Runs.{fronted}
+use Rattle.cells.specs.Runs.{fronted, Bytes}
 use Rattle.cells.specs.Decimal.{decimal, Shown}
 use Rattle.cells.specs.declared.decimal.Decimal.{Decimal}
+use Rattle.cells.proofs.Numbers.{bytes-first, bytes-joined}
+use Rattle.cells.proofs.Digits.{bytes-decimal}
 use Rattle.netstring.specs.Netstring.{colon, comma, netstring}
 use Rattle.netstring.specs.InnerOpening.{opening, Opens}
 use Rattle.netstring.specs.declared.Prefix.{Prefix}
@@ -20,6 +22,12 @@ netstring-pieces part = simp append-assoc
 pub length-netstring : (part : List ℕ) → length (netstring part) ≡ length (decimal (length part)) + length part + 2
 unfolding netstring
 length-netstring part = simp length-append (omega arith)
+
+pub bytes-netstring : (part : List ℕ) → Bytes part → Bytes (netstring part)
+unfolding netstring
+bytes-netstring part h =
+    let close = bytes-joined part (comma ∷ []) h (bytes-first comma [] (omega arith) (λ i. omega arith)) in
+    bytes-joined (decimal (length part)) (colon ∷ part ++ (comma ∷ [])) (bytes-decimal (length part)) (bytes-first colon (part ++ (comma ∷ [])) (omega arith) close)
 
 -- the part of the array that opens a netstring
 pub opening-piece : (n : ℕ) (r : Prefix) → Opens n r → take (21 - r .start) (drop (r .start) (r .all)) ≡ opening n

@@ -16,7 +16,7 @@ use Rattle.armor.proofs.Numerals.{length-maskBytes}
 use Rattle.reply.specs.Replies.{extraField, setupReply, invalidation}
 use Rattle.reply.proofs.Laying.{setup-fields}
 
-length-field : (name content : List ℕ) → length (fieldText (field name content)) ≡ length name + 1 + 4 * ((length content + 2) / 3)
+pub length-field : (name content : List ℕ) → length (fieldText (field name content)) ≡ length name + 1 + 4 * ((length content + 2) / 3)
 unfolding fieldText
 length-field name content = simp (length-append, length-encoded) (omega arith)
 

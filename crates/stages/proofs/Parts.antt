@@ -2,8 +2,10 @@
 -- Assumes nothing.
 use mathlib.Core.Path.{_≡_, refl}
 use mathlib.Core.Bool.{true}
+use mathlib.Core.List.{List}
+use Prim.Native.Nat.{ℕ}
 use Rattle.stages.specs.Request.{Request}
-use Rattle.stages.specs.Parts.{readingPart, coveringPart, tokenPart, signaturePart, vouchingPart}
+use Rattle.stages.specs.Parts.{readingPart, coveringPart, tokenPart, signaturePart, vouchingPart, sessionPart}
 use Rattle.stages.proofs.Checks.{numbered, lacks}
 
 pub reading-numbered : (q : Request) → numbered (readingPart q) ≡ true
@@ -22,3 +24,7 @@ reading-thirteen q = refl
 pub vouching-numbered : (q : Request) → numbered (vouchingPart q) ≡ true
 unfolding tokenPart signaturePart
 vouching-numbered q = refl
+
+pub session-numbered : (q : Request) (table : List ℕ) → numbered (sessionPart q table) ≡ true
+unfolding sessionPart
+session-numbered q table = refl

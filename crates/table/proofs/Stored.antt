@@ -16,7 +16,7 @@ use Rattle.table.specs.WellFormed.{Sound, WellFormed}
 use Rattle.table.proofs.Tests.{used-holds}
 use Rattle.table.proofs.Found.{scan-set, found-nowhere}
 
-equal-or-not : (i j : ℕ) → (i ≡ j) ⊎ (i ≡ j → ⊥)
+pub equal-or-not : (i j : ℕ) → (i ≡ j) ⊎ (i ≡ j → ⊥)
 equal-or-not i j = elim (ℕ-discrete i j) [ yes e ↦ inl e | no n ↦ inr n ]
 
 -- the IV of a used record stands at no other place

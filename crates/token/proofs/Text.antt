@@ -6,11 +6,12 @@ use Prim.Native.Nat.{ℕ, _+_, _^_, _≤_, _<_}
 use native.Mathlib.Omega.{arith}
 use lib.ListN.{length, take, drop, length-append}
 use lib.Seq.{take-at}
-use Rattle.cells.specs.Runs.{spliced}
+use Rattle.cells.specs.Runs.{spliced, Bytes}
 use Rattle.cells.specs.Decimal.{decimal}
 use Rattle.netstring.specs.Netstring.{netstring, netstrings}
-use Rattle.cells.proofs.Digits.{decimal-length}
-use Rattle.netstring.proofs.Laid.{length-netstring}
+use Rattle.cells.proofs.Digits.{decimal-length, bytes-decimal}
+use Rattle.cells.proofs.Numbers.{bytes-joined}
+use Rattle.netstring.proofs.Laid.{length-netstring, bytes-netstring}
 use Rattle.token.specs.Token.{Token, tokenText}
 
 -- the parts' sizes
@@ -42,6 +43,13 @@ pub length-text : (t : Token) → Sized (t .key) (t .id) (t .expiry) → (1 ≤ 
 unfolding tokenText
 length-text t s =
     omega (arith, length-three (t .key) (t .id) (decimal (t .expiry)), short (t .key) (t .id) (t .expiry) s, length-netstring (t .key))
+
+pub bytes-text : (t : Token) → Bytes (t .key) → Bytes (t .id) → Bytes (tokenText t)
+unfolding tokenText netstrings
+bytes-text t h k =
+    bytes-joined (netstring (t .key)) (netstrings (t .id ∷ decimal (t .expiry) ∷ [])) (bytes-netstring (t .key) h)
+    (bytes-joined (netstring (t .id)) (netstrings (decimal (t .expiry) ∷ [])) (bytes-netstring (t .id) k)
+    (bytes-joined (netstring (decimal (t .expiry))) [] (bytes-netstring (decimal (t .expiry)) (bytes-decimal (t .expiry))) (λ i. omega arith)))
 
 -- what stands at the front of a run
 pub taken-front : (xs ys : List ℕ) (n : ℕ) → n ≡ length ys → take n (spliced xs 0 ys) ≡ ys

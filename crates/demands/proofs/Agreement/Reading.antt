@@ -5,13 +5,13 @@ use mathlib.Core.Bool.{Bool, true, false, cond}
 use mathlib.Core.List.{List, _++_}
 use Prim.Native.Nat.{ℕ}
 use lib.Dec.{eqb}
-use lib.ListN.{length, take, drop}
+use lib.ListN.{length, drop}
 use lib.Seq.{take-append-seam}
 use Rattle.cells.specs.Runs.{fronted}
 use Rattle.token.specs.Token.{Token}
 use Rattle.reply.specs.Replies.{invalidation}
 use Rattle.stages.specs.Request.{Request}
-use Rattle.gate.specs.State.{State, holding, Outcome, untouched, replied}
+use Rattle.gate.specs.State.{State, holding, untouched, replied}
 use Rattle.stages.specs.Checks.{first}
 use Rattle.table.specs.Session.{placeOf}
 use Rattle.stages.specs.Parts.{ivOf, nonceOf, timeOf, lastTimeOf, signatureOf, tokenOf, limits, textOf, codeOf, ordered, stepped, nextOf, signaturePart, sessionPart, noncePart, admittingPart, invalidates}

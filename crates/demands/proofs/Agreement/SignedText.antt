@@ -3,19 +3,17 @@
 -- Assumes nothing.
 use mathlib.Core.Path.{_≡_, refl, ap, _∙_}
 use mathlib.Core.Bool.{Bool, true, false, cond}
-use mathlib.Core.List.{List}
 use mathlib.Core.Option.{none, some}
-use Prim.Native.Nat.{ℕ, _%_}
+use Prim.Native.Nat.{_%_}
 use native.Mathlib.Omega.{arith}
 use borrow.Author.Tests.{eqb-true}
 use lib.Dec.{eqb}
-use Rattle.armor.specs.Numerals.{numberBytes, maskOf}
-use Rattle.armor.specs.Keys.{keyT, keyLt, keyN, keyH, keyAh, keyEah}
-use Rattle.armor.specs.Fields.{times, the}
+use Rattle.armor.specs.Numerals.{numberBytes}
+use Rattle.armor.specs.Keys.{keyT, keyLt, keyN}
 use Rattle.armor.proofs.Numerals.{maskOf-maskBytes}
 use Rattle.armor.proofs.Carried.{time-bytes, last-time-bytes, nonce-bytes}
 use Rattle.signed.specs.SignedText as Text
-use Rattle.signed.specs.SignedText.{Signed, signedText, coveredValues, signedOf, requestText}
+use Rattle.signed.specs.SignedText.{signedText, signedOf, requestText}
 use Rattle.gate.specs.State.{State}
 use Rattle.stages.specs.Request.{Request}
 use Rattle.stages.specs.Parts.{fieldsOf, nonceOf, timeOf, lastTimeOf, textOf}

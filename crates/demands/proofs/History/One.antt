@@ -3,7 +3,7 @@
 use mathlib.Core.Path.{_≡_, refl, sym, ap, subst, _∙_}
 use mathlib.Core.Bool.{Bool, true, false, cond, _&&_}
 use mathlib.Core.List.{List}
-use Prim.Native.Nat.{ℕ, _+_, _-_, _*_, _≤_, _<_}
+use Prim.Native.Nat.{ℕ, _-_, _*_, _<_}
 use native.Mathlib.Omega.{arith}
 use borrow.Author.Tests.{eqb-true, eq-eqb}
 use lib.Dec.{eqb}
@@ -11,12 +11,11 @@ use lib.ListN.{length, getD, drop, set, length-take, length-drop}
 use lib.Seq.{take-all}
 use Rattle.cells.specs.Runs.{spliced, same}
 use Rattle.cells.proofs.Runs.{spliced-front, fronted-whole}
-use Rattle.window.specs.Window.{stepOf}
-use Rattle.window.specs.History.{isAccepted, keep}
+use Rattle.window.specs.History.{keep}
 use Rattle.table.specs.declared.session.Record.{Record}
 use Rattle.table.specs.declared.place.Place.{Place}
 use Rattle.table.specs.declared.place.Place.the-variants.{At, Nowhere}
-use Rattle.table.specs.Record.{size, recordBytes, recordOf, Fits, freed, windowOf}
+use Rattle.table.specs.Record.{size, recordBytes, recordOf, Fits, freed}
 use Rattle.table.specs.Table.{places, records, recordAt}
 use Rattle.table.specs.Session.{placeOf, with-record, without}
 use Rattle.table.specs.WellFormed.{Sound, WellFormed}

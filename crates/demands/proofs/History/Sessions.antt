@@ -7,8 +7,6 @@ use mathlib.Core.Bool.{Bool, true, false, true≢false, _||_}
 use mathlib.Core.List.{List, [], _∷_}
 use Prim.Native.Nat.{ℕ, _<_, _^_}
 use native.Mathlib.Omega.{arith}
-use borrow.Author.Tests.{eqb-true, eqb-false}
-use lib.Dec.{eqb}
 use lib.ListN.{length, getD, set, replicate, length-set, length-replicate, getD-replicate}
 use Rattle.cells.specs.Runs.{same}
 use Rattle.cells.proofs.Equality.{same-equal, same-self, same-not, same-comm}
@@ -24,7 +22,7 @@ use Rattle.table.proofs.Records.{freed-fits}
 use Rattle.table.proofs.Tests.{holds-used}
 use Rattle.table.proofs.Found.{found-at, found-nowhere, nowhere-found, at-found}
 use Rattle.table.proofs.Meaning.{freed-sound}
-use Rattle.table.proofs.Stored.{Alone, stored-here, stored-other, stored-well, found-kept, alone-new, alone-same}
+use Rattle.table.proofs.Stored.{equal-or-not, Alone, stored-here, stored-other, stored-well, found-kept, alone-new, alone-same}
 use Rattle.table.proofs.Sessions.{begun-sound, begun-fits, stepped-sound, stepped-fits, windowOf-with}
 use Rattle.demands.specs.History.{Apart, ivAmong}
 
@@ -51,13 +49,6 @@ free-sessions n = record {
   where
     here : (i : ℕ) → i < length (replicate n freed) → freed ≡ getD (replicate n freed) i freed
     here i h = sym (getD-replicate n i freed freed (rw length-replicate at h))
-
-equal-or-not : (i j : ℕ) → (i ≡ j) ⊎ (i ≡ j → ⊥)
-equal-or-not i j = by (eqb i j) refl
-  where
-    by : (t : Bool) → eqb i j ≡ t → (i ≡ j) ⊎ (i ≡ j → ⊥)
-    by true e = inl (eqb-true i j e)
-    by false e = inr (eqb-false i j e)
 
 different : (i : ℕ) → At i ≡ Nowhere → ⊥
 different i e = let z : _≡_ {A = ℕ} 0 1 = cc in omega arith

@@ -40,6 +40,10 @@ module _ (q : Request) (state : State) where
   accepted-passes e =
       none-holds (otherChecks q state) (noncePart q (state .table)) others-numbered (sym (ap first others-then-nonce) ∙ e) .none
 
+  -- and those before that of its signature
+  pub accepted-reaches : first (requestChecks q state) ≡ 0 → Reaches q state
+  accepted-reaches e = none-holds (beforeSignature q state) _ before-numbered (sym (ap first before-then-signature) ∙ e) .none
+
   -- one that passes them is decided by those of its nonce
   pub nonce-decides : PassesOthers q state → first (requestChecks q state) ≡ first (noncePart q (state .table))
   nonce-decides e = ap first others-then-nonce ∙ passed-by (otherChecks q state) (noncePart q (state .table)) others-numbered e

@@ -1,12 +1,12 @@
 -- What a request has passed whose token opens, and what a setup and an ending have passed that return 0.
 -- Assumes nothing.
-use mathlib.Core.Path.{_≡_, refl, sym, ap}
-use mathlib.Core.Bool.{Bool, true, false, true≢false, _&&_, _||_}
+use mathlib.Core.Path.{_≡_, refl, sym}
+use mathlib.Core.Bool.{true, false, true≢false, _&&_, _||_}
 use mathlib.Core.List.{List, _++_, append-assoc}
 use mathlib.Core.Option.{Option, none, some}
 use Prim.Native.Nat.{ℕ, _<_, _^_}
 use native.Mathlib.Omega.{arith}
-use borrow.Author.Tests.{not-false, eqb-true, ltb-false}
+use borrow.Author.Tests.{not-false, ltb-false}
 use lib.ListN.{length}
 use Rattle.armor.specs.declared.Answer.{Answer}
 use Rattle.armor.specs.Value.{Field, grammar, carried}
@@ -20,14 +20,13 @@ use Rattle.table.specs.declared.place.Place.{Place}
 use Rattle.table.specs.declared.place.Place.the-variants.{At, Nowhere}
 use Rattle.table.specs.Table.{records, taken}
 use Rattle.table.specs.WellFormed.{WellFormed}
-use Rattle.table.proofs.Tests.{both}
 use Rattle.table.proofs.Meaning.{wellFormed-is}
 use Rattle.coverage.specs.Coverage.{asOrdered}
 use Rattle.token.specs.Token.{hasToken}
 use Rattle.gate.specs.Calls.{Setup}
 use Rattle.gate.specs.State.{State}
 use Rattle.stages.specs.Request.{Request}
-use Rattle.gate.specs.Sizes.{exactly, setupFits, requestFits}
+use Rattle.gate.specs.Sizes.{setupFits, requestFits}
 use Rattle.stages.specs.Checks.{first, missing, nowhere}
 use Rattle.gate.specs.Entry.{stateChecks, entryChecks}
 use Rattle.table.specs.Session.{placeOf}
@@ -38,6 +37,7 @@ use Rattle.stages.specs.Parts.{fieldsOf, openedOf, twice, readingPart, covering
 use Rattle.gate.specs.Judge.{entryPart, requestChecks}
 use Rattle.stages.proofs.Checks.{lacks, passed-at}
 use Rattle.gate.proofs.Numbers.{entry-passed, setup-numbered, end-numbered}
+use Rattle.gate.proofs.Starting.{lent}
 use Rattle.stages.proofs.Parts.{reading-numbered}
 use Rattle.demands.proofs.Shared.Checks.{read-through, opens}
 use Rattle.demands.proofs.Shared.Named.{placed}
@@ -61,12 +61,12 @@ value-good v (some fs) p m f = request-by v true (kept-is v fs p) f
 pub all-passed : (q : Request) (state : State) → first (entryPart q state) ≡ 0 → first (readingPart q) ≡ 0 → hasToken (openedOf q) ≡ true → Passed q state
 unfolding entryPart readingPart coveringPart fieldsOf
 all-passed q state entry reading opened =
-    let lent = entry-passed (requestFits q state) (q .orders) state entry in
+    let entered = entry-passed (requestFits q state) (q .orders) state entry in
     let past = passed-at (readingPart q) (reading-numbered q) reading in
     record {
-      sizes = lent .sizes;
-      orders = lent .orders;
-      well = wellFormed-is (records (state .table)) (lent .formed);
+      sizes = entered .sizes;
+      orders = entered .orders;
+      well = wellFormed-is (records (state .table)) (entered .formed);
       value = value-good (q .value) (grammar (q .value)) refl (past 4) (not-false _ (past 5));
       lines = not-false _ (past 6);
       once = past 7;
@@ -85,9 +85,6 @@ pub accepted-passed : (q : Request) (state : State) → first (requestChecks q s
 unfolding entryPart readingPart coveringPart entryChecks stateChecks
 accepted-passed q state e = passed q state 0 refl refl (λ z. omega arith) e
 
-third : (a b c d : Bool) → (a && (b && (c && d))) ≡ true → c ≡ true
-third a b c d e = both c d (both b (c && d) (both a (b && (c && d)) e .1) .1) .0
-
 unplaced : (p : Place) → nowhere p ≡ true → p ≡ Nowhere
 unplaced (At i) e = absurd (true≢false (sym e))
 unplaced Nowhere e = refl
@@ -101,7 +98,7 @@ pub record Takes (s : Setup) (state : State) : Type 0 where
   pub small : expiryOf s < 2 ^ 32
 
 pub setup-takes : (s : Setup) (state : State) → first (setupChecks s state) ≡ 0 → Takes s state
-unfolding setupChecks S.entryPart offerPart lastingPart roomPart entryChecks stateChecks setupFits
+unfolding setupChecks S.entryPart offerPart lastingPart roomPart entryChecks stateChecks
 setup-takes s state e =
     let past = passed-at (setupChecks s state) (setup-numbered s state) e in
     let place = placed (taken (records (state .table)) (s .clock)) (past 18) in
@@ -109,7 +106,7 @@ setup-takes s state e =
       place = place .0;
       takes = place .1;
       unused = unplaced (placeOf (state .table) (s .iv)) (not-false _ (past 17));
-      long = eqb-true (length (s .iv)) 12 (third (exactly 32 (s .server-key)) (exactly 32 (s .session-key)) (exactly 12 (s .iv)) _ (not-false (setupFits s state) (past 1)));
+      long = lent s state (not-false (setupFits s state) (past 1)) .iv;
       small = omega (arith, ltb-false 4294967295 (expiryOf s) (past 20));
     }
 

@@ -16,7 +16,7 @@ use Rattle.table.specs.Table.{places, recordAt, records, taken}
 use Rattle.table.proofs.Records.{length-recordBytes, length-records, records-at, records-stored}
 use Rattle.table.proofs.Found.{taken-at}
 use Rattle.table.proofs.Stored.{stored-here, stored-other}
-use Rattle.demands.specs.Tables.{Outside, Replaced}
+use Rattle.demands.specs.Tables.{Replaced}
 
 spliced-outside : (xs ys : List ℕ) (at i : ℕ) → at + length ys ≤ length xs → (i < at) ⊎ (at + length ys ≤ i)
     → getD (spliced xs at ys) i 0 ≡ getD xs i 0

@@ -2,7 +2,7 @@
 -- Assumes nothing.
 use mathlib.Core.Path.{_≡_, refl, subst}
 use mathlib.Core.Bool.{Bool, true, false, cond}
-use mathlib.Core.List.{List, [], List·Memᴰ, List·Memᴰ·head}
+use mathlib.Core.List.{[], List·Memᴰ, List·Memᴰ·head}
 use Prim.Native.Nat.{ℕ, _≤_, _<_, _^_}
 use native.Mathlib.Omega.{arith}
 use borrow.Author.Tests.{eqb-true, eqb-false}
@@ -68,9 +68,9 @@ unfolding setUp setupChecks S.entryPart offerPart lastingPart roomPart entryChec
 setup-effects s state =
     setup-by s state (first (setupChecks s state)) (first-among (setupChecks s state)) (first-exactly (setupChecks s state) (setup-numbered s state)) (setup-takes s state)
 
-token-sized : (s : Setup) → Lent s → expiryOf s < 2 ^ 32 → Sized (S.newToken s .key) (S.newToken s .id) (S.newToken s .expiry)
+pub token-sized : (s : Setup) (state : State) → Lent s state → expiryOf s < 2 ^ 32 → Sized (S.newToken s .key) (S.newToken s .id) (S.newToken s .expiry)
 unfolding S.newToken
-token-sized s size small = record { key-size = size .session-key; id-some = size .session-id-some; id-fits = size .session-id-fits; in-range = small }
+token-sized s state size small = record { key-size = size .session-key; id-some = size .session-id-some; id-fits = size .session-id-fits; in-range = small }
 
 -- the reply is short
 reply-within : (s : Setup) (state : State) → first (setupChecks s state) ≡ 0 → length (replyOf s) ≤ 459
@@ -78,7 +78,7 @@ unfolding replyOf S.sealedOf sealedToken sealed
 reply-within s state e =
     let entered = opened s state e in
     let size = lent s state (entered .sizes) in
-    let text = length-text (S.newToken s) (token-sized s size (setup-takes s state e .small)) in
+    let text = length-text (S.newToken s) (token-sized s state size (setup-takes s state e .small)) in
     setup-short _ (s .iv) _ (s .session-key) _ _
     (omega (arith, length-crypted (s .server-key) (s .iv) (tokenText (S.newToken s)), text .1))
     (size .iv) (length-tag (s .server-key) (s .iv) [] _) (size .session-key) (short-extra _ (good-extra _ (entered .orders)))

@@ -5,7 +5,7 @@ use native.Mathlib.Omega.{arith}
 use borrow.Author.Needs.{needs}
 use borrow.Author.Tests.{not-true, not-false}
 use Rattle.orders.proofs.Orders.{checked-good, checked-bad}
-use Rattle.gate.specs.Entry.{stateChecks, entryChecks}
+use Rattle.gate.specs.Entry.{entryChecks}
 use Rattle.gate.proofs.entry.enter.Statement.{statement}
 use Rattle.gate.proofs.entry.enter.Tie as tie
 

@@ -2,7 +2,7 @@
 -- Assumes nothing.
 use mathlib.Core.Path.{_≡_, sym, subst, _∙_}
 use mathlib.Core.Bool.{Bool}
-use mathlib.Core.List.{List, []}
+use mathlib.Core.List.{[]}
 use borrow.Author.Needs.{needs}
 use Rattle.orders.specs.Orders.{orders}
 use Rattle.orders.proofs.Orders.{good-extra}

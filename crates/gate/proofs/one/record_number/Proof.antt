@@ -1,6 +1,5 @@
 -- `one::record_number` meets its contract.
 -- Assumes nothing.
-use mathlib.Core.Path.{sym, _∙_}
 use borrow.Author.Needs.{needs}
 use Rattle.table.specs.Record.{Fits}
 use Rattle.table.proofs.One.{one-rule}

@@ -1,0 +1,348 @@
+-- A client that makes its request from the reply to its setup is accepted, whatever the keys and the texts: what History and Agreement ask of
+-- a request can be met after every setup that is answered 0, with no cipher computed.
+-- Assumes nothing.
+pub mod Fields
+use mathlib.Core.Path.{_≡_, refl, sym, ap, _∙_}
+use mathlib.Core.Bool.{Bool, true, false, cond, and-false}
+use mathlib.Core.List.{List, [], _∷_, _++_}
+use mathlib.Core.Option.{some}
+use Prim.Native.Nat.{ℕ, zero, suc, _*_, _%_, _<_, _≤_}
+use native.Mathlib.Nat.{mod-lt}
+use native.Mathlib.Omega.{arith}
+use borrow.Author.Tests.{eq-eqb, le-leb, lt-leb, le-ltb}
+use lib.Dec.{eqb, leb}
+use lib.ListN.{length, set, length-set}
+use Rattle.cells.specs.Runs.{same, spliced}
+use Rattle.cells.specs.Spans.{all}
+use Rattle.cells.specs.Text.{codes}
+use Rattle.cells.specs.Numbers.{number}
+use Rattle.cells.proofs.Equality.{same-self}
+use Rattle.hmac.proofs.Streaming.{length-hmac, bytes-hmac}
+use Rattle.gcm.specs.Gcm.{sealed}
+use Rattle.gcm.proofs.Opening.{length-crypted, length-tag}
+use Rattle.gcm.proofs.SealedBytes.{bytes-crypted, bytes-tag}
+use Rattle.armor.specs.Numerals.{numberBytes, maskBytes, hashMask}
+use Rattle.armor.specs.Keys.{obeys, keys, rankOf, keyNumber, ruleAt, ruleOf, keyC, keyT, keyLt, keyN, keyIv}
+use Rattle.armor.specs.Value.{Field, field, joined, textsOf, grammar}
+use Rattle.armor.specs.Fields.{contents, times, the, rightTimes, nonceBit, requestFields}
+use Rattle.armor.proofs.Numerals.{number-numberBytes, maskOf-maskBytes}
+use Rattle.armor.proofs.Scan.{carried-is}
+use Rattle.coverage.specs.Coverage.{extraAsOrdered, asOrdered}
+use Rattle.names.proofs.Sizes.{short-extra}
+use Rattle.orders.proofs.Orders.{good-mask, good-extra}
+use Rattle.window.specs.declared.Verdict.the-variants.{Accepted}
+use Rattle.window.specs.Time.{exceeds}
+use Rattle.window.specs.Window.{stepOf}
+use Rattle.window.proofs.Times.{exceeds-sum}
+use Rattle.table.specs.declared.session.Record.{Record}
+use Rattle.table.specs.declared.place.Place.the-variants.{At}
+use Rattle.table.specs.Record as R
+use Rattle.table.specs.Record.{recordBytes, begun}
+use Rattle.table.specs.Table.{places, recordAt, records}
+use Rattle.table.specs.Session.{placeOf}
+use Rattle.table.specs.WellFormed.{WellFormed}
+use Rattle.table.proofs.Records.{length-records, records-stored}
+use Rattle.table.proofs.Found.{at-found}
+use Rattle.table.proofs.Meaning.{wellFormed-is, is-wellFormed}
+use Rattle.table.proofs.Stored.{stored-here, stored-well, alone-new}
+use Rattle.table.proofs.Sessions.{begun-sound, begun-fits}
+use Rattle.signed.specs.SignedText as Signed
+use Rattle.signed.specs.SignedText.{ordersNonce, signedOf, requestText}
+use Rattle.token.specs.Token.{tokenText, sealedToken, theToken}
+use Rattle.token.proofs.Text.{Sized, length-text, bytes-text}
+use Rattle.token.proofs.Exactly.{fits-so, opened-token}
+use Rattle.reply.specs.Replies.{orderFields, replyFields, setupReply}
+use Rattle.stages.specs.Request.{Request}
+use Rattle.stages.specs.Checks.{first}
+use Rattle.stages.specs.Parts.{fieldsOf, ivOf, nonceOf, timeOf, lastTimeOf, signatureOf, openedOf, tokenOf, limits, textOf, codeOf, twice, ordered, stepped, readingPart, coveringPart, tokenPart, signaturePart, vouchingPart, sessionPart, noncePart, admittingPart}
+use Rattle.stages.proofs.Checks.{passed-by}
+use Rattle.stages.proofs.Parts.{reading-numbered, vouching-numbered, session-numbered}
+use Rattle.gate.specs.Calls.{Setup}
+use Rattle.gate.specs.State.{State}
+use Rattle.gate.specs.Sizes.{setupFits, tableFits, lentFits, requestFits}
+use Rattle.gate.specs.Entry.{stateChecks, entryChecks}
+use Rattle.gate.specs.Setup.{expiryOf, setupChecks, newToken, sealedOf, replyOf, setUp}
+use Rattle.gate.specs.Judge.{entryPart, requestChecks, judged}
+use Rattle.gate.proofs.Numbers.{Entered, entry-numbered}
+use Rattle.gate.proofs.Starting.{Lent, lent, opened}
+use Rattle.demands.specs.Tables.{Replaced}
+use Rattle.demands.specs.Passing.{PassesOthers, Reaches}
+use Rattle.demands.specs.Client.{Message, nonceField, clientText, clientCode, mainFields, clientFields, clientRequest, LentBytes, Fair}
+use Rattle.demands.proofs.Shared.Stored.{replaced, taken-within}
+use Rattle.demands.proofs.Shared.Checks.{accepted-passes, accepted-reaches}
+use Rattle.demands.proofs.Shared.Answers.{setUp-number, setUp-table, begun-table, judged-number}
+use Rattle.demands.proofs.Shared.Passed.{Takes, setup-takes}
+use Rattle.demands.proofs.Untouched.Setups.{token-sized}
+use Rattle.demands.proofs.Client.Fields.{plain, Good, AllGood, read-back, joined-short, numeral-good, sized-good, exact-good, nonce-good, both-good, orders-good}
+
+-- what its fields hold, with n or without and with eah or without
+record Reads (o : Bool) (n : ℕ) (run : List ℕ) (fs : List Field) : Type 0 where
+  right : rightTimes (λ k. times k fs) ≡ true
+  nonces : times keyN fs ≡ cond o 1 0
+  nonce : the keyN fs ≡ cond o (numberBytes n) []
+  covers : extraAsOrdered run fs ≡ true
+  few : length fs ≤ 10
+
+-- after a setup that was answered 0
+module _ (s : Setup) (state : State) (done : first (setupChecks s state) ≡ 0) (lent-bytes : LentBytes s) where
+  abbrev mask : ℕ
+  mask = s .orders .numbers .mask
+
+  abbrev extra : List ℕ
+  extra = s .orders .extra
+
+  entered : Entered (setupFits s state) (s .orders) state
+  entered = opened s state done
+
+  size : Lent s state
+  size = lent s state (entered .sizes)
+
+  takes : Takes s state
+  takes = setup-takes s state done
+
+  token-size : Sized (newToken s .key) (newToken s .id) (newToken s .expiry)
+  token-size = token-sized s state size (takes .small)
+
+  token-good : Good (field (codes "s") (sealedOf s .cipher))
+  unfolding sealedOf newToken sealedToken sealed plain codes all ruleOf ruleAt keyNumber rankOf keys same
+  token-good =
+      let text = length-text (newToken s) token-size in
+      let long = length-crypted (s .server-key) (s .iv) (tokenText (newToken s)) in
+      sized-good (codes "s") _ 1 118 refl refl (omega arith) (omega arith) (omega (arith, long, text .0)) (omega (arith, long, text .1))
+      (bytes-crypted (s .server-key) (s .iv) (tokenText (newToken s)) (lent-bytes .server-key)
+      (bytes-text (newToken s) (lent-bytes .session-key) (lent-bytes .session-id)))
+
+  iv-good : Good (field (codes "iv") (s .iv))
+  unfolding plain codes all ruleOf ruleAt keyNumber rankOf keys same
+  iv-good = exact-good (codes "iv") (s .iv) 12 refl refl (omega arith) (omega arith) (size .iv) (lent-bytes .iv)
+
+  tag-good : Good (field (codes "tag") (sealedOf s .tag))
+  unfolding sealedOf sealedToken sealed plain codes all ruleOf ruleAt keyNumber rankOf keys same
+  tag-good =
+      exact-good (codes "tag") _ 16 refl refl (omega arith) (omega arith) (length-tag (s .server-key) (s .iv) [] (sealedOf s .cipher))
+      (bytes-tag (s .server-key) (s .iv) [] (sealedOf s .cipher) (lent-bytes .server-key))
+
+  ordering : AllGood (orderFields mask extra)
+  ordering =
+      orders-good mask extra (good-mask (s .orders) (entered .orders)) (short-extra extra (good-extra (s .orders) (entered .orders))) (lent-bytes .extra)
+
+  -- the reply is read back
+  reply-fields : grammar (replyOf s) ≡ some (replyFields (sealedOf s .cipher) (s .iv) (sealedOf s .tag) (s .session-key) mask extra)
+  unfolding replyOf setupReply replyFields plain codes all ruleOf ruleAt keyNumber rankOf keys same obeys
+  reply-fields =
+      let key-good : Good (field (codes "kh") (s .session-key)) =
+      record { named = refl; held = omega (arith, size .session-key); short = omega (arith, size .session-key); of-bytes = lent-bytes .session-key; keeps = refl } in
+      read-back _ _ (token-good, (iv-good, (tag-good, (key-good, ordering))))
+
+  -- a message from it
+  module _ (m : Message) (clock : ℕ) (reply : List ℕ) (fair : Fair s m clock reply) where
+    abbrev q : Request
+    q = clientRequest s m clock reply
+
+    fields-good : AllGood (clientFields s m)
+    unfolding clientFields clientCode plain codes all ruleOf ruleAt keyNumber rankOf keys same
+    fields-good =
+        let code = exact-good (codes "c") (clientCode s m) 64 refl refl (omega arith) (omega arith) (length-hmac (s .session-key) (clientText s m)) (bytes-hmac (s .session-key) (clientText s m)) in
+        let time = numeral-good (codes "t") (m .time) refl refl (fair .time-fits) in
+        let last = numeral-good (codes "lt") (m .last-time) refl refl (fair .last-time-fits) in
+        let later = both-good (orderFields mask extra) _ ordering (nonce-good (ordersNonce mask) (m .nonce) (fair .nonce-fits)) in
+        (token-good, (code, (time, (last, (iv-good, (tag-good, later))))))
+
+    -- its value is read back
+    kept : grammar (q .value) ≡ some (clientFields s m)
+    unfolding clientRequest clientFields
+    kept = read-back _ _ fields-good
+
+    fields-are : fieldsOf q ≡ clientFields s m
+    unfolding fieldsOf
+    fields-are = carried-is (q .value) (clientFields s m) kept
+
+    read-with : (o : Bool) (run : List ℕ) → Reads o (m .nonce) run (mainFields s m ++ (orderFields mask run ++ nonceField o (m .nonce)))
+    unfolding contents times the rightTimes keyNumber rankOf keys codes same
+    read-with true [] = record { right = refl; nonces = refl; nonce = refl; covers = refl; few = omega arith }
+    read-with false [] = record { right = refl; nonces = refl; nonce = refl; covers = refl; few = omega arith }
+    read-with true (b ∷ bs) = record { right = refl; nonces = refl; nonce = refl; covers = same-self (b ∷ bs); few = omega arith }
+    read-with false (b ∷ bs) = record { right = refl; nonces = refl; nonce = refl; covers = same-self (b ∷ bs); few = omega arith }
+
+    read : Reads (ordersNonce mask) (m .nonce) extra (clientFields s m)
+    unfolding clientFields
+    read = read-with (ordersNonce mask) extra
+
+    value-short : length (joined (textsOf (clientFields s m))) ≤ 4096
+    value-short = omega (arith, joined-short (clientFields s m) fields-good, read .few)
+
+    parity : (b : ℕ) → b < 2 → eqb (cond (eqb b 1) 1 0) b ≡ true
+    parity zero h = refl
+    parity (suc zero) h = refl
+    parity (suc (suc b)) h = absurd (omega arith)
+
+    right-fields : requestFields (fieldsOf q) ≡ true
+    unfolding requestFields nonceBit clientFields the contents keyNumber rankOf keys codes same
+    right-fields =
+        rw (fields-are, read .right, read .nonces, maskOf-maskBytes mask (omega (arith, good-mask (s .orders) (entered .orders))))
+        (parity (mask % 2) (mod-lt mask (omega arith)))
+
+    covered : asOrdered mask extra (fieldsOf q) ≡ true
+    unfolding asOrdered clientFields the contents keyNumber rankOf keys codes same
+    covered = rw (fields-are, read .covers, same-self (maskBytes hashMask), same-self (maskBytes mask)) refl
+
+    -- its token opens, and its signature is right
+    iv-is : ivOf q ≡ s .iv
+    unfolding ivOf clientFields the contents keyNumber rankOf keys codes same
+    iv-is = ap (the keyIv) fields-are
+
+    opens : openedOf q ≡ some (newToken s)
+    unfolding openedOf clientRequest clientFields sealedOf the contents keyNumber rankOf keys codes same
+    opens = rw (iv-is, fields-are) (opened-token (s .server-key) (s .iv) (newToken s) (fits-so (newToken s) token-size))
+
+    token-is : tokenOf q ≡ newToken s
+    unfolding tokenOf
+    token-is = ap theToken opens
+
+    time-is : timeOf q ≡ m .time
+    unfolding timeOf clientFields the contents keyNumber rankOf keys codes same
+    time-is = ap (λ (fs : List Field). number (the keyT fs)) fields-are ∙ number-numberBytes (m .time) (omega (arith, fair .time-fits))
+
+    last-time-is : lastTimeOf q ≡ m .last-time
+    unfolding lastTimeOf clientFields the contents keyNumber rankOf keys codes same
+    last-time-is = ap (λ (fs : List Field). number (the keyLt fs)) fields-are ∙ number-numberBytes (m .last-time) (omega (arith, fair .last-time-fits))
+
+    nonce-same : (o : Bool) → ordersNonce mask ≡ o → Signed.nonceOf mask (number (cond o (numberBytes (m .nonce)) [])) ≡ Signed.nonceOf mask (m .nonce)
+    unfolding Signed.nonceOf
+    nonce-same true e = ap (Signed.nonceOf mask) (number-numberBytes (m .nonce) (omega (arith, fair .nonce-fits)))
+    nonce-same false e = rw e refl
+
+    text-is : textOf q ≡ clientText s m
+    unfolding textOf nonceOf requestText signedOf clientRequest
+    text-is = rw (fields-are, read .nonce, time-is, last-time-is, nonce-same (ordersNonce mask) refl) refl
+
+    code-is : codeOf q ≡ clientCode s m
+    unfolding codeOf clientCode newToken
+    code-is = rw (token-is, text-is) refl
+
+    signature-is : signatureOf q ≡ clientCode s m
+    unfolding signatureOf clientFields the contents keyNumber rankOf keys codes same
+    signature-is = ap (the keyC) fields-are
+
+    -- its session is the one that was set up
+    abbrev after : State
+    after = setUp s state .state
+
+    abbrev new : Record
+    new = begun (s .iv) (expiryOf s)
+
+    table-is : after .table ≡ spliced (state .table) (R.size * takes .place) (recordBytes new)
+    table-is = setUp-table s state ∙ rw done refl ∙ begun-table s (state .table) (takes .place) (takes .takes)
+
+    within : takes .place < places (state .table)
+    within = taken-within (state .table) (s .clock) (takes .place) (takes .takes)
+
+    inside : takes .place < length (records (state .table))
+    inside = rw length-records within
+
+    new-fits : R.Fits new
+    new-fits = begun-fits (s .iv) (expiryOf s) (takes .long) (takes .small)
+
+    there : Replaced (state .table) (spliced (state .table) (R.size * takes .place) (recordBytes new)) (takes .place) new
+    there = replaced (state .table) (takes .place) new within new-fits
+
+    records-are : records (after .table) ≡ set (records (state .table)) (takes .place) new
+    records-are = ap records table-is ∙ records-stored (state .table) (takes .place) new within new-fits
+
+    well : WellFormed (set (records (state .table)) (takes .place) new)
+    well =
+        stored-well (records (state .table)) (takes .place) new inside (wellFormed-is (records (state .table)) (entered .formed))
+        (begun-sound (s .iv) (expiryOf s)) (alone-new (records (state .table)) (takes .place) new (takes .unused))
+
+    found-new : placeOf (after .table) (ivOf q) ≡ At (takes .place)
+    found-new =
+        rw (iv-is, records-are)
+        (at-found (set (records (state .table)) (takes .place) new) (s .iv) (takes .place) well (rw length-set inside)
+        (rw (stored-here (records (state .table)) (takes .place) new inside) (same-self (s .iv))))
+
+    record-is : recordAt (after .table) (takes .place) ≡ new
+    record-is = ap (λ (t : List ℕ). recordAt t (takes .place)) table-is ∙ there .here
+
+    table-fits : tableFits (after .table) ≡ true
+    unfolding tableFits
+    table-fits = rw (table-is, there .as-long) (size .table)
+
+    fits : requestFits q after ≡ true
+    unfolding requestFits lentFits clientRequest
+    fits =
+        rw (
+          eq-eqb (length (s .server-key)) 32 (size .server-key),
+          le-leb (length (joined (textsOf (clientFields s m)))) 4096 value-short,
+          le-leb (length (m .head)) 16384 (fair .head-fits),
+          le-leb (length (m .aside)) 16384 (fair .aside-fits),
+          le-leb 1 (length (m .path)) (fair .path-some),
+          le-leb (length (m .path)) 2048 (fair .path-fits),
+          le-leb (length (m .body)) 65536 (fair .body-fits),
+          le-leb 1024 (length reply) (fair .reply-room),
+          table-fits,
+        ) refl
+
+    steps : stepped q (after .table) .verdict ≡ Accepted
+    unfolding stepped stepOf
+    steps = rw (found-new, record-is) refl
+
+    unidle : exceeds (timeOf q) (lastTimeOf q) (limits q .idle) ≡ false
+    unfolding limits clientRequest
+    unidle = rw (time-is, last-time-is) (exceeds-sum (m .time) (m .last-time) _ ∙ le-ltb _ _ (fair .active))
+
+    in-time : exceeds (q .clock) (timeOf q) (limits q .«request_life») ≡ false
+    unfolding limits clientRequest
+    in-time = rw time-is (exceeds-sum clock (m .time) _ ∙ le-ltb _ _ (fair .timely))
+
+    unexpired : leb (tokenOf q .expiry) (q .clock) ≡ false
+    unfolding clientRequest newToken
+    unexpired = rw token-is (lt-leb (expiryOf s) clock (fair .lasts))
+
+    entry-none : first (entryPart q after) ≡ 0
+    unfolding entryPart entryChecks stateChecks clientRequest
+    entry-none = rw (fits, entered .orders, records-are, is-wellFormed _ well) refl
+
+    reading-none : first (readingPart q) ≡ 0
+    unfolding readingPart coveringPart twice clientRequest
+    reading-none = rw (kept, right-fields, fair .lines, fair .once, covered) refl
+
+    vouching-none : first (vouchingPart q) ≡ 0
+    unfolding tokenPart signaturePart
+    vouching-none = rw (opens, unexpired, signature-is, code-is, same-self (clientCode s m)) refl
+
+    session-none : first (sessionPart q (after .table)) ≡ 0
+    unfolding sessionPart
+    session-none = rw (found-new, unidle, in-time) refl
+
+    nonce-none : first (noncePart q (after .table)) ≡ 0
+    unfolding noncePart
+    nonce-none = rw (steps, and-false (ordered q)) refl
+
+    none : first (requestChecks q after) ≡ 0
+    unfolding requestChecks entryPart
+    none =
+        passed-by (entryPart q after) (readingPart q ++ (vouchingPart q ++ admittingPart q (after .table))) (entry-numbered _ _ _) entry-none
+        ∙ passed-by (readingPart q) (vouchingPart q ++ admittingPart q (after .table)) (reading-numbered q) reading-none
+        ∙ passed-by (vouchingPart q) (admittingPart q (after .table)) (vouching-numbered q) vouching-none
+        ∙ passed-by (sessionPart q (after .table)) (noncePart q (after .table)) (session-numbered q (after .table)) session-none
+        ∙ nonce-none
+
+-- the reply to a setup is read back into the fields that a client copies
+pub reply-read : (s : Setup) (state : State) → LentBytes s → setUp s state .number ≡ 0
+    → grammar (replyOf s)
+    ≡ some (replyFields (sealedOf s .cipher) (s .iv) (sealedOf s .tag) (s .session-key) (s .orders .numbers .mask) (s .orders .extra))
+reply-read s state lent-bytes e = reply-fields s state (sym (setUp-number s state) ∙ e) lent-bytes
+
+-- after every setup that is answered 0, a fair message is accepted
+pub client-accepted : (s : Setup) (state : State) (m : Message) (clock : ℕ) (reply : List ℕ) → LentBytes s → setUp s state .number ≡ 0
+    → Fair s m clock reply → judged (clientRequest s m clock reply) (setUp s state .state) .number ≡ 0
+client-accepted s state m clock reply lent-bytes e fair =
+    judged-number _ _ ∙ none s state (sym (setUp-number s state) ∙ e) lent-bytes m clock reply fair
+
+-- so what History and Agreement ask of a request can be met
+pub client-passes : (s : Setup) (state : State) (m : Message) (clock : ℕ) (reply : List ℕ) → LentBytes s → setUp s state .number ≡ 0
+    → Fair s m clock reply
+    → PassesOthers (clientRequest s m clock reply) (setUp s state .state) × Reaches (clientRequest s m clock reply) (setUp s state .state)
+client-passes s state m clock reply lent-bytes e fair =
+    let zero = none s state (sym (setUp-number s state) ∙ e) lent-bytes m clock reply fair in
+    (accepted-passes _ _ zero, accepted-reaches _ _ zero)
