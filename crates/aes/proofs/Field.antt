@@ -7,7 +7,7 @@ use native.Mathlib.Nat.{zero-mul, one-mul, le-of-suc-le-suc, not-suc-le-zero}
 use lib.Bits.{bitXor, xor-zero-l, xor-zero-r, xor-comm}
 use lib.Dec.{eqb}
 use borrow.Author.Tests.{eqb-true}
-use Rattle.cells.proofs.Spans.{everyBelow, every-at}
+use Rattle.cells.proofs.Tests.{everyBelow, every-at}
 use Rattle.aes.specs.Field.{xtimes, timesBits, times, squares}
 use Rattle.aes.specs.Sbox.{inverse}
 

@@ -10,7 +10,7 @@ use lib.Dec.{eqb}
 use lib.ListN.{length, take, drop, length-append}
 use lib.Seq.{getD-take, take-at, take-all, length-take-le}
 use Rattle.cells.specs.Runs.{spliced, fronted}
-use Rattle.cells.proofs.Spans.{every-at}
+use Rattle.cells.proofs.Tests.{every-at}
 use Rattle.aes.specs.Field.{xtimes, powerOfX}
 use Rattle.aes.specs.Cipher.{scheduled, wordAt, xorWord, temp, nextWord, expanded, keyExpansion}
 

@@ -7,7 +7,7 @@ use Prim.Native.Nat.{ℕ}
 use borrow.Author.Tests.{eqb-true}
 use lib.Dec.{eqb}
 use lib.ListN.{getD}
-use Rattle.cells.proofs.Spans.{everyBelow, every-at}
+use Rattle.cells.proofs.Tests.{everyBelow, every-at}
 use Rattle.aes.specs.Sbox.{subByte}
 use Rattle.aes.specs.InnerCode.{Substitutes}
 

@@ -1,13 +1,12 @@
 -- What a good value carries: bytes that are those of its numbers and masks, of the lengths that document 01 asks.
 -- Assumes nothing.
 use mathlib.Core.Path.{_≡_, refl, sym, ap, _∙_}
-use mathlib.Core.Bool.{Bool, true, false, cond}
+use mathlib.Core.Bool.{true}
 use mathlib.Core.List.{List, [], _∷_}
 use mathlib.Core.Option.{Option, none, some}
 use Prim.Native.Nat.{ℕ}
 use native.Mathlib.Omega.{arith}
 use lib.Dec.{eqb, lit<}
-use lib.ListN.{getD}
 use Rattle.cells.specs.Runs.{Bytes}
 use Rattle.cells.specs.Numbers.{number}
 use Rattle.armor.specs.declared.Answer.{Answer}
@@ -18,6 +17,7 @@ use Rattle.armor.specs.Value.{Field, AllFormed, allGood, grammar, carrie
 use Rattle.armor.specs.Fields.{contents, times, the, nonceBit, requestFields}
 use Rattle.armor.specs.InnerAnswers.{requestFrom, requestAnswer}
 use Rattle.armor.specs.InnerScan.{Sizes}
+use Rattle.cells.proofs.Tests.{tested}
 use Rattle.armor.proofs.Numerals.{numberBytes-number, maskBytes-maskOf}
 use Rattle.armor.proofs.Value.{grammar-exactly}
 use Rattle.armor.proofs.Fields.{obeyed-once}
@@ -25,29 +25,21 @@ use Rattle.armor.proofs.Scan.{carried-is}
 use Rattle.armor.proofs.Requests.{Required, request-parts, sizes}
 
 -- what a key holds are bytes
-first-bytes : (b : List ℕ) (cs : List (List ℕ)) (t : Bool) → Bytes b → Bytes (getD cs 0 []) → Bytes (getD (cond t (b ∷ cs) cs) 0 [])
-first-bytes b cs true h rest = h
-first-bytes b cs false h rest = rest
-
 held-bytes : (k : ℕ) (fs : List Field) → AllFormed fs → Bytes (the k fs)
 unfolding the contents
 held-bytes k [] h = λ i. lit< tt
-held-bytes k (f ∷ fs) h = first-bytes (f .bytes) (contents k fs) (eqb (keyNumber (f .key)) k) (h .0 .of-bytes) (held-bytes k fs (h .1))
+held-bytes k (f ∷ fs) h = tested (eqb (keyNumber (f .key)) k) (λ e. rw e (h .0 .of-bytes)) (λ e. rw e (held-bytes k fs (h .1)))
 
 pub carried-bytes : (v : List ℕ) (fs : List Field) (k : ℕ) → grammar v ≡ some fs → Bytes (the k fs)
 carried-bytes v fs k e = held-bytes k fs (grammar-exactly v fs .0 e .0 .formed)
 
 -- a good request
-good-by : (fs : List Field) (t : Bool) → requestFields fs ≡ t → cond t Answer.Good Answer.Fields ≡ Answer.Good → t ≡ true
-good-by fs true p e = refl
-good-by fs false p e = absurd (let z : _≡_ {A = ℕ} 0 1 = cc in omega arith)
-
 good-from : (v : List ℕ) (o : Option (List Field)) → grammar v ≡ o → requestFrom o ≡ Answer.Good
     → (grammar v ≡ some (carried v)) × (requestFields (carried v) ≡ true)
 good-from v none p e = absurd (let z : _≡_ {A = ℕ} 0 1 = cc in omega arith)
 good-from v (some fs) p e =
     let same : carried v ≡ fs = carried-is v fs p in
-    (p ∙ ap some (sym same), ap requestFields same ∙ good-by fs (requestFields fs) refl e)
+    (p ∙ ap some (sym same), ap requestFields same ∙ tested (requestFields fs) (λ t. t) (λ t. absurd (let z : _≡_ {A = ℕ} 0 1 = cc in omega arith)))
 
 pub request-given : (v : List ℕ) → requestAnswer v ≡ Answer.Good → (grammar v ≡ some (carried v)) × (requestFields (carried v) ≡ true)
 unfolding requestAnswer

@@ -1,7 +1,7 @@
 -- What notes of a value's fields say of its set of fields.
 -- Assumes nothing.
-use mathlib.Core.Path.{_≡_, refl, sym, ap₂, _∙_}
-use mathlib.Core.Bool.{Bool, true, false, cond}
+use mathlib.Core.Path.{_≡_, refl}
+use mathlib.Core.Bool.{true}
 use mathlib.Core.List.{List, [], _∷_}
 use Prim.Native.Nat.{ℕ, _<_, _≤_, min}
 use native.Mathlib.Omega.{arith}
@@ -13,22 +13,18 @@ use Rattle.armor.specs.Keys.{obeys, keyNumber, ruleAt, ruleOf}
 use Rattle.armor.specs.Value.{Field, allGood, carried}
 use Rattle.armor.specs.Fields.{contents, times, the, rightTimes}
 use Rattle.armor.specs.InnerScan.{Notes, Noted, countIn}
-use Rattle.armor.proofs.Numerals.{both}
+use Rattle.cells.proofs.Tests.{tested, both}
 
 -- counts that stop at two
 pub count-bit : (c n b : ℕ) → c ≡ min 2 n → b < 2 → eqb c b ≡ eqb n b
-count-bit c n b e h = by (eqb n b) refl
-  where
-    by : (t : Bool) → eqb n b ≡ t → eqb c b ≡ t
-    by true p = let q : n ≡ b = eqb-true n b p in eq-eqb c b (omega arith)
-    by false p = let q : n ≡ b → ⊥ = eqb-false n b p in ne-eqb c b (λ r. q (omega arith))
+count-bit c n b e h =
+    tested (eqb n b) (λ p. let q : n ≡ b = eqb-true n b p in rw p (eq-eqb c b (omega arith)))
+    (λ p. let q : n ≡ b → ⊥ = eqb-false n b p in rw p (ne-eqb c b (λ r. q (omega arith))))
 
 count-few : (c n : ℕ) → c ≡ min 2 n → leb c 1 ≡ leb n 1
-count-few c n e = by (leb n 1) refl
-  where
-    by : (t : Bool) → leb n 1 ≡ t → leb c 1 ≡ t
-    by true p = let q : n ≤ 1 = leb-true n 1 p in le-leb c 1 (omega arith)
-    by false p = let q : 1 < n = leb-false n 1 p in lt-leb c 1 (omega arith)
+count-few c n e =
+    tested (leb n 1) (λ p. let q : n ≤ 1 = leb-true n 1 p in rw p (le-leb c 1 (omega arith)))
+    (λ p. let q : 1 < n = leb-false n 1 p in rw p (lt-leb c 1 (omega arith)))
 
 right-times : (c n : ℕ → ℕ) → ((k : ℕ) → k < 12 → c k ≡ min 2 (n k)) → rightTimes c ≡ rightTimes n
 unfolding rightTimes
@@ -66,21 +62,13 @@ noted h k small few =
     record { small = small; in-order = kept .in-order; within = kept .within; decodes = kept .decodes few }
 
 -- what the fields of a good value hold keeps the rule of its key
-obey-by : (k : ℕ) (f : Field) (cs bs : List (List ℕ)) (b : List ℕ) (t : Bool) → eqb (keyNumber (f .key)) k ≡ t
-    → obeys (ruleOf (f .key)) (f .bytes) ≡ true → (cs ≡ b ∷ bs → obeys (ruleAt k) b ≡ true) → cond t (f .bytes ∷ cs) cs ≡ b ∷ bs → obeys (ruleAt k) b ≡ true
-unfolding ruleOf
-obey-by k f cs bs b true t g rest e =
-    let same : f .bytes ≡ b = cc in
-    let number : keyNumber (f .key) ≡ k = eqb-true (keyNumber (f .key)) k t in
-    sym (ap₂ (λ (j : ℕ) (x : List ℕ). obeys (ruleAt j) x) number same) ∙ g
-obey-by k f cs bs b false t g rest e = rest e
-
 all-obey : (k : ℕ) (fs : List Field) (b : List ℕ) (bs : List (List ℕ)) → allGood fs ≡ true → contents k fs ≡ b ∷ bs → obeys (ruleAt k) b ≡ true
-unfolding allGood contents
+unfolding allGood contents ruleOf
 all-obey k [] b bs g e = absurd (let z : _≡_ {A = ℕ} 0 1 = cc in omega arith)
 all-obey k (f ∷ fs) b bs g e =
     let h = both (obeys (ruleOf (f .key)) (f .bytes)) (allGood fs) g in
-    obey-by k f (contents k fs) bs b (eqb (keyNumber (f .key)) k) refl (h .0) (all-obey k fs b bs (h .1)) e
+    tested (eqb (keyNumber (f .key)) k) (λ t. let same : f .bytes ≡ b = cc in rw (← (eqb-true (keyNumber (f .key)) k t), ← same) (h .0))
+    (λ t. all-obey k fs b bs (h .1) (rw t at e))
 
 -- the only content of a key
 only-content : (cs : List (List ℕ)) → length cs ≡ 1 → cs ≡ getD cs 0 [] ∷ []

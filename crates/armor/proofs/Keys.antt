@@ -4,54 +4,49 @@ use mathlib.Core.Path.{_≡_, refl, ap, subst, _∙_}
 use mathlib.Core.Logic.{_↔_}
 use mathlib.Core.Bool.{Bool, true, false, cond}
 use mathlib.Core.List.{List, [], _∷_}
-use Prim.Native.Nat.{ℕ, zero, suc, _<_, _≤_}
+use Prim.Native.Nat.{ℕ, zero, suc, _+_, _<_, _≤_}
 use native.Mathlib.Nat.{not-suc-le-zero, le-of-suc-le-suc}
 use native.Mathlib.Omega.{arith}
-use lib.ListN.{length, getD}
-use Rattle.armor.specs.Keys.{number, mask, free, Key, key, keys, rankOf, keyNumber, nameAt, ruleAt, keyT, keyLt, keyN, keyH, keyAh, keyR, keyS, keyC, keyIv, keyTag, keyEah}
+use lib.Dec.{eqb}
+use lib.ListN.{length, getD, drop}
+use lib.Seq.{drop-cons}
+use borrow.Author.Tests.{eqb-true, eqb-false}
+use Rattle.armor.specs.Keys.{free, Key, key, keys, rankOf, keyNumber, nameAt, keyT, keyLt, keyN, keyH, keyAh, keyR, keyS, keyC, keyIv, keyTag, keyEah}
 use Rattle.cells.specs.Runs.{same}
 use Rattle.cells.specs.Text.{codes}
 use Rattle.cells.proofs.Equality.{same-equal}
+use Rattle.cells.proofs.Tests.{tested}
 
-within-by : (t : Bool) {m n : ℕ} → m ≤ n → cond t 0 (suc m) ≤ suc n
-within-by true h = omega arith
-within-by false h = omega arith
+-- what holds at n numbers from a on holds at each
+abbrev pub From : (ℕ → Type 0) → ℕ → ℕ → Type 0
+From P a zero = Unit
+From P a (suc n) = P a × From P (suc a) n
+
+pub from-at : (P : ℕ → Type 0) (a n : ℕ) → From P a n → (k : ℕ) → a ≤ k → k < a + n → P k
+from-at P a zero h k low high = absurd (omega arith)
+from-at P a (suc n) h k low high =
+    tested (eqb a k) (λ e. subst P (eqb-true a k e) (h .0))
+    (λ e. let other : a ≡ k → ⊥ = eqb-false a k e in from-at P (suc a) n (h .1) k (omega arith) (omega arith))
 
 rank-within : (ks : List Key) (x : List ℕ) → rankOf ks x ≤ length ks
 unfolding rankOf
 rank-within [] x = omega arith
-rank-within (k ∷ ks) x = within-by (same x (k .name)) (rank-within ks x)
+rank-within (k ∷ ks) x = tested (same x (k .name)) (λ e. rw e (omega arith)) (λ e. rw e (omega (arith, rank-within ks x)))
 
 pub keyNumber-within : (x : List ℕ) → keyNumber x ≤ 11
 unfolding keyNumber keys
 keyNumber-within x = rank-within keys x
 
-found-by : (k : Key) (ks : List Key) (x : List ℕ) (m : ℕ) (t : Bool) → same x (k .name) ≡ t
-    → (m < length ks → same x (getD ks m (key "" free) .name) ≡ true)
-    → cond t 0 (suc m) < suc (length ks) → same x (getD (k ∷ ks) (cond t 0 (suc m)) (key "" free) .name) ≡ true
-found-by k ks x m true e f h = e
-found-by k ks x m false e f h = f (le-of-suc-le-suc h)
-
 found : (ks : List Key) (x : List ℕ) → rankOf ks x < length ks → same x (getD ks (rankOf ks x) (key "" free) .name) ≡ true
 unfolding rankOf
 found [] x h = absurd (not-suc-le-zero h)
-found (k ∷ ks) x h = found-by k ks x (rankOf ks x) (same x (k .name)) refl (found ks x) h
+found (k ∷ ks) x h = tested (same x (k .name)) (λ e. rw e e) (λ e. rw e (found ks x (le-of-suc-le-suc (rw e at h))))
 
 -- the names are apart
 placed : (k : ℕ) → k < 11 → keyNumber (nameAt k) ≡ k
 unfolding keyNumber nameAt keys rankOf same codes
-placed zero h = refl
-placed (suc zero) h = refl
-placed (suc (suc zero)) h = refl
-placed (suc (suc (suc zero))) h = refl
-placed (suc (suc (suc (suc zero)))) h = refl
-placed (suc (suc (suc (suc (suc zero))))) h = refl
-placed (suc (suc (suc (suc (suc (suc zero)))))) h = refl
-placed (suc (suc (suc (suc (suc (suc (suc zero))))))) h = refl
-placed (suc (suc (suc (suc (suc (suc (suc (suc zero)))))))) h = refl
-placed (suc (suc (suc (suc (suc (suc (suc (suc (suc zero))))))))) h = refl
-placed (suc (suc (suc (suc (suc (suc (suc (suc (suc (suc zero)))))))))) h = refl
-placed (suc (suc (suc (suc (suc (suc (suc (suc (suc (suc (suc k))))))))))) h = absurd (omega arith)
+placed k h =
+    from-at (λ j. keyNumber (nameAt j) ≡ j) 0 11 (omega arith) k (omega arith) (omega arith)
 
 -- a name has a key's number exactly if it is that key's
 pub names-exactly : (k : ℕ) (x : List ℕ) → k < 11 → (keyNumber x ≡ k) ↔ (x ≡ nameAt k)
@@ -67,35 +62,17 @@ pub key-names : nameAt keyT ∷ nameAt keyLt ∷ nameAt keyN ∷ nameAt keyH ∷
 unfolding nameAt keys
 key-names = refl
 
--- the rules by number
-pub numbers : (k : ℕ) → k < 3 → ruleAt k ≡ number
-unfolding ruleAt keys
-numbers zero h = refl
-numbers (suc zero) h = refl
-numbers (suc (suc zero)) h = refl
-numbers (suc (suc (suc k))) h = absurd (omega arith)
+-- a name that is none of the keys from m up to n goes by its place among those after them
+abbrev pub Past : ℕ → ℕ → List ℕ → Type 0
+Past m n x = m + rankOf (drop m keys) x ≡ n + rankOf (drop n keys) x
 
-pub masks : (k : ℕ) → 3 ≤ k → k < 6 → ruleAt k ≡ mask
-unfolding ruleAt keys
-masks zero low h = absurd (omega arith)
-masks (suc zero) low h = absurd (omega arith)
-masks (suc (suc zero)) low h = absurd (omega arith)
-masks (suc (suc (suc zero))) low h = refl
-masks (suc (suc (suc (suc zero)))) low h = refl
-masks (suc (suc (suc (suc (suc zero))))) low h = refl
-masks (suc (suc (suc (suc (suc (suc k)))))) low h = absurd (omega arith)
+module _ (m n : ℕ) (x : List ℕ) {r : Bool} (small : n < 11) (past : Past m n x) (test : r ≡ same x (nameAt n)) where
+  ranked : m + rankOf (drop m keys) x ≡ n + cond r 0 (suc (rankOf (drop (suc n) keys) x))
+  unfolding nameAt keys rankOf
+  ranked = past ∙ rw (drop-cons keys n (key "" free) small, test)
 
-pub frees : (k : ℕ) → 6 ≤ k → (k ≡ 6 → ⊥) → (k ≡ 7 → ⊥) → (k ≡ 8 → ⊥) → (k ≡ 9 → ⊥) → ruleAt k ≡ free
-unfolding ruleAt keys
-frees zero low s c i t = absurd (omega arith)
-frees (suc zero) low s c i t = absurd (omega arith)
-frees (suc (suc zero)) low s c i t = absurd (omega arith)
-frees (suc (suc (suc zero))) low s c i t = absurd (omega arith)
-frees (suc (suc (suc (suc zero)))) low s c i t = absurd (omega arith)
-frees (suc (suc (suc (suc (suc zero))))) low s c i t = absurd (omega arith)
-frees (suc (suc (suc (suc (suc (suc zero)))))) low s c i t = absurd (s refl)
-frees (suc (suc (suc (suc (suc (suc (suc zero))))))) low s c i t = absurd (c refl)
-frees (suc (suc (suc (suc (suc (suc (suc (suc zero)))))))) low s c i t = absurd (i refl)
-frees (suc (suc (suc (suc (suc (suc (suc (suc (suc zero))))))))) low s c i t = absurd (t refl)
-frees (suc (suc (suc (suc (suc (suc (suc (suc (suc (suc zero)))))))))) low s c i t = refl
-frees (suc (suc (suc (suc (suc (suc (suc (suc (suc (suc (suc k))))))))))) low s c i t = refl
+  pub key-here : r ≡ true → n ≡ m + rankOf (drop m keys) x
+  key-here e = omega (arith, rw e at ranked)
+
+  pub key-later : r ≡ false → Past m (suc n) x
+  key-later e = omega (arith, rw e at ranked)

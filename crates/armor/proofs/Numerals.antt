@@ -1,22 +1,33 @@
 -- A number and its bytes, and a mask and its bytes, determine each other.
 -- Assumes nothing.
-use mathlib.Core.Path.{_≡_, refl, sym, ap, ap₂, subst, _∙_}
-use mathlib.Core.Bool.{Bool, true, false, cond, not, _&&_}
+use mathlib.Core.Path.{_≡_, refl, sym, ap, ap₂, _∙_}
+use mathlib.Core.Bool.{Bool, true, false, not, _&&_}
 use mathlib.Core.List.{List, [], _∷_, _++_, append-nil}
 use Prim.Native.Nat.{ℕ, zero, suc, _+_, _*_, _/_, _%_, _^_, _-_, _<_, _≤_}
 use native.Mathlib.Nat.{div-eq-of-lt, zero-div, zero-mul, zero-add, le-div-iff-mul-le, div-lt-iff-lt-mul, mod-eq-of-lt, one-mul, lt-of-lt-of-le, sub-self}
 use native.Mathlib.Numerals.{add-one}
 use native.Mathlib.Omega.{arith}
-use lib.Dec.{eqb, leb}
+use lib.Dec.{eqb}
 use lib.Pow.{pow-pos, pow-add, pow-mono}
 use lib.ListN.{length, take, drop, set, replicate, length-drop, drop-of-length-le}
 use lib.Seq.{take-all, take-at}
-use borrow.Author.Tests.{eqb-true, leb-true, le-leb, eq-eqb, ne-eqb}
+use borrow.Author.Tests.{eqb-true, leb-true, le-leb, eq-eqb, ne-eqb, not-true}
 use Rattle.cells.specs.Runs.{Bytes, spliced, part}
 use Rattle.cells.specs.Numbers.{bytesOf, number}
+use Rattle.cells.proofs.Tests.{tested, both}
 use Rattle.cells.proofs.Numbers.{length-bytesOf, bytes-bytesOf, bytes-rest, number-below, number-of, bytesOf-number, bytesOf-append, number-append, bytes-first}
 use Rattle.cells.proofs.Runs.{spliced-front, fronted-whole, length-spliced}
 use Rattle.armor.specs.Numerals.{shortest, plain, numberBytes, isNumeral, isNumber, maskBytes, isMask, maskOf}
+
+-- two tests in a row
+pub first : (a b : Bool) → (a && b) ≡ true → a ≡ true
+first a b h = both a b h .0
+
+pub second : (a b : Bool) → (a && b) ≡ true → b ≡ true
+second a b h = both a b h .1
+
+pub at-once : {a b : Bool} → a ≡ true → b ≡ true → (a && b) ≡ true
+at-once p q = simp (p, q)
 
 -- what holds of a run and its shortest form
 by-shortest : (P : List ℕ → List ℕ → Type 0) → P [] [] → ((b : ℕ) → P (b ∷ []) (b ∷ [])) → ((c : ℕ) (bs s : List ℕ) → P (c ∷ bs) s → P (0 ∷ c ∷ bs) s)
@@ -24,11 +35,9 @@ by-shortest : (P : List ℕ → List ℕ → Type 0) → P [] [] → ((b : ℕ) 
 unfolding shortest
 by-shortest P none one skip keep [] = none
 by-shortest P none one skip keep (b ∷ []) = one b
-by-shortest P none one skip keep (b ∷ c ∷ bs) = go (eqb b 0) refl (by-shortest P none one skip keep (c ∷ bs))
-  where
-    go : (t : Bool) → eqb b 0 ≡ t → P (c ∷ bs) (shortest (c ∷ bs)) → P (b ∷ c ∷ bs) (cond t (shortest (c ∷ bs)) (b ∷ c ∷ bs))
-    go true e h = subst (λ (x : ℕ). P (x ∷ c ∷ bs) (shortest (c ∷ bs))) (sym (eqb-true b 0 e)) (skip c bs (shortest (c ∷ bs)) h)
-    go false e h = keep b c bs e
+by-shortest P none one skip keep (b ∷ c ∷ bs) =
+    let h = by-shortest P none one skip keep (c ∷ bs) in
+    tested (eqb b 0) (λ e. rw (eqb-true b 0 e) (skip c bs (shortest (c ∷ bs)) h)) (λ e. rw e (keep b c bs e))
 
 plain-shortest : (bs : List ℕ) → plain (shortest bs) ≡ true
 unfolding plain
@@ -39,7 +48,7 @@ unfolding number
 number-shortest =
     by-shortest (λ xs s. number s ≡ number xs) refl (λ b. refl) (λ c bs s h. h ∙ sym (rw (zero-mul, zero-add))) (λ b c bs e. refl)
 
--- it stands at the run's end, and is not empty where the run is not
+-- it stands at the run's end
 suffix : (bs : List ℕ) → (length (shortest bs) ≤ length bs) × (drop (length bs - length (shortest bs)) bs ≡ shortest bs)
 suffix =
     by-shortest (λ xs s. (length s ≤ length xs) × (drop (length xs - length s) xs ≡ s)) (omega arith, refl) (λ b. (omega arith, refl))
@@ -48,22 +57,18 @@ suffix =
     (omega (arith, h .0), ap (λ (i : ℕ). drop i (0 ∷ c ∷ bs)) e ∙ h .1))
     (λ b c bs e. (omega arith, ap (λ (i : ℕ). drop i (b ∷ c ∷ bs)) (sub-self (length (b ∷ c ∷ bs)))))
 
-some-shortest : (b : ℕ) (bs : List ℕ) → 1 ≤ length (shortest (b ∷ bs))
-some-shortest b bs =
-    by-shortest (λ xs s. 1 ≤ length xs → 1 ≤ length s) (λ h. h) (λ b h. h) (λ c bs s h more. h (omega arith)) (λ b c bs e h. h) (b ∷ bs) (omega arith)
-
+-- it is not empty where the run is not
 length-shortest : (b : ℕ) (bs : List ℕ) → (1 ≤ length (shortest (b ∷ bs))) × (length (shortest (b ∷ bs)) ≤ length (b ∷ bs))
-length-shortest b bs = (some-shortest b bs, suffix (b ∷ bs) .0)
-
-plain-same : (b c : ℕ) (bs : List ℕ) (t : Bool) → not t ≡ true → cond t (shortest (c ∷ bs)) (b ∷ c ∷ bs) ≡ b ∷ c ∷ bs
-plain-same b c bs true h = let z : true ≡ false = sym h in ap (λ (t : Bool). cond t (shortest (c ∷ bs)) (b ∷ c ∷ bs)) z
-plain-same b c bs false h = refl
+length-shortest b bs = (
+  by-shortest (λ xs s. 1 ≤ length xs → 1 ≤ length s) (λ h. h) (λ b h. h) (λ c bs s h more. h (omega arith)) (λ b c bs e h. h) (b ∷ bs) (omega arith),
+  suffix (b ∷ bs) .0,
+)
 
 shortest-plain : (bs : List ℕ) → plain bs ≡ true → shortest bs ≡ bs
 unfolding shortest plain
 shortest-plain [] h = refl
 shortest-plain (b ∷ []) h = refl
-shortest-plain (b ∷ c ∷ bs) h = plain-same b c bs (eqb b 0) h
+shortest-plain (b ∷ c ∷ bs) h = simp (not-true (eqb b 0) h)
 
 -- leading zero bytes make no difference
 shortest-zeros : (k b : ℕ) (bs : List ℕ) → shortest (replicate k 0 ++ b ∷ bs) ≡ shortest (b ∷ bs)
@@ -95,18 +100,14 @@ first-byte k n low high =
     let byte : n / p < 256 = div-lt-iff-lt-mul {k = p} {x = n} {y = 256} (pow-pos (8 * suc k)) .1 (rw split at high) in
     ap not (ne-eqb (n / p % 256) 0 (λ e. omega (arith, mod-eq-of-lt byte)))
 
--- a number of k + 1 bytes, of which the first is not zero
-pub sized-bytes : (j k n : ℕ) → j + suc k ≡ 8 → plain (bytesOf (suc k) n) ≡ true → n < 2 ^ (8 * suc k) → numberBytes n ≡ bytesOf (suc k) n
-sized-bytes j k n e p h = fitting j k n e h ∙ shortest-plain (bytesOf (suc k) n) p
-
 -- one byte
 pub one-byte : (n : ℕ) → n < 256 → numberBytes n ≡ bytesOf 1 n
 unfolding plain bytesOf
-one-byte n h = sized-bytes 7 0 n refl refl h
+one-byte n h = fitting 7 0 n refl h ∙ shortest-plain (bytesOf 1 n) refl
 
 -- k + 2 bytes
 pub more-bytes : (j k n : ℕ) → j + suc (suc k) ≡ 8 → 2 ^ (8 * suc k) ≤ n → n < 2 ^ (8 * suc (suc k)) → numberBytes n ≡ bytesOf (suc (suc k)) n
-more-bytes j k n e low high = sized-bytes j (suc k) n e (first-byte k n low high) high
+more-bytes j k n e low high = fitting j (suc k) n e high ∙ shortest-plain (bytesOf (suc (suc k)) n) (first-byte k n low high)
 
 pub number-numberBytes : (n : ℕ) → n < 2 ^ 64 → number (numberBytes n) ≡ n
 unfolding numberBytes
@@ -145,21 +146,10 @@ cut-bytes n k p q =
     ∙ ap (take (8 - (8 - k))) (suffix (bytesOf 8 n) .1)
     ∙ take-all (8 - (8 - k)) (numberBytes n) (omega arith)
 
--- two tests in a row
-pub both : (a b : Bool) → (a && b) ≡ true → (a ≡ true) × (b ≡ true)
-both true b h = (refl, h)
-both false b h = absurd (let z : _≡_ {A = ℕ} 0 1 = cc in omega arith)
-
-pub at-once : {a b : Bool} → a ≡ true → b ≡ true → (a && b) ≡ true
-at-once p q = simp (p, q)
-
 -- what `isNumeral` says
 pub numeral-parts : (k : ℕ) (bs : List ℕ) → isNumeral k bs ≡ true → (1 ≤ length bs) × (length bs ≤ k) × (plain bs ≡ true)
 unfolding isNumeral
-numeral-parts k bs t =
-    let low = both (leb 1 (length bs)) (leb (length bs) k && plain bs) t in
-    let high = both (leb (length bs) k) (plain bs) (low .1) in
-    (leb-true 1 (length bs) (low .0), leb-true (length bs) k (high .0), high .1)
+numeral-parts k bs t = search (first, second, leb-true)
 
 pub numeral-whole : (k : ℕ) (bs : List ℕ) → 1 ≤ length bs → length bs ≤ k → plain bs ≡ true → isNumeral k bs ≡ true
 unfolding isNumeral
@@ -173,20 +163,14 @@ numeral j k n e h =
     let all : length (bytesOf k n) ≡ k = length-bytesOf k n in
     rw (fitting j k n e h) (numeral-whole (suc k) (shortest (bytesOf (suc k) n)) (l .0) (omega arith) (plain-shortest (bytesOf (suc k) n)))
 
-numeral-number-by : (j b : ℕ) (bs : List ℕ) → j + suc (length bs) ≡ 8 → Bytes (b ∷ bs) → plain (b ∷ bs) ≡ true
-    → numberBytes (number (b ∷ bs)) ≡ b ∷ bs
-numeral-number-by j b bs e h p =
-    fitting j (length bs) (number (b ∷ bs)) e (number-below (b ∷ bs) h)
-    ∙ ap shortest (bytesOf-number (b ∷ bs) h)
-    ∙ shortest-plain (b ∷ bs) p
-
 -- a run that is the bytes of a number is those of its number
 pub numeral-number : (k : ℕ) (bs : List ℕ) → k ≤ 8 → Bytes bs → isNumeral k bs ≡ true → numberBytes (number bs) ≡ bs
 numeral-number k [] w h t = absurd (let p = numeral-parts k [] t in omega (arith, p .0))
 numeral-number k (b ∷ bs) w h t =
     let p = numeral-parts k (b ∷ bs) t in
-    let fits : length (b ∷ bs) ≤ k = p .1 in
-    numeral-number-by (8 - suc (length bs)) b bs (omega arith) h (p .2)
+    fitting (8 - suc (length bs)) (length bs) (number (b ∷ bs)) (omega arith) (number-below (b ∷ bs) h)
+    ∙ ap shortest (bytesOf-number (b ∷ bs) h)
+    ∙ shortest-plain (b ∷ bs) (p .2)
 
 -- numbers of 1 to 4 bytes
 pub number-is : (n : ℕ) → n < 2 ^ 32 → isNumber (numberBytes n) ≡ true
@@ -196,12 +180,6 @@ number-is n h = numeral 4 3 n refl h
 pub numberBytes-number : (bs : List ℕ) → Bytes bs → isNumber bs ≡ true → numberBytes (number bs) ≡ bs
 unfolding isNumber
 numberBytes-number bs h t = numeral-number 4 bs (omega arith) h t
-
-pub number-fits : (k : ℕ) (bs : List ℕ) → Bytes bs → isNumeral k bs ≡ true → number bs < 2 ^ (8 * k)
-number-fits k bs h t =
-    let p = numeral-parts k bs t in
-    let more : 8 * length bs ≤ 8 * k = omega (arith, p .1) in
-    lt-of-lt-of-le (number-below bs h) (pow-mono more)
 
 -- no two numbers have the same bytes
 pub numberBytes-injective : (m n : ℕ) → m < 2 ^ 64 → n < 2 ^ 64 → numberBytes m ≡ numberBytes n → m ≡ n
@@ -219,7 +197,7 @@ maskOf-maskBytes m h = number-numberBytes m h
 -- what `isMask` says
 pub mask-parts : (n : ℕ) (bs : List ℕ) → isMask (n ∷ bs) ≡ true → (n ≡ length bs) × (isNumeral 8 bs ≡ true)
 unfolding isMask
-mask-parts n bs t = let p = both (eqb n (length bs)) (isNumeral 8 bs) t in (eqb-true n (length bs) (p .0), p .1)
+mask-parts n bs t = search (first, second, eqb-true)
 
 pub maskBytes-maskOf : (bs : List ℕ) → Bytes bs → isMask bs ≡ true → maskBytes (maskOf bs) ≡ bs
 unfolding maskOf maskBytes isMask
@@ -228,11 +206,6 @@ maskBytes-maskOf (n ∷ bs) h t =
     let p = mask-parts n bs t in
     let e : numberBytes (number bs) ≡ bs = numeral-number 8 bs (omega arith) (bytes-rest n bs h) (p .1) in
     ap₂ _∷_ (ap length e ∙ sym (p .0)) e
-
-pub mask-fits : (bs : List ℕ) → Bytes bs → isMask bs ≡ true → maskOf bs < 2 ^ 64
-unfolding maskOf
-mask-fits [] h t = pow-pos 64
-mask-fits (n ∷ bs) h t = number-fits 8 bs (bytes-rest n bs h) (mask-parts n bs t .1)
 
 pub maskBytes-injective : (l m : ℕ) → l < 2 ^ 64 → m < 2 ^ 64 → maskBytes l ≡ maskBytes m → l ≡ m
 maskBytes-injective l m hl hm e = sym (maskOf-maskBytes l hl) ∙ ap maskOf e ∙ maskOf-maskBytes m hm
@@ -266,11 +239,7 @@ number-small bs h few =
 pub length-number : (n : ℕ) → n < 2 ^ 32 → length (numberBytes n) ≤ 4
 length-number n h = numeral-parts 4 (numberBytes n) (numeral 4 3 n refl h) .1
 
--- bytes put at the front of a run, and after its first byte
-pub front : (k : ℕ) (ys xs : List ℕ) {l : List ℕ} → k ≡ length ys → l ≡ spliced xs 0 ys → take k l ≡ ys
-unfolding spliced
-front k ys xs e p = ap (take k) p ∙ take-at ys (drop (length ys) xs) k (sym e)
-
+-- bytes put after the first byte of a run
 pub mask-front : (k m x : ℕ) (xs : List ℕ) {l : List ℕ} → k ≡ length (numberBytes m) → l ≡ spliced (x ∷ xs) 1 (numberBytes m)
     → take (k + 1) (set l 0 k) ≡ maskBytes m
 unfolding spliced maskBytes

@@ -4,11 +4,11 @@ use mathlib.Core.Path.{_≡_, refl, ap, _∙_, sym, ap₂}
 use mathlib.Core.Bool.{Bool, true, cond, _&&_, false, not}
 use mathlib.Core.List.{List}
 use mathlib.Core.Option.{some, Option, none}
-use Prim.Native.Nat.{ℕ, zero, suc, _<_, _≤_}
+use Prim.Native.Nat.{ℕ, _<_, _≤_}
 use native.Mathlib.Omega.{arith}
-use lib.Dec.{eqb, leb, lit<}
+use lib.Dec.{eqb, lit<}
 use lib.ListN.{length}
-use borrow.Author.Tests.{eqb-true, leb-true, not-true}
+use borrow.Author.Tests.{eqb-true, eqb-false, leb-true, not-true}
 use Rattle.armor.specs.declared.scanning.Seen.{Seen}
 use Rattle.armor.specs.declared.Answer.{Answer}
 use Rattle.armor.specs.declared.SetupRead.{SetupRead}
@@ -20,7 +20,9 @@ use Rattle.armor.specs.Value.{Field, allGood, grammar, carried}
 use Rattle.armor.specs.Fields.{times, the, rightTimes, nonceBit, requestFields, setupFields}
 use Rattle.armor.specs.InnerAnswers.{requestFrom, requestAnswer, setupFrom, setupAnswer}
 use Rattle.armor.specs.InnerScan.{Sound, Sizes, Ready, Noted, countIn, isSome, Scanned}
-use Rattle.armor.proofs.Numerals.{both}
+use Rattle.cells.proofs.Tests.{tested, both}
+use Rattle.armor.proofs.Numerals.{first, second}
+use Rattle.armor.proofs.Keys.{from-at}
 use Rattle.armor.proofs.Value.{grammar-exactly}
 use Rattle.armor.proofs.Texts.{number-room, mask-room, sized-room}
 use Rattle.armor.proofs.Fields.{noted, obeyed-once, none-held, count-bit, counted, counts-are}
@@ -39,40 +41,9 @@ pub record Required (n : ℕ → ℕ) : Type 0 where
   pub r : n keyR ≡ 0
   pub other : n otherKey ≡ 0
 
-three : (a b c : Bool) → (a && b && c) ≡ true → (a ≡ true) × (b ≡ true) × (c ≡ true)
-three a b c e =
-    let p = both (a && b) c e in
-    let q = both a b (p .0) in
-    (q .0, q .1, p .1)
-
-ones : (a b c d : ℕ) → (eqb a 1 && eqb b 1 && eqb c 1 && eqb d 1) ≡ true → (a ≡ 1) × (b ≡ 1) × (c ≡ 1) × (d ≡ 1)
-ones a b c d e =
-    let p = three (eqb a 1 && eqb b 1) (eqb c 1) (eqb d 1) e in
-    let q = both (eqb a 1) (eqb b 1) (p .0) in
-    (eqb-true a 1 (q .0), eqb-true b 1 (q .1), eqb-true c 1 (p .1), eqb-true d 1 (p .2))
-
 pub right-parts : (n : ℕ → ℕ) → rightTimes n ≡ true → Required n
 unfolding rightTimes
-right-parts n e =
-    let p =
-    three (eqb (n 6) 1 && eqb (n 7) 1 && eqb (n 0) 1 && eqb (n 1) 1) (eqb (n 3) 1 && eqb (n 4) 1 && eqb (n 8) 1 && eqb (n 9) 1) (leb (n 10) 1 && eqb (n 5) 0 && eqb (n 11) 0) e
-    in
-    let a = ones (n 6) (n 7) (n 0) (n 1) (p .0) in
-    let b = ones (n 3) (n 4) (n 8) (n 9) (p .1) in
-    let c = three (leb (n 10) 1) (eqb (n 5) 0) (eqb (n 11) 0) (p .2) in
-    record {
-      s = a .0;
-      c = a .1;
-      t = a .2;
-      lt = a .3;
-      h = b .0;
-      ah = b .1;
-      iv = b .2;
-      tag = b .3;
-      eah = leb-true (n 10) 1 (c .0);
-      r = eqb-true (n 5) 0 (c .1);
-      other = eqb-true (n 11) 0 (c .2);
-    }
+right-parts n e = search (first, second, eqb-true, leb-true) depth 8
 
 pub request-parts : (fs : List Field) → requestFields fs ≡ true → Required (λ k. times k fs) × (times keyN fs ≡ nonceBit fs)
 unfolding requestFields
@@ -86,22 +57,10 @@ nonce-few fs e = omega arith
 
 -- no key is carried twice
 pub once-or-not : (fs : List Field) → requestFields fs ≡ true → (k : ℕ) → k < 12 → times k fs ≤ 1
-once-or-not fs e k small = by (request-parts fs e .0) (nonce-few fs (request-parts fs e .1)) k small
-  where
-    by : Required (λ k. times k fs) → times keyN fs ≤ 1 → (k : ℕ) → k < 12 → times k fs ≤ 1
-    by p n zero h = omega (arith, p .t)
-    by p n (suc zero) h = omega (arith, p .lt)
-    by p n (suc (suc zero)) h = n
-    by p n (suc (suc (suc zero))) h = omega (arith, p .h)
-    by p n (suc (suc (suc (suc zero)))) h = omega (arith, p .ah)
-    by p n (suc (suc (suc (suc (suc zero))))) h = omega (arith, p .r)
-    by p n (suc (suc (suc (suc (suc (suc zero)))))) h = omega (arith, p .s)
-    by p n (suc (suc (suc (suc (suc (suc (suc zero))))))) h = omega (arith, p .c)
-    by p n (suc (suc (suc (suc (suc (suc (suc (suc zero)))))))) h = omega (arith, p .iv)
-    by p n (suc (suc (suc (suc (suc (suc (suc (suc (suc zero))))))))) h = omega (arith, p .tag)
-    by p n (suc (suc (suc (suc (suc (suc (suc (suc (suc (suc zero)))))))))) h = p .eah
-    by p n (suc (suc (suc (suc (suc (suc (suc (suc (suc (suc (suc zero))))))))))) h = omega (arith, p .other)
-    by p n (suc (suc (suc (suc (suc (suc (suc (suc (suc (suc (suc (suc k)))))))))))) h = absurd (omega arith)
+once-or-not fs e k small =
+    let parts = request-parts fs e in
+    let few = nonce-few fs (parts .1) in
+    from-at (λ j. times j fs ≤ 1) 0 12 (omega arith) k (omega arith) (omega arith)
 
 exact : (n : ℕ) (b : List ℕ) → obeys (sized n n) b ≡ true → length b ≡ n
 exact n b e = let room = sized-room n n b e in omega (arith, room .0, room .1)
@@ -114,18 +73,19 @@ module _ (fs : List Field) (good : allGood fs ≡ true) (right : requestFields f
   held : (k : ℕ) → times k fs ≡ 1 → obeys (ruleAt k) (the k fs) ≡ true
   held k one = obeyed-once fs k good one
 
-  nonce-size : (n : ℕ) → times keyN fs ≡ n → n ≤ 1 → length (the keyN fs) ≤ 4
+  nonce-size : length (the keyN fs) ≤ 4
   unfolding ruleAt keys
-  nonce-size zero e few = rw (none-held keyN fs e) (omega arith)
-  nonce-size (suc zero) e few = number-room (the keyN fs) (held keyN e)
-  nonce-size (suc (suc n)) e few = absurd (omega arith)
+  nonce-size =
+      let few = nonce-few fs (request-parts fs right .1) in
+      tested (eqb (times keyN fs) 1) (λ e. number-room (the keyN fs) (held keyN (eqb-true (times keyN fs) 1 e)))
+      (λ e. let ne = eqb-false (times keyN fs) 1 e in rw (none-held keyN fs (omega arith)) (omega arith))
 
   pub sizes : Sizes fs
   unfolding ruleAt keys
   sizes = record {
     t = number-room (the keyT fs) (held keyT (has .t));
     lt = number-room (the keyLt fs) (held keyLt (has .lt));
-    n = nonce-size (times keyN fs) refl (nonce-few fs (request-parts fs right .1));
+    n = nonce-size;
     h = mask-room (the keyH fs) (held keyH (has .h));
     ah = mask-room (the keyAh fs) (held keyAh (has .ah));
     s = sized-room 1 118 (the keyS fs) (held keyS (has .s));
@@ -203,10 +163,3 @@ module _ (v : List ℕ) (seen : Seen) (h : Sound v seen) where
   client-there e =
       mask-there keyR (lit< tt) refl
       (eqb-true (times keyR (carried v)) 1 (both (eqb (length (carried v)) 1) (eqb (times keyR (carried v)) 1) (setup-fields ∙ e) .1))
-
--- a refusal holds nothing
-pub not-good-grammar : Answer.Grammar ≡ Answer.Good → ⊥
-not-good-grammar e = let z : _≡_ {A = ℕ} 0 1 = cc in omega arith
-
-pub not-good-fields : Answer.Fields ≡ Answer.Good → ⊥
-not-good-fields e = let z : _≡_ {A = ℕ} 0 1 = cc in omega arith

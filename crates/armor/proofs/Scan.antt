@@ -4,16 +4,17 @@ use mathlib.Core.Path.{_≡_, refl, sym, ap, ap₂, subst, _∙_}
 use mathlib.Core.Bool.{Bool, true, false, cond, _&&_}
 use mathlib.Core.List.{List, [], _∷_, _++_, append-assoc, append-nil}
 use mathlib.Core.Option.{Option, none, some, Option·getD}
-use Prim.Native.Nat.{ℕ, zero, suc, _+_, _-_, _<_, _≤_, min}
-use native.Mathlib.Nat.{not-suc-le-zero, sub-zero, zero-sub, suc-sub-suc}
+use Prim.Native.Nat.{ℕ, suc, _+_, _-_, _<_, _≤_, min}
+use native.Mathlib.Nat.{not-suc-le-zero}
 use native.Mathlib.Numerals.{add-one}
 use native.Mathlib.Decide.{decLt}
 use native.Mathlib.Omega.{arith}
 use lib.Dec.{eqb, leb}
-use lib.ListN.{length, getD, take, drop, set, length-append, length-set, length-take, length-drop, getD-replicate, drop-of-length-le}
-use lib.Seq.{getD-set-same, getD-set-other, drop-drop, take-nil, take-all}
-use borrow.Author.Tests.{eqb-true, eqb-false, eq-eqb, ne-eqb}
+use lib.ListN.{length, getD, take, drop, length-append, length-set, length-take, length-drop, getD-replicate, drop-of-length-le}
+use lib.Seq.{getD-set-same, getD-set-other, drop-drop, take-all}
+use borrow.Author.Tests.{eqb-true, eqb-false}
 use Rattle.cells.specs.Runs.{cut}
+use Rattle.cells.proofs.Cuts.{drop-take}
 use Rattle.base64.specs.Decoding.{bytes, decoded}
 use Rattle.armor.specs.declared.scanning.Seen.{Seen}
 use Rattle.armor.specs.declared.scanning.Piece.{Piece}
@@ -22,19 +23,10 @@ use Rattle.armor.specs.Keys.{Rule, keyNumber, ruleAt, ruleOf}
 use Rattle.armor.specs.Value.{Field, textObeys, pieceGood, pieceField, fieldOf, withField, fieldsIn, grammar, carried}
 use Rattle.armor.specs.Fields.{contents}
 use Rattle.armor.specs.InnerScan.{pieceAnswer, PieceIs, Ends, Kept, Notes, noneSeen, notedIn}
-use Rattle.armor.proofs.Numerals.{both}
+use Rattle.cells.proofs.Tests.{tested, both}
 use Rattle.armor.proofs.Value.{piece-field, grammar-some}
 use Rattle.armor.proofs.Keys.{keyNumber-within}
 use Rattle.armor.proofs.Pieces.{pieces-cut, taken-upTo, dropped-after, length-upTo, split-at-first}
-
--- the field that a good piece is, and none
-piece-good : (p : List ℕ) → pieceGood p ≡ true → fieldOf p ≡ some (pieceField p)
-unfolding fieldOf
-piece-good p e = ap (λ (t : Bool). cond t (some (pieceField p)) none) e
-
-piece-bad : (p : List ℕ) → pieceGood p ≡ false → fieldOf p ≡ none
-unfolding fieldOf
-piece-bad p e = ap (λ (t : Bool). cond t (some (pieceField p)) none) e
 
 -- fields before others
 abbrev pub before : List Field → Option (List Field) → Option (List Field)
@@ -49,30 +41,19 @@ pub before-more : (fs : List Field) (f : Field) (o : Option (List Field)) → be
 before-more fs f none = refl
 before-more fs f (some gs) = ap some (sym (append-assoc fs (f ∷ []) gs))
 
-good-next : (fs : List Field) (f : Field) (p : List ℕ) (ps : List (List ℕ)) → fieldOf p ≡ some f
-    → before fs (fieldsIn (p ∷ ps)) ≡ before (fs ++ f ∷ []) (fieldsIn ps)
-unfolding fieldsIn
-good-next fs f p ps e = ap (λ (o : Option Field). before fs (withField o (fieldsIn ps))) e ∙ before-more fs f (fieldsIn ps)
+good-next : (fs : List Field) (p : List ℕ) (ps : List (List ℕ)) → pieceGood p ≡ true
+    → before fs (fieldsIn (p ∷ ps)) ≡ before (fs ++ pieceField p ∷ []) (fieldsIn ps)
+unfolding fieldsIn fieldOf
+good-next fs p ps e = rw e (before-more fs (pieceField p) (fieldsIn ps))
 
 -- contents of one field more
-pub contents-more : (k : ℕ) (fs : List Field) (f : Field) → contents k (fs ++ f ∷ []) ≡ contents k fs ++ contents k (f ∷ [])
+contents-more : (k : ℕ) (fs : List Field) (f : Field)
+    → contents k (fs ++ f ∷ []) ≡ contents k fs ++ cond (eqb (keyNumber (f .key)) k) (f .bytes ∷ []) []
 unfolding contents
 contents-more k [] f = refl
-contents-more k (g ∷ fs) f = by (eqb (keyNumber (g .key)) k) (contents-more k fs f)
-  where
-    by : (t : Bool) → contents k (fs ++ f ∷ []) ≡ contents k fs ++ contents k (f ∷ [])
-        → cond t (g .bytes ∷ contents k (fs ++ f ∷ [])) (contents k (fs ++ f ∷ []))
-        ≡ cond t (g .bytes ∷ contents k fs) (contents k fs) ++ contents k (f ∷ [])
-    by true e = ap (λ (l : List (List ℕ)). g .bytes ∷ l) e
-    by false e = e
-
-contents-one : (k : ℕ) (f : Field) → keyNumber (f .key) ≡ k → contents k (f ∷ []) ≡ f .bytes ∷ []
-unfolding contents
-contents-one k f e = simp (eq-eqb (keyNumber (f .key)) k e)
-
-contents-none : (k : ℕ) (f : Field) → (keyNumber (f .key) ≡ k → ⊥) → contents k (f ∷ []) ≡ []
-unfolding contents
-contents-none k f e = simp (ne-eqb (keyNumber (f .key)) k e)
+contents-more k (g ∷ fs) f =
+    let more = contents-more k fs f in
+    tested (eqb (keyNumber (g .key)) k) (λ e. rw e (ap (λ (l : List (List ℕ)). g .bytes ∷ l) more)) (λ e. rw e more)
 
 -- notes of contents with one more
 kept-more : (v : List ℕ) {count start end : ℕ} (held : List (List ℕ)) (a e : ℕ) (bs : List ℕ) → Kept v count start end held
@@ -84,44 +65,28 @@ kept-more v (x ∷ xs) a e bs h order inside text =
     record { counted = omega (arith, h .counted); in-order = order; within = inside; decodes = λ few. absurd (omega arith) }
 
 module _ (v : List ℕ) (seen : Seen) (fs : List Field) (f : Field) (a e : ℕ) (h : Notes v seen fs) (order : a ≤ e) (inside : e ≤ length v) (text : decoded (cut v a e) ≡ bytes (f .bytes)) where
-  kept-by : (k : ℕ) → k < 12 → (t : Bool) → eqb (keyNumber (f .key)) k ≡ t
-      → Kept v
-      (getD (set (seen .count) (keyNumber (f .key)) (min 2 (getD (seen .count) (keyNumber (f .key)) 0 + 1))) k 0)
-      (getD (set (seen .start) (keyNumber (f .key)) a) k 0)
-      (getD (set (seen .end) (keyNumber (f .key)) e) k 0)
-      (contents k (fs ++ f ∷ []))
-  kept-by k small true t =
+  kept-next : (k : ℕ) → k < 12
+      → let next = notedIn seen (keyNumber (f .key)) a e in
+      Kept v (getD (next .count) k 0) (getD (next .start) k 0) (getD (next .end) k 0) (contents k (fs ++ f ∷ []))
+  kept-next k small =
       let j = keyNumber (f .key) in
-      let same : j ≡ k = eqb-true j k t in
-      let low : j < 12 = omega arith in
-      let grown : contents j (fs ++ f ∷ []) ≡ contents j fs ++ f .bytes ∷ [] =
-      contents-more j fs f ∙ ap (λ (l : List (List ℕ)). contents j fs ++ l) (contents-one j f refl)
-      in
-      subst
-      (λ (i : ℕ). Kept v
-      (getD (set (seen .count) j (min 2 (getD (seen .count) j 0 + 1))) i 0)
-      (getD (set (seen .start) j a) i 0)
-      (getD (set (seen .end) j e) i 0)
-      (contents i (fs ++ f ∷ [])))
-      same
-      (rw (
-        getD-set-same (seen .count) j (min 2 (getD (seen .count) j 0 + 1)) 0 (rw (h .counts) low),
-        getD-set-same (seen .start) j a 0 (rw (h .starts) low),
-        getD-set-same (seen .end) j e 0 (rw (h .ends) low),
-        grown,
-      ) (kept-more v (contents j fs) a e (f .bytes) (h .kept j low) order inside text))
-  kept-by k small false t =
-      let j = keyNumber (f .key) in
-      let other : j ≡ k → ⊥ = eqb-false j k t in
-      let grown : contents k (fs ++ f ∷ []) ≡ contents k fs =
-      contents-more k fs f ∙ ap (λ (l : List (List ℕ)). contents k fs ++ l) (contents-none k f other) ∙ append-nil (contents k fs)
-      in
-      rw (
-        getD-set-other (seen .count) j k (min 2 (getD (seen .count) j 0 + 1)) 0 (λ p. other (sym p)),
-        getD-set-other (seen .start) j k a 0 (λ p. other (sym p)),
-        getD-set-other (seen .end) j k e 0 (λ p. other (sym p)),
-        grown,
-      ) (h .kept k small)
+      tested (eqb j k)
+      (λ t. rw (
+        eqb-true j k t,
+        getD-set-same (seen .count) k (min 2 (getD (seen .count) k 0 + 1)) 0 (rw (h .counts) small),
+        getD-set-same (seen .start) k a 0 (rw (h .starts) small),
+        getD-set-same (seen .end) k e 0 (rw (h .ends) small),
+        contents-more k fs f,
+        t,
+      ) (kept-more v (contents k fs) a e (f .bytes) (h .kept k small) order inside text))
+      (λ t. let other : k ≡ j → ⊥ = λ p. eqb-false j k t (sym p) in rw (
+        getD-set-other (seen .count) j k (min 2 (getD (seen .count) j 0 + 1)) 0 other,
+        getD-set-other (seen .start) j k a 0 other,
+        getD-set-other (seen .end) j k e 0 other,
+        contents-more k fs f,
+        t,
+        append-nil (contents k fs),
+      ) (h .kept k small))
 
   -- notes of fields with one more
   pub notes-more : Notes v (notedIn seen (keyNumber (f .key)) a e) (fs ++ f ∷ [])
@@ -130,7 +95,7 @@ module _ (v : List ℕ) (seen : Seen) (fs : List Field) (f : Field) (a e : ℕ) 
     starts = length-set (seen .start) (keyNumber (f .key)) _ ∙ h .starts;
     ends = length-set (seen .end) (keyNumber (f .key)) _ ∙ h .ends;
     total = omega (arith, h .total, length-append fs (f ∷ []));
-    kept = λ k small. kept-by k small (eqb (keyNumber (f .key)) k) refl;
+    kept = kept-next;
   }
 
 -- a scan that has passed the fields of the pieces before byte at
@@ -153,12 +118,6 @@ no-notes v = record {
 
 pub progress-none : (v : List ℕ) → Progress v noneSeen 0
 progress-none v = record { fields = []; notes = no-notes v; rest = sym (before-nil (fieldsIn (pieces v))) }
-
-drop-take : (s n : ℕ) (l : List ℕ) → drop s (take n l) ≡ take (n - s) (drop s l)
-drop-take zero n l = ap (λ (i : ℕ). take i l) (sym (sub-zero n))
-drop-take (suc s) zero l = ap (λ (i : ℕ). take i (drop (suc s) l)) (sym (zero-sub (suc s)))
-drop-take (suc s) (suc n) [] = sym (take-nil (suc n - suc s))
-drop-take (suc s) (suc n) (x ∷ l) = drop-take s n l ∙ ap (λ (i : ℕ). take i (drop s l)) (sym (suc-sub-suc n s))
 
 first-piece : (w : List ℕ) → 0 < length w → pieces w ≡ take (length (upTo semicolon w)) w ∷ pieces (drop (suc (length (upTo semicolon w))) w)
 first-piece [] h = absurd (not-suc-le-zero h)
@@ -191,22 +150,14 @@ good-inside p e =
     omega (arith, ap length whole, length-append (upTo colon p) (colon ∷ after colon p))
 
 -- what an answer of the code says of a piece
-answered-by : (k n : ℕ) (t : Bool) (key start : ℕ) → cond t (Piece.Field k n) Piece.Bad ≡ Piece.Field key start → (t ≡ true) × (key ≡ k) × (start ≡ n)
-answered-by k n true key start e = (refl, cc, cc)
-answered-by k n false key start e = absurd (let z : _≡_ {A = ℕ} 0 1 = cc in omega arith)
-
 pub answered : (p : List ℕ) (key start : ℕ) → pieceAnswer p ≡ Piece.Field key start
     → (pieceGood p ≡ true) × (key ≡ keyNumber (upTo colon p)) × (start ≡ length (upTo colon p) + 1)
 unfolding pieceAnswer
-answered p key start e = answered-by (keyNumber (upTo colon p)) (length (upTo colon p) + 1) (pieceGood p) key start e
-
-unanswered-by : (k n : ℕ) (t : Bool) → cond t (Piece.Field k n) Piece.Bad ≡ Piece.Bad → t ≡ false
-unanswered-by k n true e = absurd (let z : _≡_ {A = ℕ} 0 1 = cc in omega arith)
-unanswered-by k n false e = refl
+answered p key start e = tested (pieceGood p) (λ g. (g, cc, cc)) (λ g. absurd (let z : _≡_ {A = ℕ} 0 1 = cc in omega arith))
 
 pub unanswered : (p : List ℕ) → pieceAnswer p ≡ Piece.Bad → pieceGood p ≡ false
 unfolding pieceAnswer
-unanswered p e = unanswered-by (keyNumber (upTo colon p)) (length (upTo colon p) + 1) (pieceGood p) e
+unanswered p e = tested (pieceGood p) (λ g. absurd (let z : _≡_ {A = ℕ} 0 1 = cc in omega arith)) (λ g. g)
 
 module _ (v : List ℕ) (seen : Seen) (at end : ℕ) (h : Progress v seen at) (inside : at < length v) (e : Ends v at end) where
   -- a scan with one piece more
@@ -220,7 +171,7 @@ module _ (v : List ℕ) (seen : Seen) (at end : ℕ) (h : Progress v seen at) (i
       let left-is : end - (at + start) ≡ end - at - start = omega arith in
       let text : cut v (at + start) end ≡ after colon p =
       ap₂ (λ (i : ℕ) (l : List ℕ). take i l) left-is (sym (drop-drop start at v))
-      ∙ sym (drop-take start (end - at) (drop at v))
+      ∙ sym (drop-take (drop at v) start (end - at) (omega arith) (omega (arith, length-drop at v, e .within)))
       ∙ ap (λ (i : ℕ). drop i p) (a .2 ∙ add-one _)
       ∙ dropped-after colon p
       in
@@ -230,18 +181,17 @@ module _ (v : List ℕ) (seen : Seen) (at end : ℕ) (h : Progress v seen at) (i
             subst (λ (i : ℕ). Notes v (notedIn seen i (at + start) end) (h .fields ++ f ∷ [])) (sym (a .1))
             (notes-more v seen (h .fields) f (at + start) end (h .notes) (omega (arith, e .is)) (e .within) (ap decoded text ∙ piece-field p (a .0) .bytes-are));
         rest = h .rest ∙ ap (λ (ps : List (List ℕ)). before (h .fields) (fieldsIn ps)) (next-piece v at end inside e)
-            ∙ good-next (h .fields) f p (pieces (drop (end + 1) v)) (piece-good p (a .0));
+            ∙ good-next (h .fields) p (pieces (drop (end + 1) v)) (a .0);
       }
 
   -- a piece that is not good
   pub progress-bad : pieceAnswer (cut v at end) ≡ Piece.Bad → grammar v ≡ none
-  unfolding fieldsIn
+  unfolding fieldsIn fieldOf
   progress-bad answer =
-      let p = cut v at end in
       grammar-some v (omega arith)
       ∙ h .rest
       ∙ ap (λ (ps : List (List ℕ)). before (h .fields) (fieldsIn ps)) (next-piece v at end inside e)
-      ∙ ap (λ (o : Option Field). before (h .fields) (withField o (fieldsIn (pieces (drop (end + 1) v))))) (piece-bad p (unanswered p answer))
+      ∙ simp (unanswered (cut v at end) answer)
 
 -- a scan that has passed all pieces
 pub progress-all : (v : List ℕ) (seen : Seen) (at : ℕ) (h : Progress v seen at) → length v ≤ at → 0 < length v → grammar v ≡ some (h .fields)
@@ -309,15 +259,3 @@ piece-read p at start key good t e s k g both =
     g ∙ ap₂ (λ (i : ℕ) (x : List ℕ). textObeys (ruleAt i) x) key-is (text-is p at start e s)
     in
     piece-is p _ (answer-by p key start t (sym (ap₂ (λ (n : ℕ) (u : Bool). leb 1 n && u) e good-is) ∙ both) key-is (s ∙ ap (λ (n : ℕ). min (n + 1) (length p)) e))
-
-abbrev pub notedAs : Seen → ℕ → ℕ → ℕ → ℕ → ℕ → Seen
-notedAs seen key start end count total = record {
-  count = set (seen .count) key count;
-  start = set (seen .start) key start;
-  end = set (seen .end) key end;
-  total = total;
-}
-
-pub noted-same : (seen : Seen) (key start end count total : ℕ) → count ≡ min 2 (getD (seen .count) key 0 + 1) → total ≡ min 2 (seen .total + 1)
-    → notedAs seen key start end count total ≡ notedIn seen key start end
-noted-same seen key start end count total e f = ap₂ (notedAs seen key start end) e f

@@ -8,7 +8,7 @@ use native.Mathlib.Omega.{arith}
 use lib.Dec.{eqb, leb}
 use lib.ListN.{length, getD, take, drop, replicate, length-replicate}
 use lib.Seq.{take-at}
-use borrow.Author.Tests.{leb-true, leb-false, le-leb, lt-leb}
+use borrow.Author.Tests.{leb-true, le-leb, lt-leb}
 use Rattle.cells.specs.Runs.{fronted}
 use Rattle.cells.specs.Numbers
 use Rattle.cells.proofs.Runs.{length-fronted, fronted-whole}
@@ -17,9 +17,11 @@ use Rattle.base64.specs.declared.Decoded.{Decoded}
 use Rattle.base64.specs.Decoding.{Decoding, nothing, bytes, decoded}
 use Rattle.base64.specs.InnerAnswers.{sizeOf, measured, Outcome, outcome, pickOutcome, into, decodedInto}
 use Rattle.armor.specs.Numerals.{isNumeral, isNumber, isMask, maskOf}
-use Rattle.armor.specs.Keys.{Rule, number, mask, sized, free, obeys}
-use Rattle.armor.specs.Value.{decodedObeys, textObeys}
-use Rattle.armor.proofs.Numerals.{both, numeral-parts, mask-parts}
+use Rattle.armor.specs.Keys.{Rule, number, mask, sized, obeys}
+use Rattle.armor.specs.Value.{decodedObeys, textObeys, held}
+use Rattle.cells.proofs.Tests.{tested}
+use Rattle.armor.proofs.Numerals.{first, second, numeral-parts, mask-parts}
+use Rattle.armor.proofs.Value.{obeyed-parts}
 
 -- by its size
 measured-by : (rule : Rule) (d : Decoding) → sizeOf d ≡ Measured.Bad → decodedObeys rule d ≡ false
@@ -30,28 +32,15 @@ pub measured-bad : (rule : Rule) (text : List ℕ) → measured text ≡ Measure
 unfolding measured textObeys
 measured-bad rule text e = measured-by rule (decoded text) e
 
-sized-by : (d : Decoding) (n low high : ℕ) → sizeOf d ≡ Measured.Bytes n → decodedObeys (sized low high) d ≡ (leb 1 n && (leb low n && leb n high))
-unfolding obeys
-sized-by nothing n low high e = absurd (let z : _≡_ {A = ℕ} 0 1 = cc in omega arith)
-sized-by (bytes bs) n low high e =
-    let size : length bs ≡ n = cc in
-    ap (λ (k : ℕ). leb 1 k && (leb low k && leb k high)) size
+size-by : (rule : Rule) (f : ℕ → Bool) → ((bs : List ℕ) → obeys rule bs ≡ f (length bs)) → (d : Decoding) (n : ℕ) → sizeOf d ≡ Measured.Bytes n
+    → decodedObeys rule d ≡ (leb 1 n && f n)
+size-by rule f h nothing n e = absurd (let z : _≡_ {A = ℕ} 0 1 = cc in omega arith)
+size-by rule f h (bytes bs) n e = let size : length bs ≡ n = cc in rw (h bs, size)
 
-pub measured-sized : (text : List ℕ) (n low high : ℕ) → measured text ≡ Measured.Bytes n
-    → textObeys (sized low high) text ≡ (leb 1 n && (leb low n && leb n high))
+pub measured-size : (rule : Rule) (f : ℕ → Bool) → ((bs : List ℕ) → obeys rule bs ≡ f (length bs)) → (text : List ℕ) (n : ℕ)
+    → measured text ≡ Measured.Bytes n → textObeys rule text ≡ (leb 1 n && f n)
 unfolding measured textObeys
-measured-sized text n low high e = sized-by (decoded text) n low high e
-
-free-by : (d : Decoding) (n : ℕ) → sizeOf d ≡ Measured.Bytes n → decodedObeys free d ≡ (leb 1 n && true)
-unfolding obeys
-free-by nothing n e = absurd (let z : _≡_ {A = ℕ} 0 1 = cc in omega arith)
-free-by (bytes bs) n e =
-    let size : length bs ≡ n = cc in
-    ap (λ (k : ℕ). leb 1 k && true) size
-
-pub measured-free : (text : List ℕ) (n : ℕ) → measured text ≡ Measured.Bytes n → textObeys free text ≡ (leb 1 n && true)
-unfolding measured textObeys
-measured-free text n e = free-by (decoded text) n e
+measured-size rule f h text n e = size-by rule f h (decoded text) n e
 
 -- a text that was decoded into a buffer
 pub record Filled (text out left : List ℕ) (n : ℕ) : Type 0 where
@@ -61,53 +50,43 @@ pub record Filled (text out left : List ℕ) (n : ℕ) : Type 0 where
   pub fits : length run ≤ length out
   pub front : left ≡ fronted run out
 
-filled-by : (text out left : List ℕ) (n : ℕ) (bs : List ℕ) (t : Bool) → decoded text ≡ bytes bs → leb (length bs) (length out) ≡ t
-    → outcome (Decoded.Bytes n) left ≡ pickOutcome t (outcome (Decoded.Bytes (length bs)) (fronted bs out)) (outcome Decoded.TooLong out)
-    → Filled text out left n
-filled-by text out left n bs true d t e =
-    let answer : Decoded.Bytes n ≡ Decoded.Bytes (length bs) = ap (λ (o : Outcome). o .answer) e in
-    record {
-      run = bs;
-      is = d;
-      size = cc;
-      fits = leb-true (length bs) (length out) t;
-      front = ap (λ (o : Outcome). o .out) e;
-    }
-filled-by text out left n bs false d t e =
-    let answer : Decoded.Bytes n ≡ Decoded.TooLong = ap (λ (o : Outcome). o .answer) e in
-    absurd (let z : _≡_ {A = ℕ} 0 1 = cc in omega arith)
-
-filled-from : (text out left : List ℕ) (n : ℕ) (d : Decoding) → decoded text ≡ d → outcome (Decoded.Bytes n) left ≡ into d out → Filled text out left n
-filled-from text out left n nothing p e =
+filled-by : (text out left : List ℕ) (n : ℕ) (d : Decoding) → decoded text ≡ d → outcome (Decoded.Bytes n) left ≡ into d out → Filled text out left n
+filled-by text out left n nothing p e =
     let answer : Decoded.Bytes n ≡ Decoded.Bad = ap (λ (o : Outcome). o .answer) e in
     absurd (let z : _≡_ {A = ℕ} 0 1 = cc in omega arith)
-filled-from text out left n (bytes bs) p e = filled-by text out left n bs (leb (length bs) (length out)) p refl e
+filled-by text out left n (bytes bs) p e =
+    tested (leb (length bs) (length out))
+    (λ t. let same = rw t at e in
+    let answer : Decoded.Bytes n ≡ Decoded.Bytes (length bs) = ap (λ (o : Outcome). o .answer) same in
+    record { run = bs; is = p; size = cc; fits = leb-true (length bs) (length out) t; front = ap (λ (o : Outcome). o .out) same })
+    (λ t. let answer : Decoded.Bytes n ≡ Decoded.TooLong = ap (λ (o : Outcome). o .answer) (rw t at e) in
+    absurd (let z : _≡_ {A = ℕ} 0 1 = cc in omega arith))
 
 pub filled : (text out left : List ℕ) (n : ℕ) (r : Decoded) → r ≡ Decoded.Bytes n → outcome r left ≡ decodedInto text out → Filled text out left n
 unfolding decodedInto
 filled text out left n r p e =
-    filled-from text out left n (decoded text) refl (ap (λ (d : Decoded). outcome d left) (sym p) ∙ e)
+    filled-by text out left n (decoded text) refl (ap (λ (d : Decoded). outcome d left) (sym p) ∙ e)
+
+-- a text whose bytes fit is decoded
+pub decoded-fits : (text out left bs : List ℕ) (r : Decoded) → outcome r left ≡ decodedInto text out → decoded text ≡ bytes bs → length bs ≤ length out
+    → (r ≡ Decoded.Bytes (length bs)) × (left ≡ fronted bs out)
+unfolding decodedInto
+decoded-fits text out left bs r e d few =
+    let whole : outcome r left ≡ outcome (Decoded.Bytes (length bs)) (fronted bs out) =
+    e
+    ∙ ap (λ (x : Decoding). into x out) d
+    ∙ ap (λ (t : Bool). pickOutcome t (outcome (Decoded.Bytes (length bs)) (fronted bs out)) (outcome Decoded.TooLong out)) (le-leb (length bs) (length out) few)
+    in
+    (ap (λ (o : Outcome). o .answer) whole, ap (λ (o : Outcome). o .out) whole)
 
 -- a text that was not decoded does not keep a rule by which its bytes would fit the buffer
-unfilled-by : (rule : Rule) (out left bs : List ℕ) (r : Decoded) (t : Bool) → ((b : List ℕ) → obeys rule b ≡ true → length b ≤ length out)
-    → ((n : ℕ) → r ≡ Decoded.Bytes n → ⊥) → leb (length bs) (length out) ≡ t
-    → outcome r left ≡ pickOutcome t (outcome (Decoded.Bytes (length bs)) (fronted bs out)) (outcome Decoded.TooLong out)
-    → (u : Bool) → obeys rule bs ≡ u → u ≡ false
-unfilled-by rule out left bs r true room not t e u o = absurd (not (length bs) (ap (λ (o : Outcome). o .answer) e))
-unfilled-by rule out left bs r false room not t e true o = absurd (omega (arith, room bs o, leb-false (length bs) (length out) t))
-unfilled-by rule out left bs r false room not t e false o = refl
-
-unfilled-from : (rule : Rule) (out left : List ℕ) (r : Decoded) (d : Decoding) → ((b : List ℕ) → obeys rule b ≡ true → length b ≤ length out)
-    → ((n : ℕ) → r ≡ Decoded.Bytes n → ⊥) → outcome r left ≡ into d out → decodedObeys rule d ≡ false
-unfilled-from rule out left r nothing room not e = refl
-unfilled-from rule out left r (bytes bs) room not e =
-    ap (λ (t : Bool). leb 1 (length bs) && t) (unfilled-by rule out left bs r (leb (length bs) (length out)) room not refl e (obeys rule bs) refl)
-    ∙ and-false (leb 1 (length bs))
-
 pub unfilled : (rule : Rule) (text out left : List ℕ) (r : Decoded) → ((b : List ℕ) → obeys rule b ≡ true → length b ≤ length out)
     → ((n : ℕ) → r ≡ Decoded.Bytes n → ⊥) → outcome r left ≡ decodedInto text out → textObeys rule text ≡ false
-unfolding decodedInto textObeys
-unfilled rule text out left r room not e = unfilled-from rule out left r (decoded text) room not e
+unfolding textObeys
+unfilled rule text out left r room not e =
+    let bs = held (decoded text) in
+    tested (textObeys rule text) (λ t. let d = obeyed-parts rule (decoded text) t in
+    absurd (not (length bs) (decoded-fits text out left bs r e (d .0) (room bs (d .2)) .0))) (λ t. t)
 
 -- how many bytes a rule allows
 pub number-room : (b : List ℕ) → obeys number b ≡ true → length b ≤ 4
@@ -121,9 +100,7 @@ mask-room (n ∷ bs) e = (omega arith, omega (arith, numeral-parts 8 bs (mask-pa
 
 pub sized-room : (low high : ℕ) (b : List ℕ) → obeys (sized low high) b ≡ true → (low ≤ length b) × (length b ≤ high)
 unfolding obeys
-sized-room low high b e =
-    let p = both (leb low (length b)) (leb (length b) high) e in
-    (leb-true low (length b) (p .0), leb-true (length b) high (p .1))
+sized-room low high b e = search (first, second, leb-true)
 
 -- bytes at the front of a buffer
 pub front-taken : (run out : List ℕ) (n : ℕ) {left : List ℕ} → left ≡ fronted run out → n ≡ length run → take n left ≡ run
@@ -157,18 +134,6 @@ mask-test (b ∷ bs) out n {left} e s more =
     (sym (ap₂ (λ (l : List ℕ) (k : ℕ). eqb (getD l 0 0) k && isNumeral 8 (take k (drop 1 l))) e size
     ∙ ap (λ (l : List ℕ). eqb b (length bs) && isNumeral 8 l) (take-at bs (drop (length (b ∷ bs)) out) (length bs) refl)))
 
--- a text whose bytes fit is decoded
-pub decoded-fits : (text out left bs : List ℕ) (r : Decoded) → outcome r left ≡ decodedInto text out → decoded text ≡ bytes bs → length bs ≤ length out
-    → (r ≡ Decoded.Bytes (length bs)) × (left ≡ fronted bs out)
-unfolding decodedInto
-decoded-fits text out left bs r e d few =
-    let whole : outcome r left ≡ outcome (Decoded.Bytes (length bs)) (fronted bs out) =
-    e
-    ∙ ap (λ (x : Decoding). into x out) d
-    ∙ ap (λ (t : Bool). pickOutcome t (outcome (Decoded.Bytes (length bs)) (fronted bs out)) (outcome Decoded.TooLong out)) (le-leb (length bs) (length out) few)
-    in
-    (ap (λ (o : Outcome). o .answer) whole, ap (λ (o : Outcome). o .out) whole)
-
 pub bytes-same : {r : Decoded} {m n : ℕ} → r ≡ Decoded.Bytes m → r ≡ Decoded.Bytes n → n ≡ m
 bytes-same p q = cc
 
@@ -177,11 +142,8 @@ filled-within {out = out} f = omega (arith, f .size, f .fits, ap length (f .fron
 
 -- a size that was measured
 pub sized-test : (n low high : ℕ) → 1 ≤ low → (leb 1 n && (leb low n && leb n high)) ≡ (leb low n && leb n high)
-sized-test n low high one = by (leb low n) refl
-  where
-    by : (t : Bool) → leb low n ≡ t → (leb 1 n && (t && leb n high)) ≡ (t && leb n high)
-    by true e = let more : 1 ≤ n = omega (arith, leb-true low n e) in simp (le-leb 1 n more)
-    by false e = and-false (leb 1 n)
+sized-test n low high one =
+    tested (leb low n) (λ e. simp (le-leb 1 n (omega (arith, leb-true low n e)))) (λ e. rw e (and-false (leb 1 n)))
 
 -- a mask's bytes after its length byte
 pub mask-taken : (bs out : List ℕ) (n : ℕ) {left : List ℕ} → 1 ≤ length bs → left ≡ fronted bs out → n ≡ length bs

@@ -2,11 +2,11 @@
 -- Assumes nothing.
 use mathlib.Core.Path.{_≡_, refl, sym, ap, ap₂, subst, _∙_}
 use mathlib.Core.Logic.{_↔_, _⊎_, inl, inr, ⊎-elim}
-use mathlib.Core.Bool.{Bool, true, false, cond}
+use mathlib.Core.Bool.{true}
 use mathlib.Core.List.{List, [], _∷_, _++_, append-assoc}
 use mathlib.Core.Option.{Option, none, some}
-use Prim.Native.Nat.{ℕ, zero, suc, _<_, _≤_}
-use native.Mathlib.Nat.{not-suc-le-zero, le-of-suc-le-suc}
+use Prim.Native.Nat.{ℕ, suc, _<_, _≤_}
+use native.Mathlib.Nat.{not-suc-le-zero}
 use native.Mathlib.Omega.{arith}
 use lib.Dec.{eqb, leb}
 use lib.ListN.{length, length-append, List·getD-append}
@@ -19,8 +19,9 @@ use Rattle.armor.specs.Pieces.{colon, semicolon, upTo, after, onto, piec
 use Rattle.armor.specs.Keys.{Rule, obeys, ruleOf}
 use Rattle.armor.specs.Value.{Field, field, Formed, AllFormed, fieldText, joined, textsOf, allGood, ValueOf, decodedObeys, textObeys, pieceGood, pieceField, fieldOf, withField, fieldsIn, grammar}
 use Rattle.armor.specs.Value
-use Rattle.armor.proofs.Numerals.{both, at-once}
-use Rattle.armor.proofs.Pieces.{upTo-without, split-at-first, upTo-joined, after-joined, upTo-whole, after-whole, pieces-cut, without-rest}
+use Rattle.cells.proofs.Tests.{tested, both}
+use Rattle.armor.proofs.Numerals.{at-once}
+use Rattle.armor.proofs.Pieces.{without-none, without-first, without-rest, upTo-without, split-at-first, upTo-joined, after-joined, pieces-cut, pieces-one, pieces-next}
 
 -- what a piece has to be for it to be a field
 pub record IsField (p : List ℕ) (f : Field) : Type 0 where
@@ -30,7 +31,7 @@ pub record IsField (p : List ℕ) (f : Field) : Type 0 where
   pub held : 0 < length (f .bytes)
   pub good : obeys (ruleOf (f .key)) (f .bytes) ≡ true
 
-obeyed-parts : (rule : Rule) (d : Decoding) → decodedObeys rule d ≡ true
+pub obeyed-parts : (rule : Rule) (d : Decoding) → decodedObeys rule d ≡ true
     → (d ≡ bytes (Value.held d)) × (1 ≤ length (Value.held d)) × (obeys rule (Value.held d) ≡ true)
 obeyed-parts rule nothing e = absurd (let z : _≡_ {A = ℕ} 0 1 = cc in omega arith)
 obeyed-parts rule (bytes bs) e =
@@ -45,13 +46,11 @@ piece-field p e =
     let d = obeyed-parts (ruleOf key) (decoded (after colon p)) (h .1) in
     record { key-is = refl; bytes-are = d .0; named = leb-true 1 (length key) (h .0); held = d .1; good = d .2 }
 
-field-by : (p : List ℕ) (f : Field) (t : Bool) → pieceGood p ≡ t → cond t (some (pieceField p)) none ≡ some f → IsField p f
-field-by p f true g e = let same : pieceField p ≡ f = cc in subst (IsField p) same (piece-field p g)
-field-by p f false g e = absurd (let z : _≡_ {A = ℕ} 0 1 = cc in omega arith)
-
 field-of : (p : List ℕ) (f : Field) → fieldOf p ≡ some f → IsField p f
 unfolding fieldOf
-field-of p f e = field-by p f (pieceGood p) refl e
+field-of p f e =
+    tested (pieceGood p) (λ g. let same : pieceField p ≡ f = cc in subst (IsField p) same (piece-field p g))
+    (λ g. absurd (let z : _≡_ {A = ℕ} 0 1 = cc in omega arith))
 
 of-field : (p : List ℕ) (f : Field) → IsField p f → fieldOf p ≡ some f
 unfolding fieldOf pieceGood textObeys
@@ -76,13 +75,10 @@ text-field f h good = record { key-is = text-key f h; bytes-are = text-content f
 -- runs without a byte, joined and taken apart
 without-joined : (b : ℕ) (xs ys : List ℕ) → Without b xs → Without b ys → Without b (xs ++ ys)
 without-joined b [] ys h g = g
-without-joined b (x ∷ xs) ys h g = λ i. elim i [ zero ↦ λ inside. h 0 (omega arith) | suc j ↦ λ inside. without-joined b xs ys (without-rest b x xs h) g j (le-of-suc-le-suc inside) ]
+without-joined b (x ∷ xs) ys h g = without-first b x (xs ++ ys) (h 0 (omega arith)) (without-joined b xs ys (without-rest b x xs h) g)
 
 without-front : (b : ℕ) (xs ys : List ℕ) → Without b (xs ++ ys) → Without b xs
 without-front b xs ys h i inside e = h i (omega (arith, length-append xs ys)) (List·getD-append xs ys 0 i inside ∙ e)
-
-encoded-some : (bs : List ℕ) → 0 < length bs → 0 < length (encoded bs)
-encoded-some bs h = omega (arith, length-encoded bs)
 
 -- a piece without ; that is a field is that field's text
 field-text : (p : List ℕ) (f : Field) → Without semicolon p → IsField p f → (p ≡ fieldText f) × Formed f
@@ -90,7 +86,7 @@ unfolding fieldText
 field-text p f no-semicolon h =
     let are-bytes = decoded-bytes (after colon p) (f .bytes) (h .bytes-are) in
     let text : after colon p ≡ encoded (f .bytes) = decoded-exactly (after colon p) (f .bytes) are-bytes .0 (h .bytes-are) in
-    let there : 0 < length (after colon p) = rw text (encoded-some (f .bytes) (h .held)) in
+    let there : 0 < length (after colon p) = rw text (omega (arith, length-encoded (f .bytes), h .held)) in
     let whole : p ≡ f .key ++ colon ∷ encoded (f .bytes) =
     split-at-first colon p there ∙ ap₂ (λ (k t : List ℕ). k ++ colon ∷ t) (h .key-is) text
     in (
@@ -104,33 +100,17 @@ field-text p f no-semicolon h =
       },
     )
 
-without-colon-first : (xs : List ℕ) → Without semicolon xs → Without semicolon (colon ∷ xs)
-without-colon-first xs h = λ i. elim i [ zero ↦ λ inside e. omega arith | suc j ↦ λ inside. h j (le-of-suc-le-suc inside) ]
-
 text-without : (f : Field) → Formed f → Without semicolon (fieldText f)
 unfolding fieldText
 text-without f h =
     without-joined semicolon (f .key) (colon ∷ encoded (f .bytes)) (h .no-semicolon)
-    (without-colon-first (encoded (f .bytes)) (encoded-no-semicolon (f .bytes)))
+    (without-first semicolon colon (encoded (f .bytes)) (λ e. omega arith) (encoded-no-semicolon (f .bytes)))
 
 text-some : (f : Field) → Formed f → 0 < length (fieldText f)
 unfolding fieldText
 text-some f h = omega (arith, h .named, length-append (f .key) (colon ∷ encoded (f .bytes)))
 
 -- the pieces of joined texts
-pieces-first : (w : List ℕ) → 0 < length w → pieces w ≡ upTo semicolon w ∷ pieces (after semicolon w)
-pieces-first [] h = absurd (not-suc-le-zero h)
-pieces-first (x ∷ xs) h = pieces-cut x xs
-
-pieces-one : (p : List ℕ) → 0 < length p → Without semicolon p → pieces p ≡ p ∷ []
-unfolding pieces
-pieces-one p more h = pieces-first p more ∙ ap₂ (λ (x y : List ℕ). x ∷ pieces y) (upTo-whole semicolon p h) (after-whole semicolon p h)
-
-pieces-next : (p w : List ℕ) → Without semicolon p → pieces (p ++ semicolon ∷ w) ≡ p ∷ pieces w
-pieces-next p w h =
-    pieces-first (p ++ semicolon ∷ w) (omega (arith, length-append p (semicolon ∷ w)))
-    ∙ ap₂ (λ (x y : List ℕ). x ∷ pieces y) (upTo-joined semicolon p w h) (after-joined semicolon p w h)
-
 pieces-texts : (fs : List Field) → AllFormed fs → pieces (joined (textsOf fs)) ≡ textsOf fs
 unfolding joined textsOf pieces
 pieces-texts [] h = refl
@@ -154,26 +134,24 @@ fields-texts (f ∷ fs) h good =
     let g = both (obeys (ruleOf (f .key)) (f .bytes)) (allGood fs) good in
     ap₂ withField (of-field (fieldText f) f (text-field f (h .0) (g .0))) (fields-texts fs (h .1) (g .1))
 
-joined-some : (fs : List Field) → 0 < length fs → AllFormed fs → 0 < length (joined (textsOf fs))
-unfolding joined textsOf
-joined-some [] more h = absurd (not-suc-le-zero more)
-joined-some (f ∷ []) more h = text-some f (h .0)
-joined-some (f ∷ g ∷ fs) more h = omega (arith, text-some f (h .0), length-append (fieldText f) (semicolon ∷ joined (textsOf (g ∷ fs))))
+length-texts : (fs : List Field) → length (textsOf fs) ≡ length fs
+unfolding textsOf
+length-texts [] = refl
+length-texts (f ∷ fs) = ap suc (length-texts fs)
+
+pieces-value : (v : List ℕ) (fs : List Field) → ValueOf v fs → pieces v ≡ textsOf fs
+pieces-value v fs h =
+    ⊎-elim (λ e. ap pieces e ∙ pieces-texts fs (h .formed)) (λ e. ap pieces e ∙ pieces-closed fs (h .one-or-more) (h .formed)) (h .text)
 
 pub grammar-some : (v : List ℕ) → 0 < length v → grammar v ≡ fieldsIn (pieces v)
 unfolding grammar
 grammar-some [] h = absurd (not-suc-le-zero h)
 grammar-some (x ∷ xs) h = refl
 
-grammar-by : (v : List ℕ) (fs : List Field) → 0 < length fs → AllFormed fs → allGood fs ≡ true
-    → (v ≡ joined (textsOf fs)) ⊎ (v ≡ joined (textsOf fs) ++ semicolon ∷ []) → grammar v ≡ some fs
-grammar-by v fs more h good (inl e) =
-    ap grammar e ∙ grammar-some _ (joined-some fs more h) ∙ ap fieldsIn (pieces-texts fs h) ∙ fields-texts fs h good
-grammar-by v fs more h good (inr e) =
-    ap grammar e
-    ∙ grammar-some _ (omega (arith, length-append (joined (textsOf fs)) (semicolon ∷ [])))
-    ∙ ap fieldsIn (pieces-closed fs more h)
-    ∙ fields-texts fs h good
+of-value : (v : List ℕ) (fs : List Field) → ValueOf v fs → allGood fs ≡ true → grammar v ≡ some fs
+unfolding grammar pieces
+of-value [] fs h good = absurd (omega (arith, ap length (pieces-value [] fs h), length-texts fs, h .one-or-more))
+of-value (x ∷ xs) fs h good = ap fieldsIn (pieces-value (x ∷ xs) fs h) ∙ fields-texts fs (h .formed) good
 
 -- pieces have no ;
 abbrev AllWithout : List (List ℕ) → Type 0
@@ -181,17 +159,15 @@ AllWithout [] = Unit
 AllWithout (p ∷ ps) = Without semicolon p × AllWithout ps
 
 onto-without : (x : ℕ) (ps : List (List ℕ)) → (x ≡ semicolon → ⊥) → AllWithout ps → AllWithout (onto x ps)
-onto-without x [] ne h = (λ i. elim i [ zero ↦ λ inside. ne | suc j ↦ λ inside. absurd (not-suc-le-zero (le-of-suc-le-suc inside)) ], tt)
-onto-without x (p ∷ ps) ne h = (λ i. elim i [ zero ↦ λ inside. ne | suc j ↦ λ inside. h .0 j (le-of-suc-le-suc inside) ], h .1)
-
-without-by : (x : ℕ) (ps : List (List ℕ)) (t : Bool) → eqb x semicolon ≡ t → AllWithout ps → AllWithout (cond t ([] ∷ ps) (onto x ps))
-without-by x ps true e h = (λ i inside. absurd (not-suc-le-zero inside), h)
-without-by x ps false e h = onto-without x ps (eqb-false x semicolon e) h
+onto-without x [] ne h = (without-first semicolon x [] ne (without-none semicolon), tt)
+onto-without x (p ∷ ps) ne h = (without-first semicolon x p ne (h .0), h .1)
 
 pieces-without : (v : List ℕ) → AllWithout (pieces v)
 unfolding pieces
 pieces-without [] = tt
-pieces-without (x ∷ xs) = without-by x (pieces xs) (eqb x semicolon) refl (pieces-without xs)
+pieces-without (x ∷ xs) =
+    tested (eqb x semicolon) (λ e. rw e (without-none semicolon, pieces-without xs))
+    (λ e. rw e (onto-without x (pieces xs) (eqb-false x semicolon e) (pieces-without xs)))
 
 -- a value is its pieces, joined again
 abbrev Joins : List ℕ → List (List ℕ) → Type 0
@@ -203,34 +179,17 @@ joined-onto x [] = refl
 joined-onto x (p ∷ []) = refl
 joined-onto x (p ∷ q ∷ ps) = refl
 
-joins-onto : (x : ℕ) (v : List ℕ) (ps : List (List ℕ)) → Joins v ps → Joins (x ∷ v) (onto x ps)
-joins-onto x v ps (inl e) = inl (ap (λ (l : List ℕ). x ∷ l) e ∙ sym (joined-onto x ps))
-joins-onto x v ps (inr e) =
-    inr (ap (λ (l : List ℕ). x ∷ l) e ∙ ap (λ (l : List ℕ). l ++ semicolon ∷ []) (sym (joined-onto x ps)))
-
-joins-empty : (v p : List ℕ) (ps : List (List ℕ)) → Joins v (p ∷ ps) → Joins (semicolon ∷ v) ([] ∷ p ∷ ps)
-unfolding joined
-joins-empty v p ps (inl e) = inl (ap (λ (l : List ℕ). semicolon ∷ l) e)
-joins-empty v p ps (inr e) = inr (ap (λ (l : List ℕ). semicolon ∷ l) e)
-
-joins-by : (x : ℕ) (v p : List ℕ) (ps : List (List ℕ)) (t : Bool) → eqb x semicolon ≡ t → Joins v (p ∷ ps)
-    → Joins (x ∷ v) (cond t ([] ∷ p ∷ ps) (onto x (p ∷ ps)))
-joins-by x v p ps true e h = subst (λ (y : ℕ). Joins (y ∷ v) ([] ∷ p ∷ ps)) (sym (eqb-true x semicolon e)) (joins-empty v p ps h)
-joins-by x v p ps false e h = joins-onto x v (p ∷ ps) h
-
-joins-last : (x : ℕ) (t : Bool) → eqb x semicolon ≡ t → Joins (x ∷ []) (cond t ([] ∷ []) (onto x []))
-unfolding joined
-joins-last x true e = inr (ap (λ (y : ℕ). y ∷ []) (eqb-true x semicolon e))
-joins-last x false e = inl refl
-
-joins : (v : List ℕ) → Joins v (pieces v)
+joined-more : (x y : ℕ) (ys : List ℕ) → joined (pieces (x ∷ y ∷ ys)) ≡ x ∷ joined (pieces (y ∷ ys))
 unfolding pieces joined
-joins [] = inl refl
-joins (x ∷ []) = joins-last x (eqb x semicolon) refl
-joins (x ∷ y ∷ ys) =
-    let next : pieces (y ∷ ys) ≡ upTo semicolon (y ∷ ys) ∷ pieces (after semicolon (y ∷ ys)) = pieces-cut y ys in
-    subst (λ (ps : List (List ℕ)). Joins (x ∷ y ∷ ys) (cond (eqb x semicolon) ([] ∷ ps) (onto x ps))) (sym next)
-    (joins-by x (y ∷ ys) _ _ (eqb x semicolon) refl (subst (Joins (y ∷ ys)) next (joins (y ∷ ys))))
+joined-more x y ys =
+    tested (eqb x semicolon) (λ e. rw (e, pieces-cut y ys, eqb-true x semicolon e)) (λ e. rw e (joined-onto x (pieces (y ∷ ys))))
+
+joins : (x : ℕ) (xs : List ℕ) → Joins (x ∷ xs) (pieces (x ∷ xs))
+unfolding pieces joined
+joins x [] = tested (eqb x semicolon) (λ e. rw e (inr (ap (λ (y : ℕ). y ∷ []) (eqb-true x semicolon e)))) (λ e. rw e (inl refl))
+joins x (y ∷ ys) =
+    let more = joined-more x y ys in
+    ⊎-elim (λ e. inl (rw more (ap (λ (l : List ℕ). x ∷ l) e))) (λ e. inr (rw more (ap (λ (l : List ℕ). x ∷ l) e))) (joins y ys)
 
 -- pieces that are fields are the texts of these, and these keep their rules
 abbrev Texts : List (List ℕ) → List Field → Type 0
@@ -253,11 +212,6 @@ unfolding fieldsIn textsOf allGood
 texts-of [] w fs e = let are : _≡_ {A = List Field} [] fs = cc in subst (Texts []) are (refl, tt, refl)
 texts-of (p ∷ ps) w fs e = texts-by p ps fs (fieldOf p) (fieldsIn ps) refl (w .0) (texts-of ps (w .1)) e
 
-texts-some : (fs : List Field) {p : List ℕ} {ps : List (List ℕ)} → p ∷ ps ≡ textsOf fs → 0 < length fs
-unfolding textsOf
-texts-some [] e = absurd (let z : _≡_ {A = ℕ} 0 1 = cc in omega arith)
-texts-some (f ∷ fs) e = omega arith
-
 value-of : (v : List ℕ) (fs : List Field) → grammar v ≡ some fs → ValueOf v fs × (allGood fs ≡ true)
 unfolding grammar
 value-of [] fs e = absurd (let z : _≡_ {A = ℕ} 0 1 = cc in omega arith)
@@ -265,16 +219,16 @@ value-of (x ∷ xs) fs e =
     let v = x ∷ xs in
     let parts = texts-of (pieces v) (pieces-without v) fs e in (
       record {
-        one-or-more = texts-some fs (sym (pieces-cut x xs) ∙ parts .0);
+        one-or-more = omega (arith, length-texts fs, ap length (sym (pieces-cut x xs) ∙ parts .0));
         formed = parts .1;
-        text = subst (Joins v) (parts .0) (joins v);
+        text = subst (Joins v) (parts .0) (joins x xs);
       },
       parts .2,
     )
 
 -- the fields that are found are those whose text the value is, where they keep their rules
 pub grammar-exactly : (v : List ℕ) (fs : List Field) → (grammar v ≡ some fs) ↔ (ValueOf v fs × (allGood fs ≡ true))
-grammar-exactly v fs = (value-of v fs, λ h. grammar-by v fs (h .0 .one-or-more) (h .0 .formed) (h .1) (h .0 .text))
+grammar-exactly v fs = (value-of v fs, λ h. of-value v fs (h .0) (h .1))
 
 -- a value is the text of one list of fields at most, whether these keep their rules or not
 text-same : (f g : Field) → Formed f → Formed g → fieldText f ≡ fieldText g → f ≡ g
@@ -293,10 +247,6 @@ texts-same (f ∷ fs) (g ∷ gs) h k e =
     let first : fieldText f ≡ fieldText g = cc in
     let rest : textsOf fs ≡ textsOf gs = cc in
     ap₂ _∷_ (text-same f g (h .0) (k .0) first) (texts-same fs gs (h .1) (k .1) rest)
-
-pieces-value : (v : List ℕ) (fs : List Field) → ValueOf v fs → pieces v ≡ textsOf fs
-pieces-value v fs h =
-    ⊎-elim (λ e. ap pieces e ∙ pieces-texts fs (h .formed)) (λ e. ap pieces e ∙ pieces-closed fs (h .one-or-more) (h .formed)) (h .text)
 
 pub fields-determined : (v : List ℕ) (fs gs : List Field) → ValueOf v fs → ValueOf v gs → fs ≡ gs
 fields-determined v fs gs h k = texts-same fs gs (h .formed) (k .formed) (sym (pieces-value v fs h) ∙ pieces-value v gs k)

@@ -86,12 +86,10 @@ digit-at (one l u) (suc k) h = absurd (not-suc-le-zero (le-of-suc-le-suc h))
 digit-at (b then ds) zero h = b
 digit-at (b then ds) (suc k) h = digit-at ds k (le-of-suc-le-suc h)
 
-digits-some : {ds : List ℕ} → Digits ds → 1 ≤ length ds
-digits-some (one l u) = omega arith
-digits-some (b then ds) = omega arith
-
 pub decimal-some : (n : ℕ) → 1 ≤ length (decimal n)
-decimal-some n = digits-some (decimal-digits n)
+decimal-some =
+    by-digits (λ (n : ℕ). 1 ≤ length (decimal n)) (λ n h. rw (decimal-small n h) (omega arith))
+    (λ n h more. rw (decimal-split n h, length-append) (omega arith))
 
 digits-bytes : {ds : List ℕ} → Digits ds → Bytes ds
 digits-bytes (one l u) zero = omega arith

@@ -2,7 +2,7 @@
 -- Assumes nothing.
 use mathlib.Core.Path.{_≡_, refl, sym, ap, ap₂, _∙_}
 use mathlib.Core.List.{List, [], _∷_, _++_}
-use mathlib.Core.Bool.{Bool, true, false, false≢true, _&&_, and-true, and-assoc, and-comm, and-eq-true-iff}
+use mathlib.Core.Bool.{Bool, true, false, false≢true, _&&_, and-true, and-assoc, and-comm}
 use Prim.Native.Nat.{ℕ, suc, _+_, _≤_, _<_}
 use native.Mathlib.Numerals.{add-one}
 use native.Mathlib.Omega.{arith}
@@ -12,6 +12,7 @@ use lib.Dec.{eqb}
 use lib.ListN.{length, getD, drop, drop-of-length-le}
 use lib.Seq.{drop-cons}
 use Rattle.cells.specs.Runs.{same}
+use Rattle.cells.proofs.Tests.{both}
 
 pub same-equal : (xs ys : List ℕ) → same xs ys ≡ true → xs ≡ ys
 unfolding same
@@ -19,7 +20,7 @@ same-equal [] [] e = refl
 same-equal [] (y ∷ ys) e = absurd (false≢true e)
 same-equal (x ∷ xs) [] e = absurd (false≢true e)
 same-equal (x ∷ xs) (y ∷ ys) e =
-    let both = and-eq-true-iff (same xs ys) (eqb x y) .0 e in ap₂ _∷_ (eqb-true x y (both .1)) (same-equal xs ys (both .0))
+    let parts = both (same xs ys) (eqb x y) e in ap₂ _∷_ (eqb-true x y (parts .1)) (same-equal xs ys (parts .0))
 
 pub same-self : (xs : List ℕ) → same xs xs ≡ true
 unfolding same
@@ -56,9 +57,9 @@ gathered d x y =
     alike (eqb (bitOr d (bitXor x y)) 0) (eqb d 0 && eqb x y)
     (λ e. let none = eqb-true (bitOr d (bitXor x y)) 0 e in
     rw (eq-eqb d 0 (omega arith)) (eq-eqb x y (omega (arith, xor-add-and x y, and-le-l x y, and-le-r x y))))
-    (λ e. let both = and-eq-true-iff (eqb d 0) (eqb x y) .0 e in
-    ap (λ (n : ℕ). eqb (bitOr n (bitXor x y)) 0) (eqb-true d 0 (both .0))
-    ∙ ap (λ (n : ℕ). eqb (bitOr 0 (bitXor n y)) 0) (eqb-true x y (both .1)) ∙ ap (λ (n : ℕ). eqb (bitOr 0 n) 0) (xor-self y))
+    (λ e. let parts = both (eqb d 0) (eqb x y) e in
+    ap (λ (n : ℕ). eqb (bitOr n (bitXor x y)) 0) (eqb-true d 0 (parts .0))
+    ∙ ap (λ (n : ℕ). eqb (bitOr 0 (bitXor n y)) 0) (eqb-true x y (parts .1)) ∙ ap (λ (n : ℕ). eqb (bitOr 0 n) 0) (xor-self y))
 
 -- a turn of the loop that gathers the differences, and its end
 pub compared-more : (xs ys : List ℕ) (i d : ℕ) → i < length xs → i < length ys → same xs ys ≡ (eqb d 0 && same (drop i xs) (drop i ys))

@@ -1,11 +1,9 @@
--- Laws of runs that all pass a test, of the loops that look for a run's end, and of a test at every number below a bound.
+-- Laws of runs that all pass a test, and of the loops that look for a run's end.
 -- Assumes nothing.
-use mathlib.Core.Path.{_≡_, refl, sym, ap, subst, _∙_}
-use mathlib.Core.Logic.{⊎-elim}
+use mathlib.Core.Path.{_≡_, refl, sym, ap, _∙_}
 use mathlib.Core.List.{List, [], _∷_, _++_}
-use mathlib.Core.Bool.{Bool, true, false, cond, _&&_, and-true, and-eq-true-iff}
-use Prim.Native.Nat.{ℕ, zero, suc, _+_, _-_, _≤_, _<_}
-use native.Mathlib.Nat.{not-suc-le-zero, le-of-suc-le-suc, eq-or-lt-of-le}
+use mathlib.Core.Bool.{Bool, true, false, _&&_, and-true}
+use Prim.Native.Nat.{ℕ, suc, _+_, _-_, _≤_, _<_}
 use native.Mathlib.Numerals.{add-one}
 use native.Mathlib.Omega.{arith}
 use lib.Dec.{eqb, eqb·suc-suc, eqb·zero-suc}
@@ -13,6 +11,7 @@ use lib.ListN.{length, getD, take, drop, drop-of-length-le}
 use lib.Seq.{drop-cons, drop-drop, drop-append-seam}
 use Rattle.cells.specs.Runs.{cut}
 use Rattle.cells.specs.Spans.{all, leading, Spans, Passed}
+use Rattle.cells.proofs.Tests.{tested, both}
 use Rattle.cells.proofs.Cuts.{length-cut, cut-split}
 
 -- elements that all pass, and those after them
@@ -20,8 +19,8 @@ leading-over : (p : ℕ → Bool) (xs ys : List ℕ) → all p xs ≡ true → l
 unfolding all leading
 leading-over p [] ys h = omega arith
 leading-over p (x ∷ xs) ys h =
-    let both = and-eq-true-iff (p x) (all p xs) .0 h in
-    rw (both .0) (ap suc (leading-over p xs ys (both .1)) ∙ omega arith)
+    let parts = both (p x) (all p xs) h in
+    rw (parts .0) (ap suc (leading-over p xs ys (parts .1)) ∙ omega arith)
 
 module _ (p : ℕ → Bool) (xs : List ℕ) where
   -- the loop begins, passes an element, stops at one that fails, and ends
@@ -64,11 +63,8 @@ module _ (p : ℕ → Bool) (xs : List ℕ) where
 pub all-test : (p : ℕ → Bool) (xs : List ℕ) → all p xs ≡ eqb (leading p xs) (length xs)
 unfolding all leading
 all-test p [] = refl
-all-test p (x ∷ xs) = go (p x) (all-test p xs)
-  where
-    go : (b : Bool) → all p xs ≡ eqb (leading p xs) (length xs) → (b && all p xs) ≡ eqb (cond b (suc (leading p xs)) 0) (suc (length xs))
-    go true e = e ∙ sym (eqb·suc-suc (leading p xs) (length xs))
-    go false e = sym (eqb·zero-suc (length xs))
+all-test p (x ∷ xs) =
+    tested (p x) (λ e. rw e (all-test p xs ∙ sym (eqb·suc-suc (leading p xs) (length xs)))) (λ e. rw e (sym (eqb·zero-suc (length xs))))
 
 -- where all of xs pass and the element after them does not, as many as xs has are at the front
 pub leading-append : (p : ℕ → Bool) (xs : List ℕ) (y : ℕ) (ys : List ℕ) → all p xs ≡ true → p y ≡ false → leading p (xs ++ y ∷ ys) ≡ length xs
@@ -79,11 +75,7 @@ leading-append p xs y ys h e = leading-over p xs (y ∷ ys) h ∙ rw e (omega ar
 leading-all : (p : ℕ → Bool) (xs : List ℕ) → all p (take (leading p xs) xs) ≡ true
 unfolding all leading
 leading-all p [] = refl
-leading-all p (x ∷ xs) = go (p x) refl (leading-all p xs)
-  where
-    go : (b : Bool) → p x ≡ b → all p (take (leading p xs) xs) ≡ true → all p (take (cond b (suc (leading p xs)) 0) (x ∷ xs)) ≡ true
-    go true e h = rw e h
-    go false e h = refl
+leading-all p (x ∷ xs) = tested (p x) (λ e. rw (e, e) (leading-all p xs)) (λ e. rw e refl)
 
 -- the part of a run that a span takes passes
 pub span-all : (p : ℕ → Bool) (xs : List ℕ) (a e : ℕ) → Spans p xs a e → all p (cut xs a e) ≡ true
@@ -99,14 +91,3 @@ stops p block xs ys at c y s h t f =
       size,
       ap (λ (k : ℕ). drop k block) size ∙ sym (drop-drop (length xs) at block) ∙ ap (drop (length xs)) h ∙ drop-append-seam xs (y ∷ ys),
     )
-
--- a test that antt computes at every number below n holds at each
-abbrev pub everyBelow : (ℕ → Bool) → ℕ → Bool
-everyBelow f zero = true
-everyBelow f (suc n) = f n && everyBelow f n
-
-pub every-at : (f : ℕ → Bool) (n : ℕ) → everyBelow f n ≡ true → (k : ℕ) → k < n → f k ≡ true
-every-at f zero t k h = absurd (not-suc-le-zero h)
-every-at f (suc n) t k h =
-    let both = and-eq-true-iff (f n) (everyBelow f n) .0 t in
-    ⊎-elim (λ e. subst (λ (m : ℕ). f m ≡ true) (sym e) (both .0)) (λ l. every-at f n (both .1) k l) (eq-or-lt-of-le (le-of-suc-le-suc h))

@@ -9,7 +9,7 @@ use borrow.Author.Tests.{ne-eqb, eqb-true, leb-true}
 use lib.Dec.{eqb, leb}
 use lib.ListN.{length}
 use Rattle.reply.specs.Replies.{invalidation}
-use Rattle.table.proofs.Tests.{both}
+use Rattle.cells.proofs.Tests.{both}
 use Rattle.table.proofs.Records.{length-recordBytes}
 use Rattle.table.proofs.One.{one-place, one-record, one-found}
 use Rattle.table.specs.declared.session.Record.{Record}

@@ -17,7 +17,7 @@ use Rattle.armor.specs.Keys.{keyR}
 use Rattle.armor.specs.Numerals.{maskOf}
 use Rattle.armor.specs.Value.{Field, grammar, carried}
 use Rattle.table.specs.declared.place.Place.the-variants as Place
-use Rattle.table.proofs.Tests.{both}
+use Rattle.cells.proofs.Tests.{both}
 use Rattle.stages.specs.Checks.{Check, check, first, missing}
 use Rattle.stages.proofs.Checks.{none-holds, passed-by, stopped-by, first-small}
 use Rattle.gate.specs.declared.setup.Offer.{Offer}

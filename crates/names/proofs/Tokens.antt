@@ -5,7 +5,7 @@ use mathlib.Core.Bool.{Bool, true, false, cond, Bool·beq}
 use Prim.Native.Nat.{ℕ, _-_, _/_, _%_, _^_, _<_}
 use lib.Dec.{ltb, eqb}
 use Rattle.cells.specs.Text.{codes}
-use Rattle.cells.proofs.Spans.{everyBelow, every-at}
+use Rattle.cells.proofs.Tests.{everyBelow, every-at}
 use Rattle.names.specs.Names.{hasByte, tokenByte}
 
 beq-eq : (a b : Bool) → Bool·beq a b ≡ true → a ≡ b

@@ -7,7 +7,7 @@ use Prim.Native.Nat.{ℕ, _≤_, _<_}
 use native.Mathlib.Omega.{arith}
 use borrow.Author.Tests.{leb-true, ltb-true, eqb-true, eqb-false, ne-eqb, not-true}
 use lib.Dec.{eqb, leb, ltb}
-use Rattle.table.proofs.Tests.{both}
+use Rattle.cells.proofs.Tests.{both}
 use Rattle.stages.specs.Checks.{Check, first}
 
 -- the checks' numbers are not 0

@@ -17,7 +17,8 @@ use Rattle.table.specs.Table.{isUsed, isFree, holds}
 use Rattle.table.specs.WellFormed.{traceless, blank, windowSound, sound, some, fitting, wellFormed, Sound, WellFormed}
 use Rattle.table.proofs.Records.{alike}
 use Rattle.cells.proofs.Equality.{same-equal}
-use Rattle.table.proofs.Tests.{both, refuted, holds-used, used-holds}
+use Rattle.cells.proofs.Tests.{both}
+use Rattle.table.proofs.Tests.{refuted, holds-used, used-holds}
 use Rattle.table.proofs.Found.{some-passes, none-passes}
 
 traceless-is : (r : Record) → traceless r ≡ true → (r .highest .0 ≡ 0) × (r .bits ≡ 0)

@@ -8,11 +8,8 @@ use borrow.Author.Tests.{eqb-true, eq-eqb}
 use Rattle.table.specs.declared.session.Record.{Record}
 use Rattle.cells.specs.Runs.{same}
 use Rattle.table.specs.Table.{holds}
+use Rattle.cells.proofs.Tests.{both}
 use Rattle.cells.proofs.Equality.{same-equal, same-self}
-
-pub both : (a b : Bool) → (a && b) ≡ true → (a ≡ true) × (b ≡ true)
-both true b e = (refl, e)
-both false b e = absurd (false≢true e)
 
 pub refuted : (t : Bool) → (t ≡ true → ⊥) → t ≡ false
 refuted true h = absurd (h refl)

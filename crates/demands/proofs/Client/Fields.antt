@@ -19,9 +19,10 @@ use Rattle.armor.specs.Numerals.{numberBytes, maskBytes, hashMask}
 use Rattle.armor.specs.Keys.{Rule, sized, obeys, keys, rankOf, keyNumber, ruleAt, ruleOf}
 use Rattle.armor.specs.Value.{Field, field, Formed, AllFormed, fieldText, joined, textsOf, following, allGood, grammar}
 use Rattle.armor.proofs.Numerals.{length-numberBytes, length-maskBytes, bytes-numberBytes, bytes-maskBytes, number-is, mask-is}
+use Rattle.armor.proofs.Pieces.{without-none, without-first}
 use Rattle.armor.proofs.Value.{grammar-exactly}
 use Rattle.armor.proofs.Laying.{joined-fields}
-use Rattle.table.proofs.Tests.{both}
+use Rattle.cells.proofs.Tests.{both}
 use Rattle.reply.specs.Replies.{extraField, orderFields}
 use Rattle.reply.proofs.Lengths.{length-field}
 use Rattle.demands.specs.Client.{nonceField}
@@ -43,13 +44,10 @@ AllGood (f ∷ fs) = Good f × AllGood fs
 
 without : (b : ℕ) (xs : List ℕ) → all (λ x. not (eqb x b)) xs ≡ true → Without b xs
 unfolding all
-without b [] e = λ i h. absurd (not-suc-le-zero h)
+without b [] e = without-none b
 without b (x ∷ xs) e =
     let parts = both (not (eqb x b)) (all (λ x. not (eqb x b)) xs) e in
-    λ i. elim i [
-      | zero ↦ λ h. eqb-false x b (not-true (eqb x b) (parts .0))
-      | suc j ↦ λ h. without b xs (parts .1) j (le-of-suc-le-suc h)
-    ]
+    without-first b x xs (eqb-false x b (not-true (eqb x b) (parts .0))) (without b xs (parts .1))
 
 module _ (f : Field) (h : Good f) where
   halves : ((leb 1 (length (f .key)) && leb (length (f .key)) 3) ≡ true)

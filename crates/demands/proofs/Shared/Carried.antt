@@ -21,7 +21,7 @@ use Rattle.armor.proofs.Numerals.{number-small, maskOf-maskBytes}
 use Rattle.armor.proofs.Fields.{none-held}
 use Rattle.armor.proofs.Carried.{carried-bytes, request-given, request-sizes, nonce-times}
 use Rattle.orders.specs.Orders.{ordersGood}
-use Rattle.table.proofs.Tests.{both}
+use Rattle.cells.proofs.Tests.{both}
 use Rattle.coverage.specs.Coverage.{asOrdered, extraAsOrdered}
 use Rattle.gate.specs.State.{State}
 use Rattle.stages.specs.Request.{Request}

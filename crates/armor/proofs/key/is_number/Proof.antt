@@ -8,7 +8,7 @@ use lib.ListN.{length, replicate}
 use borrow.Author.Needs.{needs}
 use Rattle.armor.specs.Numerals.{isNumeral}
 use Rattle.armor.specs.Keys.{number}
-use Rattle.armor.proofs.Texts.{unfilled, filled, filled-within, number-room, obeys-run, number-test, front-taken}
+use Rattle.armor.proofs.Texts.{Filled, unfilled, filled, filled-within, number-room, obeys-run, number-test, front-taken}
 use Rattle.armor.proofs.key.is_number.Statement.{statement}
 use Rattle.armor.proofs.key.is_number.Tie as tie
 
@@ -19,33 +19,24 @@ returns c =
     (λ n e. ⊎-elim (λ p. let z : _≡_ {A = ℕ} 0 1 = p in omega arith) (λ p. let z : _≡_ {A = ℕ} 0 2 = p in omega arith) (rw e at (c .match .keys2)))
     (d .ensures))
 
-array-share-prefix-out : tie.Need-array-share-prefix-out
-array-share-prefix-out c =
-    let text = c .before .before .before .before .before .before .before .args .text .now in
-    let n = c .before .n in
-    let d = c .before .before .before .before .decode in
-    let f = filled text (replicate 4 0) (d .last .1 .0) (n .given .0 .0) (d .result) (n .given .1) (d .ensures) in
-    filled-within f
+-- the bytes that were decoded
+filled-at : (c : tie.After-n)
+    → Filled (c .before .before .before .before .before .before .args .text .now) (replicate 4 0) (c .before .before .before .decode .last .1 .0) (c .n .given .0 .0)
+filled-at c = let d = c .before .before .before .decode in filled _ (replicate 4 0) (d .last .1 .0) (c .n .given .0 .0) (d .result) (c .n .given .1) (d .ensures)
 
 slice-aggregate-is-numeral : tie.Need-slice-aggregate-is-numeral
 slice-aggregate-is-numeral c =
-    let text = c .before .before .before .before .before .before .before .before .args .text .now in
-    let n = c .before .before .n in
-    let d = c .before .before .before .before .before .decode in
-    let f = filled text (replicate 4 0) (d .last .1 .0) (n .given .0 .0) (d .result) (n .given .1) (d .ensures) in
-    f .size ∙ sym (ap length (front-taken (f .run) (replicate 4 0) (n .given .0 .0) (f .front) (f .size)))
+    let f = filled-at (c .before .before) in
+    f .size ∙ sym (ap length (front-taken (f .run) (replicate 4 0) _ (f .front) (f .size)))
 
 returns-2 : tie.Need-returns-2
 returns-2 c =
-    let text = c .before .before .before .before .before .before .before .before .before .args .text .now in
-    let n = c .before .before .before .n in
-    let d = c .before .before .before .before .before .before .decode in
-    let f = filled text (replicate 4 0) (d .last .1 .0) (n .given .0 .0) (d .result) (n .given .1) (d .ensures) in
+    let f = filled-at (c .before .before .before) in
     c .is-numeral .ensures
-    ∙ ap (isNumeral 4) (front-taken (f .run) (replicate 4 0) (n .given .0 .0) (f .front) (f .size))
-    ∙ sym (obeys-run number text (f .run) (f .is) ∙ number-test (f .run))
+    ∙ ap (isNumeral 4) (front-taken (f .run) (replicate 4 0) _ (f .front) (f .size))
+    ∙ sym (obeys-run number _ (f .run) (f .is) ∙ number-test (f .run))
 
 pub is-number-spec : {M : Type 1} → statement M
 is-number-spec =
-    tie.close (tie.spec (λ c. search needs) (λ c κs. search needs) (λ c. search needs) returns array-share-prefix-out slice-aggregate-is-numeral
-    (λ c κs. search needs) returns-2)
+    tie.close (tie.spec (λ c. search needs) (λ c κs. search needs) (λ c. search needs) returns (λ c. filled-within (filled-at (c .before)))
+    slice-aggregate-is-numeral (λ c κs. search needs) returns-2)

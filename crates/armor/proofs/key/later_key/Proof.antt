@@ -1,63 +1,36 @@
--- `later_key` meets its contract.
+-- `later_key` meets its contract: each test that fails leaves one key behind.
 -- Assumes nothing.
-use mathlib.Core.Path.{sym, _∙_}
+use mathlib.Core.Path.{refl, sym}
+use lib.Dec.{lit<}
 use borrow.Author.Needs.{needs}
 use Rattle.cells.specs.Text.{codes}
-use Rattle.armor.specs.Keys.{keys, rankOf}
+use Rattle.armor.specs.Keys.{keys, nameAt, rankOf}
+use Rattle.armor.proofs.Keys.{Past, key-here, key-later}
 use Rattle.armor.proofs.key.later_key.Statement.{statement}
 use Rattle.armor.proofs.key.later_key.Tie as tie
 
-returns : tie.Need-returns
-unfolding keys rankOf codes
-returns c = simp (sym (c .before .same .ensures) ∙ c .if1 .taken)
+past-1 : (c : tie.Else1) → Past 6 7 (c .before .before .before .before .args .name .now)
+past-1 c = unfold nameAt keys codes in key-later 6 6 _ (lit< tt) refl (c .before .same .ensures) (c .if1 .left)
 
-returns-2 : tie.Need-returns-2
-unfolding keys rankOf codes
-returns-2 c = simp (sym (c .before .same2 .ensures) ∙ c .if2 .taken, sym (c .before .before .before .before .same .ensures) ∙ c .before .before .before .if1 .left)
+past-2 : (c : tie.Else2) → Past 6 8 (c .before .before .before .before .before .before .before .args .name .now)
+past-2 c = unfold nameAt keys codes in key-later 6 7 _ (lit< tt) (past-1 (c .before .before .before)) (c .before .same2 .ensures) (c .if2 .left)
 
-returns-3 : tie.Need-returns-3
-unfolding keys rankOf codes
-returns-3 c =
-    simp (
-      sym (c .before .same3 .ensures) ∙ c .if3 .taken,
-      sym (c .before .before .before .before .same2 .ensures) ∙ c .before .before .before .if2 .left,
-      sym (c .before .before .before .before .before .before .before .same .ensures) ∙ c .before .before .before .before .before .before .if1 .left,
-    )
+past-3 : (c : tie.Else3) → Past 6 9 (c .before .before .before .before .before .before .before .before .before .before .args .name .now)
+past-3 c = unfold nameAt keys codes in key-later 6 8 _ (lit< tt) (past-2 (c .before .before .before)) (c .before .same3 .ensures) (c .if3 .left)
 
-returns-4 : tie.Need-returns-4
-unfolding keys rankOf codes
-returns-4 c =
-    simp (
-      sym (c .before .same4 .ensures) ∙ c .if4 .taken,
-      sym (c .before .before .before .before .same3 .ensures) ∙ c .before .before .before .if3 .left,
-      sym (c .before .before .before .before .before .before .before .same2 .ensures) ∙ c .before .before .before .before .before .before .if2 .left,
-      sym (c .before .before .before .before .before .before .before .before .before .before .same .ensures) ∙ c .before .before .before .before .before .before .before .before .before .if1 .left,
-    )
+past-4 : (c : tie.Else4) → Past 6 10 (c .before .before .before .before .before .before .before .before .before .before .before .before .before .args .name .now)
+past-4 c = unfold nameAt keys codes in key-later 6 9 _ (lit< tt) (past-3 (c .before .before .before)) (c .before .same4 .ensures) (c .if4 .left)
 
-returns-5 : tie.Need-returns-5
-unfolding keys rankOf codes
-returns-5 c =
-    simp (
-      sym (c .before .same5 .ensures) ∙ c .if5 .taken,
-      sym (c .before .before .before .before .same4 .ensures) ∙ c .before .before .before .if4 .left,
-      sym (c .before .before .before .before .before .before .before .same3 .ensures) ∙ c .before .before .before .before .before .before .if3 .left,
-      sym (c .before .before .before .before .before .before .before .before .before .before .same2 .ensures) ∙ c .before .before .before .before .before .before .before .before .before .if2 .left,
-      sym (c .before .before .before .before .before .before .before .before .before .before .before .before .before .same .ensures) ∙ c .before .before .before .before .before .before .before .before .before .before .before .before .if1 .left,
-    )
-
-returns-6 : tie.Need-returns-6
-unfolding keys rankOf codes
-returns-6 c =
-    simp (
-      sym (c .before .same5 .ensures) ∙ c .if5 .left,
-      sym (c .before .before .before .before .same4 .ensures) ∙ c .before .before .before .if4 .left,
-      sym (c .before .before .before .before .before .before .before .same3 .ensures) ∙ c .before .before .before .before .before .before .if3 .left,
-      sym (c .before .before .before .before .before .before .before .before .before .before .same2 .ensures) ∙ c .before .before .before .before .before .before .before .before .before .if2 .left,
-      sym (c .before .before .before .before .before .before .before .before .before .before .before .before .before .same .ensures) ∙ c .before .before .before .before .before .before .before .before .before .before .before .before .if1 .left,
-    )
+past-5 : (c : tie.Else5) → Past 6 11 (c .before .before .before .before .before .before .before .before .before .before .before .before .before .before .before .before .args .name .now)
+past-5 c = unfold nameAt keys codes in key-later 6 10 _ (lit< tt) (past-4 (c .before .before .before)) (c .before .same5 .ensures) (c .if5 .left)
 
 pub later-key-spec : {M : Type 1} → statement M
+unfolding nameAt keys codes
 later-key-spec =
-    tie.close (tie.spec (λ c. search needs) (λ c κs. search needs) returns (λ c. search needs) (λ c κs. search needs) returns-2 (λ c. search needs)
-    (λ c κs. search needs) returns-3 (λ c. search needs) (λ c κs. search needs) returns-4 (λ c. search needs) (λ c κs. search needs) returns-5
-    returns-6)
+    tie.close (tie.spec
+    (λ c. search needs) (λ c κs. search needs) (λ c. key-here 6 6 _ (lit< tt) refl (c .before .same .ensures) (c .if1 .taken))
+    (λ c. search needs) (λ c κs. search needs) (λ c. key-here 6 7 _ (lit< tt) (past-1 (c .before .before .before)) (c .before .same2 .ensures) (c .if2 .taken))
+    (λ c. search needs) (λ c κs. search needs) (λ c. key-here 6 8 _ (lit< tt) (past-2 (c .before .before .before)) (c .before .same3 .ensures) (c .if3 .taken))
+    (λ c. search needs) (λ c κs. search needs) (λ c. key-here 6 9 _ (lit< tt) (past-3 (c .before .before .before)) (c .before .same4 .ensures) (c .if4 .taken))
+    (λ c. search needs) (λ c κs. search needs) (λ c. key-here 6 10 _ (lit< tt) (past-4 (c .before .before .before)) (c .before .same5 .ensures) (c .if5 .taken))
+    (λ c. unfold rankOf in sym (past-5 c)))

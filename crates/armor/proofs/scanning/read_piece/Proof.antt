@@ -24,21 +24,11 @@ slice-aggregate-key-number c =
 is-good-requires : tie.Need-is-good-requires
 is-good-requires c κs = omega (arith, c .before .key-number .ensures, keyNumber-within (take (c .before .before .before .before .find .result) (c .before .before .before .before .before .before .args .text .now)))
 
-returns : tie.Need-returns
-returns c =
-    let find = c .before .before .before .before .before .before .find in
-    let key = c .before .before .before .key-number in
-    piece-read (c .before .before .before .before .before .before .before .before .args .text .now) (find .result) (c .before .before .before .before .before .past .result) (key .result) (c .before .is-good .result) true
-    (find .ensures) (c .before .before .before .before .before .past .ensures) (key .ensures) (c .before .is-good .ensures) (c .if1 .taken)
-
-returns-2 : tie.Need-returns-2
-returns-2 c =
-    let find = c .before .before .before .before .before .before .find in
-    let key = c .before .before .before .key-number in
-    piece-read (c .before .before .before .before .before .before .before .before .args .text .now) (find .result) (c .before .before .before .before .before .past .result) (key .result) (c .before .is-good .result) false
-    (find .ensures) (c .before .before .before .before .before .past .ensures) (key .ensures) (c .before .is-good .ensures) (c .if1 .left)
-
 pub read-piece-spec : {M : Type 1} → statement M
 read-piece-spec =
     tie.close (tie.spec (λ c κs. search needs) past-requires slice-aggregate-key-number (λ c κs. search needs) (λ c. search needs) (λ c. search needs)
-    (λ c. search needs) is-good-requires returns returns-2)
+    (λ c. search needs) is-good-requires
+    (λ c. piece-read _ _ _ _ _ true (c .before .before .before .before .before .before .find .ensures) (c .before .before .before .before .before .past .ensures)
+    (c .before .before .before .key-number .ensures) (c .before .is-good .ensures) (c .if1 .taken))
+    (λ c. piece-read _ _ _ _ _ false (c .before .before .before .before .before .before .find .ensures) (c .before .before .before .before .before .past .ensures)
+    (c .before .before .before .key-number .ensures) (c .before .is-good .ensures) (c .if1 .left)))
