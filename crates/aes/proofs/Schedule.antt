@@ -1,16 +1,17 @@
 -- The key schedule grows by a word at its end.
 -- Assumes nothing.
-use mathlib.Core.List.{List, [], _∷_, _++_, append-assoc}
+use mathlib.Core.List.{List, [], _∷_, _++_}
 use mathlib.Core.Path.{_≡_, refl, sym, ap, ap₂, _∙_}
 use Prim.Native.Nat.{ℕ, suc, _+_, _-_, _*_, _%_, _^_, _≤_, _<_}
 use native.Mathlib.Omega.{arith}
 use lib.Bits.{bitXor, xor-zero-r}
 use borrow.Author.Tests.{eqb-true}
 use lib.Dec.{eqb}
-use lib.ListN.{length, take, drop, length-append}
-use lib.Seq.{getD-take, take-at, take-all, length-take-le}
+use lib.ListN.{length, take, drop}
+use lib.Seq.{getD-take, take-at, take-all}
 use Rattle.cells.specs.Runs.{spliced, fronted}
 use Rattle.cells.proofs.Tests.{every-at}
+use Rattle.cells.proofs.Runs.{front-spliced}
 use Rattle.aes.specs.Field.{xtimes, powerOfX}
 use Rattle.aes.specs.Cipher.{scheduled, wordAt, xorWord, temp, nextWord, expanded, keyExpansion}
 
@@ -38,13 +39,6 @@ pub length-next : (w : List ℕ) (i : ℕ) → length (nextWord w i) ≡ 4
 unfolding nextWord xorWord
 length-next w i = refl
 
--- a word laid at the end of the first n bytes
-pub laid : (w x : List ℕ) (n m : ℕ) → n ≤ length w → m ≡ n + length x → take m (spliced w n x) ≡ take n w ++ x
-unfolding spliced
-laid w x n m h e =
-    let size : length (take n w ++ x) ≡ m = length-append (take n w) x ∙ omega (arith, length-take-le n w h) in
-    ap (take m) (sym (append-assoc (take n w) x (drop (length x) (drop n w)))) ∙ take-at (take n w ++ x) _ m size
-
 grown : (key w : List ℕ) (n i : ℕ) → 8 + n ≡ i → take (4 * i) w ≡ expanded key n → take (4 * i) w ++ nextWord w i ≡ expanded key (suc n)
 unfolding expanded
 grown key w n i e h =
@@ -55,7 +49,7 @@ pub extended : (key w : List ℕ) (i : ℕ) → 8 ≤ i → 4 * i + 4 ≤ length
     → take (4 * (i + 1)) (spliced w (4 * i) (nextWord w i)) ≡ expanded key (i + 1 - 8)
 extended key w i lo hi h =
     let e : suc (i - 8) ≡ i + 1 - 8 = omega arith in
-    laid w (nextWord w i) (4 * i) (4 * (i + 1)) (omega arith) (omega (arith, length-next w i))
+    front-spliced w (nextWord w i) (4 * i) (4 * (i + 1)) (omega arith) (omega (arith, length-next w i))
     ∙ grown key w (i - 8) i (omega arith) h
     ∙ ap (expanded key) e
 

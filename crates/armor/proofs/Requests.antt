@@ -15,7 +15,6 @@ use Rattle.armor.specs.declared.SetupRead.{SetupRead}
 use Rattle.armor.specs.declared.scanning.ScanRead.{ScanRead}
 use Rattle.armor.specs.Numerals.{maskOf}
 use Rattle.armor.specs.Keys.{sized, obeys, keys, ruleAt, keyT, keyLt, keyN, keyH, keyAh, keyR, keyS, keyC, keyIv, keyTag, keyEah, otherKey, mask}
-use Rattle.armor.specs.Keys
 use Rattle.armor.specs.Value.{Field, allGood, grammar, carried}
 use Rattle.armor.specs.Fields.{times, the, rightTimes, nonceBit, requestFields, setupFields}
 use Rattle.armor.specs.InnerAnswers.{requestFrom, requestAnswer, setupFrom, setupAnswer}

@@ -8,14 +8,11 @@ use native.Mathlib.Numerals.{add-one}
 use native.Mathlib.Decide.{decLt}
 use native.Mathlib.Omega.{arith}
 use lib.ListN.{List·getD-eq-default, length, getD, take, drop, take-append-drop, length-take, length-drop}
-use lib.Seq.{drop-cons, drop-drop, drop-at as drop-append, take-suc, take-add, take-take, getD-take, getD-drop, length-take-le}
+use lib.Seq.{drop-cons, drop-drop, drop-at as drop-append, take-add, take-take, getD-take, getD-drop, length-take-le}
 use Rattle.cells.specs.Runs.{part, cut, Bytes}
 
 pub length-cut : (xs : List ℕ) (a e : ℕ) → e ≤ length xs → length (cut xs a e) ≡ e - a
 length-cut xs a e h = length-take-le (e - a) (drop a xs) (omega (arith, length-drop a xs))
-
-pub cut-none : (xs : List ℕ) (a e : ℕ) → e ≤ a → cut xs a e ≡ []
-cut-none xs a e h = let z : e - a ≡ 0 = omega arith in rw z
 
 -- a part, and what stands after it
 pub cut-split : (xs : List ℕ) (a e : ℕ) → a ≤ e → drop a xs ≡ cut xs a e ++ drop e xs
@@ -27,13 +24,6 @@ pub drop-take : (xs : List ℕ) (a e : ℕ) → a ≤ e → e ≤ length xs → 
 drop-take xs a e h k =
     let end : e ≡ a + (e - a) = omega arith in
     ap (λ (n : ℕ). drop a (take n xs)) end ∙ ap (drop a) (take-add a (e - a) xs) ∙ drop-append (take a xs) (cut xs a e) a (length-take-le a xs (omega arith))
-
-pub cut-last : (xs : List ℕ) (a e : ℕ) → a < e → e ≤ length xs → cut xs a e ≡ cut xs a (e - 1) ++ (getD xs (e - 1) 0 ∷ [])
-cut-last xs a e h k =
-    let size : e - a ≡ suc (e - 1 - a) = omega arith in
-    ap (λ (n : ℕ). take n (drop a xs)) size
-    ∙ take-suc (drop a xs) (e - 1 - a) 0 (omega (arith, length-drop a xs))
-    ∙ ap (λ (b : ℕ). cut xs a (e - 1) ++ (b ∷ [])) (getD-drop a xs (e - 1 - a) 0 ∙ ap (λ (n : ℕ). getD xs n 0) (omega arith))
 
 -- past the end stands a 0
 pub inside : (xs : List ℕ) (i : ℕ) → (getD xs i 0 ≡ 0 → ⊥) → i < length xs

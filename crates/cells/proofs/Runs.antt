@@ -7,7 +7,7 @@ use native.Mathlib.Nat.{zero-add, add-suc, add-assoc}
 use native.Mathlib.Numerals.{add-one}
 use native.Mathlib.Omega.{arith}
 use lib.ListN.{length, getD, take, drop, set, length-append, length-take, length-drop, drop-of-length-le}
-use lib.Seq.{paste, paste-suc, take-all, sets, sets-eq, take-at, drop-at, drop-cons, drop-drop}
+use lib.Seq.{paste, paste-suc, take-all, sets, sets-eq, take-at, drop-at, drop-cons, drop-drop, length-take-le}
 use Rattle.cells.specs.Runs.{spliced, fronted, part}
 
 -- stores one after the other, from a place on, are a splice
@@ -41,6 +41,13 @@ spliced-front xs ys = refl
 pub fronted-whole : (ys xs : List ℕ) → length ys ≡ length xs → fronted ys xs ≡ ys
 unfolding fronted
 fronted-whole ys xs h = rw (drop-of-length-le xs {i = length ys} (omega arith)) (append-nil ys)
+
+-- what stands up to the end of a splice
+pub front-spliced : (xs ys : List ℕ) (at n : ℕ) → at ≤ length xs → n ≡ at + length ys → take n (spliced xs at ys) ≡ take at xs ++ ys
+unfolding spliced
+front-spliced xs ys at n h e =
+    ap (take n) (sym (append-assoc (take at xs) ys _))
+    ∙ take-at (take at xs ++ ys) _ n (length-append (take at xs) ys ∙ omega (arith, length-take-le at xs h))
 
 -- two splices side by side are one
 pub joined : (xs ys zs : List ℕ) (at next : ℕ) → at + length ys + length zs ≤ length xs → next ≡ at + length ys

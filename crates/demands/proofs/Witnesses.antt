@@ -6,10 +6,10 @@ use mathlib.Core.Path.{_≡_, refl, ap, _∙_}
 use mathlib.Core.Bool.{Bool, true, false}
 use mathlib.Core.List.{List, [], _∷_, _++_}
 use mathlib.Core.Option.{none}
-use Prim.Native.Nat.{ℕ, zero, suc, _^_}
+use Prim.Native.Nat.{ℕ, _^_}
 use native.Mathlib.Omega.{arith}
 use lib.ListN.{length, replicate, length-append}
-use Rattle.cells.specs.Runs.{Bytes, same}
+use Rattle.cells.specs.Runs.{same}
 use Rattle.cells.specs.Numbers.{bytesOf, number}
 use Rattle.gcm.specs.Gcm.{tagOf, crypted, given, opened}
 use Rattle.gcm.proofs.Opening.{length-crypted}

@@ -11,7 +11,7 @@ use lib.ListN.{length, take, drop, take-append-drop, length-append, length-take,
 use lib.Seq.{take-all, take-at, take-add, drop-at, take-append-le, drop-append-le}
 use Rattle.aes.specs.Cipher.{cipher, keyExpansion, aes256}
 use Rattle.aes.proofs.Cipher.{cipher-expanded, length-aes256}
-use Rattle.aes.proofs.Schedule.{laid}
+use Rattle.cells.proofs.Runs.{front-spliced}
 use Rattle.cells.specs.Runs.{part, spliced}
 use Rattle.cells.specs.Numbers.{bytesOf}
 use Rattle.gcm.specs.Gctr.{counterAt, added, maskedBlock, masked, gctr}
@@ -79,7 +79,7 @@ module _ (key : List ℕ) (icb : ℕ) (xs : List ℕ) where
   masked-more n out x h e ex eo =
       let before : min (16 * n) (length xs) ≡ 16 * n = omega arith in
       let size : min (16 * suc n) (length xs) ≡ 16 * n + length x = omega (arith, ap length ex, length-maskedBlock n) in
-      rw add-one (laid out x (16 * n) _ (omega arith) size ∙ ap₂ _++_ (rw before at eo) ex)
+      rw add-one (front-spliced out x (16 * n) _ (omega arith) size ∙ ap₂ _++_ (rw before at eo) ex)
 
   pub length-gctr : length (gctr key icb xs) ≡ length xs
   unfolding gctr

@@ -3,14 +3,14 @@
 use mathlib.Core.Path.{_≡_, sym, ap, _∙_}
 use mathlib.Core.List.{List, [], _∷_, _++_}
 use mathlib.Core.Bool.{true, false}
-use Prim.Native.Nat.{ℕ, _-_, _≤_, _<_}
+use Prim.Native.Nat.{ℕ, suc, _-_, _≤_, _<_}
 use native.Mathlib.Omega.{arith}
-use lib.ListN.{length, getD, take, drop}
-use lib.Seq.{drop-drop, length-take-le}
+use lib.ListN.{length, getD, take, drop, length-drop}
+use lib.Seq.{drop-drop, length-take-le, take-suc, getD-drop}
 use Rattle.cells.specs.Runs.{cut}
 use Rattle.cells.specs.Spans.{leading, Spans}
 use Rattle.lines.specs.Values.{blank, trimFront, keeping, trimEnd}
-use Rattle.cells.proofs.Cuts.{cut-none, drop-take, cut-last}
+use Rattle.cells.proofs.Cuts.{drop-take}
 
 -- a part without the blanks at its front begins where they end
 pub front-cut : (xs : List ℕ) (a e r : ℕ) → a ≤ e → e ≤ length xs → Spans blank (take e xs) a r → (r ≤ e) × (trimFront (cut xs a e) ≡ cut xs r e)
@@ -35,12 +35,19 @@ end-kept (x ∷ y ∷ ys) b h = ap (keeping x) (end-kept (y ∷ ys) b h)
 
 -- a part ends where its last byte is no blank; the empty part has none
 module _ (xs : List ℕ) (a e : ℕ) where
+  cut-last : a < e → e ≤ length xs → cut xs a e ≡ cut xs a (e - 1) ++ (getD xs (e - 1) 0 ∷ [])
+  cut-last h k =
+      let size : e - a ≡ suc (e - 1 - a) = omega arith in
+      ap (λ (n : ℕ). take n (drop a xs)) size
+      ∙ take-suc (drop a xs) (e - 1 - a) 0 (omega (arith, length-drop a xs))
+      ∙ ap (λ (b : ℕ). cut xs a (e - 1) ++ (b ∷ [])) (getD-drop a xs (e - 1 - a) 0 ∙ ap (λ (n : ℕ). getD xs n 0) (omega arith))
+
   pub back-blank : a < e → e ≤ length xs → blank (getD xs (e - 1) 0) ≡ true → trimEnd (cut xs a e) ≡ trimEnd (cut xs a (e - 1))
-  back-blank h k b = ap trimEnd (cut-last xs a e h k) ∙ end-blank (cut xs a (e - 1)) _ b
+  back-blank h k b = ap trimEnd (cut-last h k) ∙ end-blank (cut xs a (e - 1)) _ b
 
   pub back-kept : a < e → e ≤ length xs → blank (getD xs (e - 1) 0) ≡ false → trimEnd (cut xs a e) ≡ cut xs a e
-  back-kept h k b = let last = cut-last xs a e h k in ap trimEnd last ∙ end-kept (cut xs a (e - 1)) _ b ∙ sym last
+  back-kept h k b = let last = cut-last h k in ap trimEnd last ∙ end-kept (cut xs a (e - 1)) _ b ∙ sym last
 
   pub back-none : e ≤ a → trimEnd (cut xs a e) ≡ cut xs a e
   unfolding trimEnd
-  back-none h = rw (cut-none xs a e h)
+  back-none h = let none : e - a ≡ 0 = omega arith in rw none

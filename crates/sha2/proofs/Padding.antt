@@ -10,7 +10,7 @@ use Rattle.cells.specs.Numbers.{bytesOf}
 use Rattle.cells.specs.Runs.{spliced}
 use Rattle.cells.proofs.Numbers.{length-bytesOf, bytesOf-append}
 use Rattle.sha2.specs.Hash.{zeros, padding}
-use Rattle.sha2.proofs.Streaming.{front-spliced}
+use Rattle.cells.proofs.Runs.{front-spliced}
 
 -- a message of n bytes, the byte that follows it and the zeros end 16 bytes before the end of a block
 pub zeros-fit : (n : ℕ) → (n + 1 + zeros n) % 128 ≡ 112

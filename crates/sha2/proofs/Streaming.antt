@@ -6,9 +6,9 @@ use Prim.Native.Nat.{ℕ, zero, suc, _+_, _-_, _*_, _/_, _%_, _≤_, _<_}
 use native.Mathlib.Nat.{add-zero, add-suc}
 use native.Mathlib.Omega.{arith}
 use lib.ListN.{length, take, drop, length-append, length-drop, drop-of-length-le}
-use lib.Seq.{take-append-le, drop-append-le, drop-drop, take-all, take-at, length-take-le}
+use lib.Seq.{take-append-le, drop-append-le, drop-drop, take-all, length-take-le}
 use Rattle.cells.specs.Runs.{spliced, part}
-use Rattle.cells.proofs.Runs.{length-spliced}
+use Rattle.cells.proofs.Runs.{length-spliced, front-spliced}
 use Rattle.sha2.specs.declared.block.Words.{Words}
 use Rattle.sha2.specs.declared.Sha512.{Sha512}
 use Rattle.sha2.specs.Constants.{initial}
@@ -34,14 +34,6 @@ blocks-split v m n (suc k) =
     ap (afterBlocks v m) (add-suc n k)
     ∙ ap₂ afterBlock (blocks-split v m n k)
     (ap (λ (x : ℕ). part m x 128) (sym e) ∙ ap (take 128) (sym (drop-drop (128 * k) (128 * n) m)))
-
--- the front of a list with ys written over it from byte at on
-pub front-spliced : (xs ys : List ℕ) (at n : ℕ) → at ≤ length xs → n ≡ at + length ys → take n (spliced xs at ys) ≡ take at xs ++ ys
-unfolding spliced
-front-spliced xs ys at n h e =
-    let l : length (take at xs ++ ys) ≡ n = length-append (take at xs) ys ∙ omega (arith, length-take-le at xs h) in
-    ap (take n) (sym (append-assoc (take at xs) ys (drop (length ys) (drop at xs))))
-    ∙ take-at (take at xs ++ ys) (drop (length ys) (drop at xs)) n l
 
 -- what a part that is lent from byte a on, `&l[a..]`, holds
 pub rest-of : (l : List ℕ) (a : ℕ) → take (length l - a) (drop a l) ≡ drop a l

@@ -1,12 +1,11 @@
 -- The three netstrings of a token: how long they are, and where they stand.
 -- Assumes nothing.
 use mathlib.Core.List.{List, [], _∷_, _++_}
-use mathlib.Core.Path.{_≡_, sym}
+use mathlib.Core.Path.{_≡_}
 use Prim.Native.Nat.{ℕ, _+_, _^_, _≤_, _<_}
 use native.Mathlib.Omega.{arith}
-use lib.ListN.{length, take, drop, length-append}
-use lib.Seq.{take-at}
-use Rattle.cells.specs.Runs.{spliced, Bytes}
+use lib.ListN.{length, length-append}
+use Rattle.cells.specs.Runs.{Bytes}
 use Rattle.cells.specs.Decimal.{decimal}
 use Rattle.netstring.specs.Netstring.{netstring, netstrings}
 use Rattle.cells.proofs.Digits.{decimal-length, bytes-decimal}
@@ -50,11 +49,6 @@ bytes-text t h k =
     bytes-joined (netstring (t .key)) (netstrings (t .id ∷ decimal (t .expiry) ∷ [])) (bytes-netstring (t .key) h)
     (bytes-joined (netstring (t .id)) (netstrings (decimal (t .expiry) ∷ [])) (bytes-netstring (t .id) k)
     (bytes-joined (netstring (decimal (t .expiry))) [] (bytes-netstring (decimal (t .expiry)) (bytes-decimal (t .expiry))) (λ i. omega arith)))
-
--- what stands at the front of a run
-pub taken-front : (xs ys : List ℕ) (n : ℕ) → n ≡ length ys → take n (spliced xs 0 ys) ≡ ys
-unfolding spliced
-taken-front xs ys n e = take-at ys (drop (length ys) xs) n (sym e)
 
 pub within-front : (xs ys : List ℕ) (n : ℕ) → length xs ≡ n → n ≤ length (xs ++ ys)
 within-front xs ys n e = omega (arith, length-append xs ys)

@@ -7,10 +7,11 @@ use native.Mathlib.Omega.{arith}
 use borrow.Author.Needs.{needs}
 use lib.ListN.{length, take}
 use lib.Seq.{length-take-le, take-at}
+use Rattle.cells.proofs.Runs.{front-spliced}
 use Rattle.gcm.specs.Gcm.{sealed}
 use Rattle.gcm.proofs.Opening.{length-crypted}
 use Rattle.token.specs.Token.{Token, tokenText, sealedToken}
-use Rattle.token.proofs.Text.{length-text, taken-front}
+use Rattle.token.proofs.Text.{length-text}
 use Rattle.token.proofs.seal.Statement.{statement}
 use Rattle.token.proofs.seal.Tie as tie
 
@@ -41,7 +42,7 @@ returns c =
     let key = s .args .server-key .now in
     let iv = s .args .iv .now in
     let text = tokenText (token s) in
-    let taken : take (l .result) (l .last .1 .1 .1 .0) ≡ text = ap (take (l .result)) (l .ensures .is) ∙ taken-front _ text (l .result) (omega (arith, l .ensures .ends)) in
+    let taken : take (l .result) (l .last .1 .1 .1 .0) ≡ text = ap (take (l .result)) (l .ensures .is) ∙ front-spliced _ text 0 (l .result) (omega arith) (omega (arith, l .ensures .ends)) in
     let cipher : z .last .1 .1 .1 .0 ≡ sealed key iv [] text .cipher = z .ensures .0 ∙ ap (λ (t : List ℕ). sealed key iv [] t .cipher) taken in
     let count : l .result ≡ length (sealed key iv [] text .cipher) = omega (arith, l .ensures .ends, length-crypted key iv text) in
     record {

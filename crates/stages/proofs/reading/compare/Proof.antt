@@ -1,9 +1,13 @@
 -- `reading::compare` meets its contract, one test after the other.
 -- Assumes nothing.
+use mathlib.Core.Path.{_≡_}
+use mathlib.Core.Bool.{Bool, true, false, cond, not}
 use borrow.Author.Needs.{needs}
 use borrow.Author.Tests.{not-true, not-false}
 use Rattle.names.proofs.Sizes.{short-extra}
+use Rattle.orders.specs.Orders.{orders}
 use Rattle.stages.specs.Parts.{fieldsOf, twice, coveringPart}
+use Rattle.stages.specs.InnerStages.{CoversIs}
 use Rattle.stages.proofs.reading.compare.Statement.{statement}
 use Rattle.stages.proofs.reading.compare.Tie as tie
 
@@ -24,10 +28,13 @@ returns-2 c _ _ _ _ _ =
       c .if2 .taken,
     )
 
-returns-3 : tie.Need-returns-3
+-- past 6 and 7 the coverage decides
+covering : (c : tie.After-as-ordered) (t : Bool) → c .as-ordered .result ≡ t
+    → let a = c .before .before .before .before .before .before .before .before .before .before .before .before .args in
+    CoversIs (orders (a .numbers) (a .extra .now)) (a .value .now) (a .head .now) (a .aside .now) (cond (not t) 8 0)
 unfolding coveringPart twice fieldsOf
-returns-3 c _ _ _ _ _ =
-    let names = c .before .before in
+covering c t e _ _ _ _ _ =
+    let names = c .before in
     let lines = names .before .before .before in
     simp (
       ← (lines .before .before .good2 .ensures),
@@ -36,24 +43,8 @@ returns-3 c _ _ _ _ _ =
       ← (names .before .before .repeats .ensures),
       ← (names .before .repeats2 .ensures),
       names .if2 .left,
-      ← (c .before .as-ordered .ensures),
-      not-true (c .before .as-ordered .result) (c .if3 .taken),
-    )
-
-returns-4 : tie.Need-returns-4
-unfolding coveringPart twice fieldsOf
-returns-4 c _ _ _ _ _ =
-    let names = c .before .before in
-    let lines = names .before .before .before in
-    simp (
-      ← (lines .before .before .good2 .ensures),
-      ← (lines .before .good3 .ensures),
-      lines .if1 .left,
-      ← (names .before .before .repeats .ensures),
-      ← (names .before .repeats2 .ensures),
-      names .if2 .left,
-      ← (c .before .as-ordered .ensures),
-      not-false (c .before .as-ordered .result) (c .if3 .left),
+      ← (c .as-ordered .ensures),
+      e,
     )
 
 as-ordered-requires : tie.Need-as-ordered-requires
@@ -62,4 +53,4 @@ as-ordered-requires c κs = let pre = c .before .before .before .before .before 
 pub compare-spec : {M : Type 1} → statement M
 compare-spec =
     tie.close (tie.spec (λ c κs. search needs) (λ c κs. search needs) returns (λ c κs. search needs) (λ c κs. search needs) returns-2
-    as-ordered-requires returns-3 returns-4)
+    as-ordered-requires (λ c. covering (c .before) false (not-true _ (c .if3 .taken))) (λ c. covering (c .before) true (not-false _ (c .if3 .left))))
