@@ -46,7 +46,7 @@ extern "C" {
 
 /* ---- Limits in seconds. 0 orders the default. ---- */
 
-#define GATE_REQUEST_LIFE_DEFAULT 300
+#define GATE_REQUEST_LIFE_DEFAULT 60
 #define GATE_IDLE_DEFAULT 1800
 #define GATE_SESSION_LIFE_DEFAULT 1209600
 #define GATE_SESSION_LIFE_MAX 2592000
@@ -196,7 +196,8 @@ static inline const char *gate_header_name(unsigned bit) {
  *   mask          GATE_COVER of what the client must sign; a bit above 55 makes bad orders
  *   extra         names of further headers to sign: 0 to GATE_EXTRA_NAMES_MAX tokens joined by commas, none twice,
  *                 none that has a bit, not X-S-Armor
- *   request_life  seconds for which a request is taken; 0: GATE_REQUEST_LIFE_DEFAULT
+ *   request_life  seconds for which a request is taken; 0: GATE_REQUEST_LIFE_DEFAULT; callers that queue for longer than
+ *                 that need orders of their own, which name it
  *   idle          seconds allowed between two requests; 0: GATE_IDLE_DEFAULT
  *   session_life  seconds from setup to expiry, at most GATE_SESSION_LIFE_MAX; 0: GATE_SESSION_LIFE_DEFAULT
  *

@@ -1,4 +1,4 @@
-/* A dealer's end of a session: what a program needs that talks to a portal behind the gate. */
+/* A caller's end of a session: what a program needs that talks to a portal behind the gate. */
 #ifndef CLIENT_H
 #define CLIENT_H
 

@@ -1,5 +1,5 @@
 /*
- * A day at a parts portal: the proxy's side of the login gate, with two or three dealers to talk to it.
+ * A day at a parts portal: the proxy's side of the login gate, with dealers, a van and the stock uploader to talk to it.
  *
  *     portal day.txt
  *
@@ -12,15 +12,16 @@
  *     cover NAME..                    what a request must sign: nonce, or a header that has a bit in the mask
  *     extra NAME,NAME                 further headers to sign
  *     limits REQUEST IDLE SESSION     in seconds; 0 is the default
+ *     limits-of CALLER LIMITS         the same three in orders of this caller's own; the portal's hold for the others
  *     note TEXT                       printed as it stands
  *     at HH:MM:SS                     the clock from now on
- *     setup DEALER IV KEY             the dealer asks for a session; IV and session key in hexadecimal
- *     make LABEL DEALER PATH [BODY]   the dealer signs a request, which is kept under a label
+ *     setup CALLER IV KEY             the caller asks for a session; IV and session key in hexadecimal
+ *     make LABEL CALLER PATH [BODY]   the caller signs a request, which is kept under a label
  *     deliver LABEL                   it reaches the proxy
  *     forge LABEL BODY                it reaches the proxy with another body
- *     send DEALER PATH [BODY]         made and delivered at once
- *     fetch DEALER COUNT PATH         so many requests at once, told in one line
- *     end DEALER                      the dealer logs out
+ *     send CALLER PATH [BODY]         made and delivered at once
+ *     fetch CALLER COUNT PATH         so many requests at once, told in one line
+ *     end CALLER                      the caller logs out
  *     table                           prints the table
  */
 #include "client.h"
@@ -30,21 +31,22 @@
 #include <stdlib.h>
 #include <string.h>
 
-#define DEALERS 4
-#define KEPT 8
+#define CALLERS 8
+#define KEPT 16
 
-typedef struct dealer {
+typedef struct caller {
     char name[16];
     char session_id[32];
+    gate_orders orders;
     uint8_t iv[GATE_IV_BYTES];
     int setups;
     client program;
-} dealer;
+} caller;
 
 /* A request on its way. */
 typedef struct request {
     char label[16];
-    dealer *from;
+    caller *from;
     uint32_t nonce;
     uint32_t made;
     char value[1024];
@@ -55,11 +57,11 @@ typedef struct request {
 static uint32_t midnight, now;
 static uint8_t server_key[GATE_SERVER_KEY_BYTES];
 static char extra[GATE_EXTRA_MAX + 1];
-static gate_orders orders;
+static gate_orders orders; /* the portal's, which a caller has until it gets its own */
 static uint8_t table[GATE_TABLE_MAX], reply[GATE_REPLY_MIN];
 static size_t records;
 
-static dealer dealers[DEALERS];
+static caller callers[CALLERS];
 static request kept[KEPT];
 static unsigned line_number;
 
@@ -76,26 +78,26 @@ static gate_room the_reply(void) { return gate_room_of(reply, sizeof reply); }
 
 static gate_run the_server_key(void) { return gate_bytes(server_key, sizeof server_key); }
 
-static gate_answer set_up(const dealer *who, const uint8_t *session_key) {
+static gate_answer set_up(const caller *who, const uint8_t *session_key) {
     const gate_new_session session = {gate_bytes(session_key, GATE_SESSION_KEY_BYTES), gate_bytes(who->iv, sizeof who->iv),
                                       gate_string(who->session_id), gate_string(CLIENT_ASKS)};
-    return gate_set_up_session(&orders, now, the_server_key(), &session, the_table(), the_reply());
+    return gate_set_up_session(&who->orders, now, the_server_key(), &session, the_table(), the_reply());
 }
 
-/* The proxy hands requests on under the portal's inner name, and sets the dealer's own Host line aside. */
+/* The proxy hands requests on under the portal's inner name, and sets the caller's own Host line aside. */
 static gate_answer judge(const request *asked, const char *body) {
     char head[256];
     sprintf(head, "Host: portal.inside\r\nCookie: session=%s\r\nX-Dealer: %s\r\n", asked->from->session_id, asked->from->name);
     const gate_request judged = {gate_string(asked->value), gate_string(head), gate_string("Host: parts.example\r\n"),
                                  gate_string(asked->path), gate_string(body)};
-    return gate_judge_request(&orders, now, the_server_key(), &judged, the_table(), the_reply());
+    return gate_judge_request(&asked->from->orders, now, the_server_key(), &judged, the_table(), the_reply());
 }
 
-static gate_answer end(const dealer *who) { return gate_end_session(gate_bytes(who->iv, sizeof who->iv), the_table()); }
+static gate_answer end(const caller *who) { return gate_end_session(gate_bytes(who->iv, sizeof who->iv), the_table()); }
 
-/* ---- A dealer's program ---- */
+/* ---- A caller's program ---- */
 
-static void make(request *asked, dealer *from, const char *path, const char *body) {
+static void make(request *asked, caller *from, const char *path, const char *body) {
     char cookie[64];
     sprintf(cookie, "session=%s", from->session_id);
     const client_header headers[] = {{"Host", "parts.example"}, {"Cookie", cookie}, {"X-Dealer", from->name}};
@@ -118,7 +120,7 @@ static const char *time_text(uint32_t time) {
     return text;
 }
 
-static void print_event(const dealer *who, const char *what, gate_answer answer) {
+static void print_event(const caller *who, const char *what, gate_answer answer) {
     printf("%s  %-7s  %-50s  %2u %s", time_text(now), who->name, what, answer.number, gate_text(answer.number));
 }
 
@@ -132,7 +134,7 @@ static void print_judged(const request *asked, const char *body, gate_answer ans
         printf(": session %.*s", (int)answer.length, (const char *)reply);
     } else if (answer.length > 0) {
         int believed = client_believes(&asked->from->program, (const char *)reply, answer.length);
-        printf(": invalidation, which the dealer's program %s", believed ? "believes" : "does not believe");
+        printf(": invalidation, which the caller's program %s", believed ? "believes" : "does not believe");
     }
     printf("\n");
 }
@@ -174,13 +176,16 @@ static void read_hex(uint8_t *out, size_t count) {
     }
 }
 
-static dealer *named_dealer(void) {
+static caller *named_caller(void) {
     const char *name = word();
-    for (dealer *who = dealers; who < dealers + DEALERS; who++) {
-        if (who->name[0] == 0 && strlen(name) < sizeof who->name) strcpy(who->name, name);
+    for (caller *who = callers; who < callers + CALLERS; who++) {
+        if (who->name[0] == 0 && strlen(name) < sizeof who->name) {
+            strcpy(who->name, name);
+            who->orders = orders;
+        }
         if (strcmp(who->name, name) == 0) return who;
     }
-    give_up("too many dealers");
+    give_up("too many callers");
     return NULL;
 }
 
@@ -236,11 +241,15 @@ static void do_extra(void) {
     orders.extra = gate_string(extra);
 }
 
-static void do_limits(void) {
-    orders.request_life = number();
-    orders.idle = number();
-    orders.session_life = number();
+static void read_limits(gate_orders *into) {
+    into->request_life = number();
+    into->idle = number();
+    into->session_life = number();
 }
+
+static void do_limits(void) { read_limits(&orders); }
+
+static void do_limits_of(void) { read_limits(&named_caller()->orders); }
 
 static void do_note(void) {
     static const char *before = "";
@@ -256,7 +265,7 @@ static void do_at(void) {
 }
 
 static void do_setup(void) {
-    dealer *who = named_dealer();
+    caller *who = named_caller();
     uint8_t session_key[GATE_SESSION_KEY_BYTES];
     read_hex(who->iv, sizeof who->iv);
     read_hex(session_key, sizeof session_key);
@@ -272,7 +281,7 @@ static void do_setup(void) {
 
 static void do_make(void) {
     request *asked = labelled_request();
-    dealer *from = named_dealer();
+    caller *from = named_caller();
     const char *path = word();
     make(asked, from, path, body_word());
 }
@@ -290,7 +299,7 @@ static void do_forge(void) {
 
 static void do_send(void) {
     request asked;
-    dealer *from = named_dealer();
+    caller *from = named_caller();
     const char *path = word();
     make(&asked, from, path, body_word());
     print_judged(&asked, asked.body, judge(&asked, asked.body));
@@ -298,7 +307,7 @@ static void do_send(void) {
 
 static void do_fetch(void) {
     request asked;
-    dealer *from = named_dealer();
+    caller *from = named_caller();
     uint32_t count = number(), sent = 0, first = from->program.next;
     const char *path = word();
     gate_answer answer = {GATE_ACCEPTED, 0};
@@ -313,7 +322,7 @@ static void do_fetch(void) {
 }
 
 static void do_end(void) {
-    const dealer *who = named_dealer();
+    const caller *who = named_caller();
     print_event(who, "logs out", end(who));
     printf("\n");
 }
@@ -322,10 +331,11 @@ static void act(char *line) {
     static const struct {
         const char *name;
         void (*act)(void);
-    } events[] = {{"day", do_day},       {"server-key", do_server_key}, {"records", do_records}, {"cover", do_cover},
-                  {"extra", do_extra},   {"limits", do_limits},         {"note", do_note},       {"at", do_at},
-                  {"setup", do_setup},   {"make", do_make},             {"deliver", do_deliver}, {"forge", do_forge},
-                  {"send", do_send},     {"fetch", do_fetch},           {"end", do_end},         {"table", print_table}};
+    } events[] = {{"day", do_day},       {"server-key", do_server_key}, {"records", do_records},     {"cover", do_cover},
+                  {"extra", do_extra},   {"limits", do_limits},         {"limits-of", do_limits_of}, {"note", do_note},
+                  {"at", do_at},         {"setup", do_setup},           {"make", do_make},           {"deliver", do_deliver},
+                  {"forge", do_forge},   {"send", do_send},             {"fetch", do_fetch},         {"end", do_end},
+                  {"table", print_table}};
     const char *name = strtok(line, " \n");
     if (name == NULL || name[0] == '#') return;
     for (size_t i = 0; i < sizeof events / sizeof events[0]; i++) {

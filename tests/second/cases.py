@@ -155,12 +155,19 @@ def accepted(name, asked, record):
 
 
 TAKEN = FRESH._replace(begun=1, highest=5, bits=1)
-T_700 = TEXT_12.replace(b"\3\xe8", b"\2\xbc")
-T_699 = TEXT_12.replace(b"\3\xe8", b"\2\xbb")
+
+
+def aged(seconds, **changed):
+    t = (1_000 - seconds).to_bytes(2, "big")
+    return request(text=TEXT_12.replace(b"\3\xe8", t), t=t, **changed)
+
+
+NAMED = ORDERS._replace(request_life=300)
 
 accepted("request of case 12", request(), TAKEN)
 accepted("closing semicolon", request(closing=b";"), TAKEN)
-accepted("age 300", request(text=T_700, t=b"\2\xbc"), TAKEN)
+accepted("age 60", aged(60), TAKEN)
+accepted("age 300 where 300 is named", aged(300, orders=NAMED), TAKEN)
 row(1, request(path=b""))
 row(1, request(reply=bytes(1_023)), "reply of 1,023")
 row(2, request(orders=ORDERS._replace(mask=1 << 56 | 3)))
@@ -177,7 +184,8 @@ freed(10, request(clock=2_000))
 row(11, request(path=b"/x"))
 row(12, request(records=(rec.FREE,)))
 freed(13, request(text=TEXT_12.replace(b"2:\3\xde", b"1:\0"), lt=b"\0", orders=ORDERS._replace(idle=999)))
-row(14, request(text=T_699, t=b"\2\xbb"))
+row(14, aged(61), "age 61")
+row(14, aged(301, orders=NAMED), "age 301 where 300 is named")
 row(15, request(records=(TAKEN._replace(highest=69),)))
 row(16, request(records=(TAKEN,)))
 row(17, setting_up(records=(FRESH, rec.FREE)))

@@ -1,4 +1,4 @@
-"""The login gate of document 01 as pure functions: setup, judge, judge_one and end.
+"""The login gate of document 01, with document 02's changes so far, as pure functions: setup, judge, judge_one and end.
 
 Each takes everything lent and answers an Outcome. The checks stand in 01's order, one short function for each number;
 a comment names docs/DECISIONS.md where 01 can be read in two ways.
@@ -17,7 +17,7 @@ from encoding import base64_bytes, base64_text, netstring
 
 HIGHEST = 4_294_967_295  # of times and nonces
 
-DEFAULT_REQUEST_LIFE = 300
+DEFAULT_REQUEST_LIFE = 60
 DEFAULT_IDLE = 1_800
 DEFAULT_SESSION_LIFE = 1_209_600
 LONGEST_SESSION_LIFE = 2_592_000

@@ -117,6 +117,7 @@ def phrases(setup, request):
     yield f"at most {model.MOST_EXTRA_NAMES}, at most {model.MOST_EXTRA} bytes together", True
     yield "at most 459 bytes", longest_reply() == 459
     yield f"from 0 to {model.HIGHEST:,}", True
+    yield "14; at the default 60 passes and 61 does not", at_edge("a request made 60 seconds ago") == 0 and at_edge("a request made 61 seconds ago") == 14
     yield "the 63 below it", at_edge("nonce 37, new, after 100") == 0
     yield "less than 64 below", at_edge("nonce 36, new, after 100") == 15
     yield "at most 64 requests at a time never meets 15 or 16", in_any_order()

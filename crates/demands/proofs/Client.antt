@@ -48,7 +48,7 @@ use Rattle.table.proofs.Stored.{stored-here, stored-well, alone-new}
 use Rattle.table.proofs.Sessions.{begun-sound, begun-fits}
 use Rattle.signed.specs.SignedText as Signed
 use Rattle.signed.specs.SignedText.{ordersNonce, signedOf, requestText}
-use Rattle.token.specs.Token.{tokenText, sealedToken, theToken}
+use Rattle.token.specs.Token.{Token, tokenText, sealedToken, theToken}
 use Rattle.token.proofs.Text.{Sized, length-text, bytes-text}
 use Rattle.token.proofs.Exactly.{fits-so, opened-token}
 use Rattle.reply.specs.Replies.{orderFields, replyFields, setupReply}
@@ -56,20 +56,20 @@ use Rattle.stages.specs.Request.{Request}
 use Rattle.stages.specs.Checks.{first}
 use Rattle.stages.specs.Parts.{fieldsOf, ivOf, nonceOf, timeOf, lastTimeOf, signatureOf, openedOf, tokenOf, limits, textOf, codeOf, twice, ordered, stepped, readingPart, coveringPart, tokenPart, signaturePart, vouchingPart, sessionPart, noncePart, admittingPart}
 use Rattle.stages.proofs.Checks.{passed-by}
-use Rattle.stages.proofs.Parts.{reading-numbered, vouching-numbered, session-numbered}
+use Rattle.stages.proofs.Parts.{session-numbered}
 use Rattle.gate.specs.Calls.{Setup}
 use Rattle.gate.specs.State.{State}
 use Rattle.gate.specs.Sizes.{setupFits, tableFits, lentFits, requestFits}
 use Rattle.gate.specs.Entry.{stateChecks, entryChecks}
 use Rattle.gate.specs.Setup.{expiryOf, setupChecks, newToken, sealedOf, replyOf, setUp}
 use Rattle.gate.specs.Judge.{entryPart, requestChecks, judged}
-use Rattle.gate.proofs.Numbers.{Entered, entry-numbered}
+use Rattle.gate.proofs.Numbers.{Entered}
 use Rattle.gate.proofs.Starting.{Lent, lent, opened}
 use Rattle.demands.specs.Tables.{Replaced}
 use Rattle.demands.specs.Passing.{PassesOthers, Reaches}
 use Rattle.demands.specs.Client.{Message, nonceField, clientText, clientCode, mainFields, clientFields, clientRequest, LentBytes, Fair}
 use Rattle.demands.proofs.Shared.Stored.{replaced, taken-within}
-use Rattle.demands.proofs.Shared.Checks.{accepted-passes, accepted-reaches}
+use Rattle.demands.proofs.Shared.Checks.{vouched-decides, accepted-passes, accepted-reaches}
 use Rattle.demands.proofs.Shared.Answers.{setUp-number, setUp-table, begun-table, judged-number}
 use Rattle.demands.proofs.Shared.Passed.{Takes, setup-takes}
 use Rattle.demands.proofs.Untouched.Setups.{token-sized}
@@ -319,11 +319,9 @@ module _ (s : Setup) (state : State) (done : first (setupChecks s state) ≡ 0) 
     nonce-none = rw (steps, and-false (ordered q)) refl
 
     none : first (requestChecks q after) ≡ 0
-    unfolding requestChecks entryPart
+    unfolding requestChecks
     none =
-        passed-by (entryPart q after) (readingPart q ++ (vouchingPart q ++ admittingPart q (after .table))) (entry-numbered _ _ _) entry-none
-        ∙ passed-by (readingPart q) (vouchingPart q ++ admittingPart q (after .table)) (reading-numbered q) reading-none
-        ∙ passed-by (vouchingPart q) (admittingPart q (after .table)) (vouching-numbered q) vouching-none
+        vouched-decides q after (admittingPart q (after .table)) entry-none reading-none vouching-none
         ∙ passed-by (sessionPart q (after .table)) (noncePart q (after .table)) (session-numbered q (after .table)) session-none
         ∙ nonce-none
 
@@ -346,3 +344,13 @@ pub client-passes : (s : Setup) (state : State) (m : Message) (clock : ℕ) (rep
 client-passes s state m clock reply lent-bytes e fair =
     let zero = none s state (sym (setUp-number s state) ∙ e) lent-bytes m clock reply fair in
     (accepted-passes _ _ zero, accepted-reaches _ _ zero)
+
+-- it carries its time, and the token with the setup's expiry
+pub client-carries : (s : Setup) (state : State) (m : Message) (clock : ℕ) (reply : List ℕ) → LentBytes s → setUp s state .number ≡ 0
+    → Fair s m clock reply → (timeOf (clientRequest s m clock reply) ≡ m .time) × (tokenOf (clientRequest s m clock reply) .expiry ≡ expiryOf s)
+unfolding newToken
+client-carries s state m clock reply lent-bytes e fair =
+    let done = sym (setUp-number s state) ∙ e in (
+      time-is s state done lent-bytes m clock reply fair,
+      ap (λ (t : Token). t .expiry) (token-is s state done lent-bytes m clock reply fair),
+    )

@@ -1,5 +1,6 @@
 -- The theorems: Untouched (demand 1), History (demand 2), Agreement (demand 3), Cases (document 01's twelve), Determined (document 01, 'How far
--- each contract reaches'), Client (what is asked of a request can be met) and Witnesses (no number of its list is idle). A theorem's own laws stand in the folder of its name.
+-- each contract reaches'), Client (what is asked of a request can be met), Age (how long a request is taken) and Witnesses (no number of its list
+-- is idle). A theorem's own laws stand in the folder of its name.
 pub mod Shared
 pub mod Untouched
 pub mod History
@@ -7,4 +8,5 @@ pub mod Agreement
 pub mod Cases
 pub mod Determined
 pub mod Client
+pub mod Age
 pub mod Witnesses

@@ -1,12 +1,12 @@
--- Each number of document 01 is given by some call, so no check is idle: here every number of a setup and of an ending, and 0 to 9 of a
--- request. 0 is given to a client's request, by Client's theorem; 10 to 16 need a token that opens, too, and the stored calls of tests/host
--- give them.
+-- Each number of document 01 is given by some call, so no check is idle: here every number of a setup and of an ending, and 0 to 9 and 14 of
+-- a request. 0 and 14 are given to a client's request, by the theorems of Client and Age; the others after 9 need a token that opens, too, and the
+-- stored calls of tests/host give them.
 -- Assumes nothing.
 use mathlib.Core.Path.{_≡_, refl, ap, _∙_}
 use mathlib.Core.Bool.{Bool, true, false}
 use mathlib.Core.List.{List, [], _∷_, _++_}
 use mathlib.Core.Option.{none}
-use Prim.Native.Nat.{ℕ, _^_}
+use Prim.Native.Nat.{ℕ, _≤_, _<_, _^_}
 use native.Mathlib.Omega.{arith}
 use lib.ListN.{length, replicate, length-append}
 use Rattle.cells.specs.Runs.{same}
@@ -46,12 +46,14 @@ use Rattle.gate.specs.Sizes.{tableFits, setupFits, lentFits, requestFits, endFi
 use Rattle.gate.specs.Entry.{stateChecks, entryChecks}
 use Rattle.gate.specs.Setup as S
 use Rattle.gate.specs.Setup.{offered, expiryOf, offerPart, lastingPart, roomPart, setupChecks, setUp}
-use Rattle.stages.specs.Parts.{fieldsOf, ivOf, openedOf, twice, readingPart, coveringPart, tokenPart, signaturePart, sessionPart, noncePart}
+use Rattle.stages.specs.Parts.{fieldsOf, ivOf, timeOf, openedOf, tokenOf, twice, readingPart, coveringPart, tokenPart, signaturePart, sessionPart, noncePart}
 use Rattle.gate.specs.Judge.{entryPart, requestChecks, answered, judged}
 use Rattle.gate.specs.End.{endChecks, ended}
 use Rattle.demands.specs.History.{empty}
 use Rattle.demands.specs.Client.{Message, clientRequest, LentBytes, Fair}
-use Rattle.demands.proofs.Client.{client-accepted}
+use Rattle.demands.specs.Passing.{PassesOthers}
+use Rattle.demands.proofs.Client.{client-accepted, client-passes, client-carries}
+use Rattle.demands.proofs.Age.{by-default, as-named}
 
 -- limits by default, and no extra names
 abbrev pub ordering : ℕ → Orders
@@ -61,12 +63,19 @@ abbrev pub zeros : ℕ → List ℕ
 zeros n = replicate n 0
 
 -- a setup with an IV of zeros
+abbrev pub under : Orders → ℕ → List ℕ → Setup
+under orders clock value = setupOf orders clock (zeros 32) (zeros 32) (zeros 12) (zeros 1) value (zeros 1024)
+
 abbrev pub asking : ℕ → ℕ → List ℕ → Setup
-asking mask clock value = setupOf (ordering mask) clock (zeros 32) (zeros 32) (zeros 12) (zeros 1) value (zeros 1024)
+asking mask = under (ordering mask)
 
 -- a client's mask with SHA-512
 abbrev pub offer : List ℕ
 offer = codes "r:AQQ="
+
+-- a setup at 0 whose orders say this request life
+abbrev pub living : ℕ → Setup
+living life = under (ordersOf 2 [] life 0 0) 0 offer
 
 -- a table of one session, which has this IV and lasts until 1
 abbrev pub session : List ℕ → State
@@ -90,7 +99,7 @@ abbrev pub host : List ℕ
 host = codes "Host:a" ++ (CR ∷ LF ∷ [])
 
 pub record SetupWitnesses : Type 0 where
-  pub zero : setUp (asking 2 0 offer) (empty 1) .number ≡ 0
+  pub zero : (life : ℕ) → setUp (living life) (empty 1) .number ≡ 0
   pub one : setUp (asking 2 0 offer) (holding []) .number ≡ 1
   pub two : setUp (asking (2 ^ 56) 0 offer) (empty 1) .number ≡ 2
   pub three : setUp (asking 2 0 offer) marked .number ≡ 3
@@ -104,7 +113,7 @@ pub record SetupWitnesses : Type 0 where
 pub setup-witnesses : SetupWitnesses
 unfolding setUp setupChecks S.entryPart offerPart lastingPart roomPart entryChecks stateChecks setupFits tableFits ordersGood goodExtra extraNames goodNames wellFormed fitting sound same bit records recordOf recordBytes bytesOf number codes Value.grammar Value.fieldsIn Value.fieldOf Value.pieceGood Value.textObeys Value.carried Pieces.pieces Pieces.upTo Pieces.after decoded full two one ending coded sixBits placeIn alphabet counted obeys ruleOf ruleAt keyNumber rankOf keys isMask isNumeral plain setupFields times contents offered the maskOf expiryOf limitsOf found taken
 setup-witnesses = record {
-  zero = refl;
+  zero = λ life. refl;
   one = refl;
   two = refl;
   three = refl;
@@ -172,9 +181,9 @@ request-witnesses = record {
 abbrev pub plainly : Message
 plainly = record { head = []; aside = []; path = codes "/"; body = []; time = 0; last-time = 0; nonce = 0 }
 
-lent-zeros : LentBytes (asking 2 0 offer)
+lent-zeros : (life : ℕ) → LentBytes (living life)
 unfolding bytesOf
-lent-zeros = record {
+lent-zeros life = record {
   server-key = bytes-bytesOf 32 0;
   session-key = bytes-bytesOf 32 0;
   iv = bytes-bytesOf 12 0;
@@ -182,9 +191,9 @@ lent-zeros = record {
   extra = bytes-bytesOf 0 0;
 }
 
-fair : Fair (asking 2 0 offer) plainly 0 (zeros 1024)
+fair : (life clock : ℕ) → clock < 1209600 → clock ≤ limitsOf (living life .orders) .«request_life» → Fair (living life) plainly clock (zeros 1024)
 unfolding codes same textOf goodBlock linesIn linesUpTo startsLine frontLine repeated timesNamed coveredNames chosen headerNames extraNames expiryOf limitsOf
-fair = record {
+fair life clock lasts timely = record {
   head-fits = omega arith;
   aside-fits = omega arith;
   path-some = omega arith;
@@ -201,5 +210,40 @@ fair = record {
   timely = omega arith;
 }
 
-pub request-accepted : judged (clientRequest (asking 2 0 offer) plainly 0 (zeros 1024)) (setUp (asking 2 0 offer) (empty 1) .state) .number ≡ 0
-request-accepted = client-accepted (asking 2 0 offer) (empty 1) plainly 0 (zeros 1024) lent-zeros (setup-witnesses .zero) fair
+-- a client's request, made at 0, that comes at a time, and the table that its setup left
+abbrev pub sent : ℕ → ℕ → Request
+sent life clock = clientRequest (living life) plainly clock (zeros 1024)
+
+abbrev pub left : ℕ → State
+left life = setUp (living life) (empty 1) .state
+
+accepted : (life clock : ℕ) → clock < 1209600 → clock ≤ limitsOf (living life .orders) .«request_life» → judged (sent life clock) (left life) .number ≡ 0
+accepted life clock lasts timely =
+    client-accepted (living life) (empty 1) plainly clock (zeros 1024) (lent-zeros life) (setup-witnesses .zero life) (fair life clock lasts timely)
+
+-- a request of this age at a request life that the orders leave at 0, and at one of 300 that they name
+pub record AgeWitnesses : Type 0 where
+  pub sixty : judged (sent 0 60) (left 0) .number ≡ 0
+  pub sixty-one : judged (sent 0 61) (left 0) .number ≡ 14
+  pub three-hundred : judged (sent 300 300) (left 300) .number ≡ 0
+  pub three-hundred-one : judged (sent 300 301) (left 300) .number ≡ 14
+
+module _ (life : ℕ) where
+  at-once : Fair (living life) plainly 0 (zeros 1024)
+  at-once = fair life 0 (omega arith) (omega arith)
+
+  passes : PassesOthers (sent life 0) (left life)
+  passes = client-passes (living life) (empty 1) plainly 0 (zeros 1024) (lent-zeros life) (setup-witnesses .zero life) at-once .0
+
+  carries : (timeOf (sent life 0) ≡ 0) × (tokenOf (sent life 0) .expiry ≡ 1209600)
+  unfolding expiryOf limitsOf
+  carries = client-carries (living life) (empty 1) plainly 0 (zeros 1024) (lent-zeros life) (setup-witnesses .zero life) at-once
+
+pub age-witnesses : AgeWitnesses
+unfolding limitsOf clientRequest
+age-witnesses = record {
+  sixty = accepted 0 60 (omega arith) (omega arith);
+  sixty-one = by-default (sent 0 0) (left 0) (passes 0) refl .refused 61 (omega (arith, carries 0 .1)) (omega (arith, carries 0 .0));
+  three-hundred = accepted 300 300 (omega arith) (omega arith);
+  three-hundred-one = as-named (sent 300 0) (left 300) (passes 300) refl .refused 301 (omega (arith, carries 300 .1)) (omega (arith, carries 300 .0));
+}

@@ -2,9 +2,9 @@
 -- Assumes nothing.
 use mathlib.Core.Path.{_≡_, refl}
 use mathlib.Core.Bool.{Bool, true, false, cond, _&&_, and-eq-true-iff}
-use Prim.Native.Nat.{ℕ, _^_, _<_}
+use Prim.Native.Nat.{ℕ, _^_, _≤_, _<_}
 use native.Mathlib.Omega.{arith}
-use borrow.Author.Tests.{ltb-true}
+use borrow.Author.Tests.{ltb-true, ne-eqb}
 use lib.Dec.{leb, ltb}
 use Rattle.names.specs.Extra.{goodExtra}
 use Rattle.orders.specs.Orders.{Orders, longestSessionLife, ordersGood, limitsOf, checkedOrders}
@@ -40,3 +40,12 @@ checked-bad o h = go (ordersGood o) refl h
     go : (b : Bool) → ordersGood o ≡ b → cond b (Good (limitsOf o)) Bad ≡ Bad → ordersGood o ≡ false
     go true e k = let z : _≡_ {A = ℕ} 0 1 = cc in absurd (omega arith)
     go false e k = e
+
+-- the request life: 60 seconds where the orders leave it at 0, else what they name
+pub life-default : (o : Orders) → o .numbers .«request_life» ≡ 0 → limitsOf o .«request_life» ≡ 60
+unfolding limitsOf
+life-default o e = rw e
+
+pub life-named : (o : Orders) (seconds : ℕ) → 1 ≤ seconds → o .numbers .«request_life» ≡ seconds → limitsOf o .«request_life» ≡ seconds
+unfolding limitsOf
+life-named o seconds some e = rw (e, ne-eqb seconds 0 (λ z. omega arith))

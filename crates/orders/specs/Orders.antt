@@ -1,4 +1,4 @@
--- Orders, the site's settings: document 01, 'Orders, records and sizes'.
+-- Orders, the site's settings: document 01, 'Orders, records and sizes', and document 02, K1, for the default request life.
 -- Assumes nothing.
 use Prim.Native.Nat.{ℕ, _^_}
 use mathlib.Core.List.{List}
@@ -36,7 +36,7 @@ ordersGood o =
 
 unfoldable pub limitsOf : Orders → Limits
 limitsOf o = record {
-  «request_life» = orDefault 300 (o .numbers .«request_life»);
+  «request_life» = orDefault 60 (o .numbers .«request_life»);
   idle = orDefault 1800 (o .numbers .idle);
   «session_life» = orDefault 1209600 (o .numbers .«session_life»);
 }

@@ -33,7 +33,7 @@ pub fn check(known: &[u8], numbers: Numbers, extra: &[u8]) -> Checked
         & (numbers.session_life <= 2592000)
     {
         return Checked::Good(Limits {
-            request_life: or_default(300, numbers.request_life),
+            request_life: or_default(60, numbers.request_life),
             idle: or_default(1800, numbers.idle),
             session_life: or_default(1209600, numbers.session_life),
         });

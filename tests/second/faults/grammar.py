@@ -303,7 +303,7 @@ for any_key, contents in GOOD_CONTENTS.items():
 
 @fault("t: one zero byte", 0, "plan")
 def t_zero(draft, rng):
-    draft.at(250)
+    draft.at(50)
     draft.order(request_life=0)
     draft.t, draft.lt = 0, 0
 

@@ -105,8 +105,8 @@ def gap_negative(draft, rng):
 
 @fault("lt at its end, t near 0", 0, "plan")
 def gap_lowest(draft, rng):
-    draft.at(100)
-    draft.aged(rng.choice([0, 100]))
+    draft.at(60)
+    draft.aged(rng.choice([0, 60]))
     draft.order(idle=1, request_life=0)
     draft.lt = HIGHEST
 
@@ -134,7 +134,7 @@ def gap_half(draft, rng):
 def idle_and_old(draft, rng):
     draft.order(idle=0, request_life=0)
     draft.at(max(draft.clock, 10_000))
-    draft.aged(301)
+    draft.aged(61)
     draft.gap(1_801)
 
 
@@ -157,9 +157,11 @@ def ages(name, number, ordered, seconds):
         draft.aged(seconds)
 
 
-ages("age 299 at the default", 0, 0, 299)
-ages("age 300 at the default", 0, 0, 300)
-ages("age 301 at the default", 14, 0, 301)
+ages("age 59 at the default", 0, 0, 59)
+ages("age 60 at the default", 0, 0, 60)
+ages("age 61 at the default", 14, 0, 61)
+ages("age 300 at the default", 14, 0, 300)
+ages("age 61 at limit 300", 0, 300, 61)
 ages("age 300 at limit 300", 0, 300, 300)
 ages("age 301 at limit 300", 14, 300, 301)
 ages("age 1 at limit 1", 0, 1, 1)

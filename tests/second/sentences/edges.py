@@ -7,7 +7,7 @@ import client
 import drafts
 import model
 import record as rec
-from sentences.placing import CLOCK, HIGHEST, at, replaced, request_call, setup_call
+from sentences.placing import CLOCK, HIGHEST, at, ordered, replaced, request_call, setup_call
 
 
 def cases():
@@ -25,6 +25,10 @@ def given(asked, call, number):
 
 
 # Edges: what is asked, the call, and its number
+
+
+def aged(seconds, request_life=0):
+    return request_call(orders=ordered(3, request_life=request_life), t=CLOCK - seconds, lt=CLOCK - seconds)
 
 
 def nonce(n, highest=None, bits=1):
@@ -48,8 +52,10 @@ def set_up_at(clock):
 HOST = b"Host:a\r\n"
 
 EDGES = (
-    ("a request made 300 seconds ago", request_call(t=CLOCK - 300, lt=CLOCK - 300), 0),
-    ("a request made 301 seconds ago", request_call(t=CLOCK - 301, lt=CLOCK - 301), 14),
+    ("a request made 60 seconds ago", aged(60), 0),
+    ("a request made 61 seconds ago", aged(61), 14),
+    ("a request made 300 seconds ago where the orders name 300", aged(300, 300), 0),
+    ("a request made 301 seconds ago where the orders name 300", aged(301, 300), 14),
     ("a request from a clock that runs an hour ahead", request_call(t=CLOCK + 3_600, lt=CLOCK + 3_600), 0),
     ("`t` 1,800 seconds after `lt`", request_call(lt=CLOCK - 1_800), 0),
     ("`t` 1,801 seconds after `lt`", request_call(lt=CLOCK - 1_801), 13),

@@ -14,8 +14,8 @@ def cases():
     yield "a coverage mask .. Bits 1 to 55 .. A higher bit makes bad orders"
     for mask in (0, 1, 2, 3, 1 << 54, 1 << 55, (1 << 56) - 1, 1 << 56, (1 << 56) + 1, 1 << 57, 1 << 63, (1 << 64) - 1):
         yield orders, mask, b"", 0, 0, 0
-    yield "three limits in seconds, where 0 means the default: request life 300, idle 1,800, session life 1,209,600"
-    for limits in ((0, 0, 0), (1, 0, 0), (0, 1, 0), (0, 0, 1), (300, 1_800, 1_209_600), (5, 6, 7), (60, 0, 900)):
+    yield "three limits in seconds, where 0 means the default: request life 60 (document 02, K1), idle 1,800, session life 1,209,600"
+    for limits in ((0, 0, 0), (1, 0, 0), (0, 1, 0), (0, 0, 1), (60, 1_800, 1_209_600), (300, 0, 0), (5, 6, 7), (60, 0, 900)):
         yield orders, 3, b"", *limits
     yield "A session life above 2,592,000 (30 days) makes bad orders; the other limits are any 32-bit numbers"
     for life in (2_591_999, 2_592_000, 2_592_001, 2_592_256, 1 << 31, HIGHEST):

@@ -16,6 +16,7 @@ use Rattle.table.specs.Session.{placeOf}
 use Rattle.stages.specs.Parts.{ivOf, timeOf, lastTimeOf, openedOf, tokenOf, limits, readingPart, coveringPart, tokenPart, signaturePart, vouchingPart, sessionPart, noncePart, admittingPart}
 use Rattle.gate.specs.Judge.{entryPart, requestChecks}
 use Rattle.stages.proofs.Checks.{numbered, lacks, comes-later, none-holds, passed-by}
+use Rattle.stages.proofs.Parts.{reading-numbered, vouching-numbered}
 use Rattle.demands.specs.Passing.{otherChecks, PassesOthers, beforeSignature, Reaches}
 
 module _ (q : Request) (state : State) where
@@ -62,15 +63,19 @@ module _ (q : Request) (state : State) where
   unfolding entryPart entryChecks stateChecks
   entry-numbered = refl
 
-  reading-numbered : numbered (readingPart q) ≡ true
-  unfolding readingPart coveringPart
-  reading-numbered = refl
+  -- one that passes the checks up to that of its signature is decided by those after it
+  pub vouched-decides : (later : List Check) → first (entryPart q state) ≡ 0 → first (readingPart q) ≡ 0 → first (vouchingPart q) ≡ 0
+      → first (entryPart q state ++ (readingPart q ++ (vouchingPart q ++ later))) ≡ first later
+  vouched-decides later entry reading vouching =
+      passed-by (entryPart q state) (readingPart q ++ (vouchingPart q ++ later)) entry-numbered entry
+      ∙ passed-by (readingPart q) (vouchingPart q ++ later) (reading-numbered q) reading
+      ∙ passed-by (vouchingPart q) later (vouching-numbered q) vouching
 
   pub read-through : (n : ℕ) → lacks n (entryPart q state) ≡ true → lacks n (readingPart q) ≡ true → first (requestChecks q state) ≡ n → Read n
   unfolding requestChecks
   read-through n a b e =
       let read = comes-later (entryPart q state) (readingPart q ++ (vouchingPart q ++ admittingPart q (state .table))) n entry-numbered a e in
-      let vouched = comes-later (readingPart q) (vouchingPart q ++ admittingPart q (state .table)) n reading-numbered b (read .later) in
+      let vouched = comes-later (readingPart q) (vouchingPart q ++ admittingPart q (state .table)) n (reading-numbered q) b (read .later) in
       record { entry = read .none; reading = vouched .none; later = vouched .later }
 
 -- a check does not hold whose number is not given though it stands first

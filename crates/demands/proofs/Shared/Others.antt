@@ -45,13 +45,13 @@ module _ (q : Request) (state : State) where
     pub small : nonceOf q < 2 ^ 32
 
   -- none of those checks holds, part by part
-  record Parts : Type 0 where
-    entry : first (entryPart q state) ≡ 0
-    reading : first (readingPart q) ≡ 0
-    vouching : first (vouchingPart q) ≡ 0
-    session : first (sessionPart q (state .table)) ≡ 0
+  pub record Parts : Type 0 where
+    pub entry : first (entryPart q state) ≡ 0
+    pub reading : first (readingPart q) ≡ 0
+    pub vouching : first (vouchingPart q) ≡ 0
+    pub session : first (sessionPart q (state .table)) ≡ 0
 
-  parts : PassesOthers q state → Parts
+  pub parts : PassesOthers q state → Parts
   unfolding entryPart
   parts e =
       let read = none-holds (entryPart q state) (readingPart q ++ (vouchingPart q ++ sessionPart q (state .table))) (entry-numbered _ _ _) e in
