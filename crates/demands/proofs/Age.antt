@@ -1,11 +1,11 @@
--- A request's age: document 01, 'Age, idleness and the window', with the default of document 02, K1. A request that passes the checks other than
--- those of its nonce, come at another time before its token's expiry, passes them as long as it is no older than the request life, and is 14 from the next
--- second on. Where the orders leave the request life at 0 that is 60 seconds, and where they name 300 it is 300.
+-- Document 02, K1: "60 passes, 61 is 14." A request that passes the checks other than those of its nonce, come at another time before its token's
+-- expiry, passes them as long as it is no older than the request life, and is 14 from the next second on (`by-life`). Where the orders leave the
+-- request life at 0 that is 60 seconds (`by-default`), and where they name 300 it is 300 (`as-named`).
 -- Assumes nothing.
 use mathlib.Core.Path.{_≡_, refl, subst, _∙_}
 use mathlib.Core.Bool.{Bool, true, false, cond}
 use mathlib.Core.List.{List, [], _++_}
-use Prim.Native.Nat.{ℕ, _+_, _≤_, _<_}
+use Prim.Native.Nat.{ℕ, _+_, _<_}
 use native.Mathlib.Omega.{arith}
 use borrow.Author.Tests.{lt-leb, lt-ltb, le-ltb}
 use Rattle.orders.proofs.Orders.{life-default, life-named}
@@ -18,15 +18,12 @@ use Rattle.stages.specs.Checks.{Check, first}
 use Rattle.stages.specs.Parts.{fieldsOf, ivOf, nonceOf, timeOf, lastTimeOf, signatureOf, openedOf, tokenOf, limits, textOf, codeOf, twice, readingPart, coveringPart, tokenPart, signaturePart, vouchingPart, sessionPart, noncePart, admittingPart}
 use Rattle.stages.proofs.Checks.{passed-at}
 use Rattle.stages.proofs.Parts.{vouching-numbered, session-numbered}
-use Rattle.gate.specs.Judge.{entryPart, requestChecks, judged}
-use Rattle.demands.specs.Passing.{PassesOthers, arriving}
+use Rattle.gate.specs.Judge.{entryPart, requestChecks}
+use Rattle.demands.specs.Passing.{PassesOthers}
+use Rattle.demands.specs.Age.{arriving, Ages}
 use Rattle.demands.proofs.Shared.Checks.{vouched-decides}
 use Rattle.demands.proofs.Shared.Answers.{judged-number}
 use Rattle.demands.proofs.Shared.Others.{parts}
-
-pub record Ages (q : Request) (state : State) (life : ℕ) : Type 0 where
-  pub passes : (clock : ℕ) → clock < tokenOf q .expiry → clock ≤ timeOf q + life → PassesOthers (arriving clock q) state
-  pub refused : (clock : ℕ) → clock < tokenOf q .expiry → timeOf q + life < clock → judged (arriving clock q) state .number ≡ 14
 
 module _ (q : Request) (state : State) (others : PassesOthers q state) (clock : ℕ) (lasts : clock < tokenOf q .expiry) where
   abbrev later : Request

@@ -1,4 +1,5 @@
--- What the demands speak of: of demand 1 Order, Tables and Effects, of demand 2 History and Passing, of demand 3 Passing and Agreement; a request that meets what they ask: Client.
+-- What the demands speak of: of demand 1 Order, Tables and Effects, of demand 2 History and Passing, of demand 3 Passing and Agreement; a request that meets what they ask: Client;
+-- how long it is taken: Age.
 pub mod Order
 pub mod Tables
 pub mod Effects
@@ -6,3 +7,4 @@ pub mod History
 pub mod Passing
 pub mod Agreement
 pub mod Client
+pub mod Age

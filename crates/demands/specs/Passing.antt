@@ -3,8 +3,7 @@
 -- Assumes nothing.
 use mathlib.Core.Path.{_≡_}
 use mathlib.Core.List.{List, _++_}
-use Prim.Native.Nat.{ℕ}
-use Rattle.stages.specs.Request.{Request, requestOf}
+use Rattle.stages.specs.Request.{Request}
 use Rattle.gate.specs.State.{State}
 use Rattle.stages.specs.Checks.{Check, first}
 use Rattle.gate.specs.Judge.{entryPart}
@@ -23,7 +22,3 @@ beforeSignature q state = entryPart q state ++ (readingPart q ++ tokenPart q)
 
 abbrev pub Reaches : Request → State → Type 0
 Reaches q state = first (beforeSignature q state) ≡ 0
-
--- the same request, come at this time
-abbrev pub arriving : ℕ → Request → Request
-arriving clock q = requestOf (q .orders) clock (q .server-key) (q .value) (q .head) (q .aside) (q .path) (q .body) (q .reply)
