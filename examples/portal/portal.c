@@ -57,7 +57,7 @@ typedef struct request {
 static uint32_t midnight, now;
 static uint8_t server_key[GATE_SERVER_KEY_BYTES];
 static char extra[GATE_EXTRA_MAX + 1];
-static gate_orders orders; /* the portal's, which a caller has until it gets its own */
+static gate_orders orders; /* the portal's, which a caller begins with */
 static uint8_t table[GATE_TABLE_MAX], reply[GATE_REPLY_MIN];
 static size_t records;
 

@@ -28,6 +28,10 @@ module _ (q : Request) (state : State) where
   unfolding requestChecks
   before-then-signature = simp append-assoc
 
+  entry-numbered : numbered (entryPart q state) ≡ true
+  unfolding entryPart entryChecks stateChecks
+  entry-numbered = refl
+
   others-numbered : numbered (otherChecks q state) ≡ true
   unfolding entryPart readingPart coveringPart tokenPart signaturePart sessionPart entryChecks stateChecks
   others-numbered = refl
@@ -53,16 +57,6 @@ module _ (q : Request) (state : State) where
   pub signature-decides : Reaches q state → first (requestChecks q state) ≡ first (signaturePart q ++ admittingPart q (state .table))
   signature-decides e = ap first before-then-signature ∙ passed-by (beforeSignature q state) _ before-numbered e
 
-  -- what a request has passed whose number is of none of the checks 1 to 8
-  pub record Read (n : ℕ) : Type 0 where
-    pub entry : first (entryPart q state) ≡ 0
-    pub reading : first (readingPart q) ≡ 0
-    pub later : first (vouchingPart q ++ admittingPart q (state .table)) ≡ n
-
-  entry-numbered : numbered (entryPart q state) ≡ true
-  unfolding entryPart entryChecks stateChecks
-  entry-numbered = refl
-
   -- one that passes the checks up to that of its signature is decided by those after it
   pub vouched-decides : (later : List Check) → first (entryPart q state) ≡ 0 → first (readingPart q) ≡ 0 → first (vouchingPart q) ≡ 0
       → first (entryPart q state ++ (readingPart q ++ (vouchingPart q ++ later))) ≡ first later
@@ -70,6 +64,12 @@ module _ (q : Request) (state : State) where
       passed-by (entryPart q state) (readingPart q ++ (vouchingPart q ++ later)) entry-numbered entry
       ∙ passed-by (readingPart q) (vouchingPart q ++ later) (reading-numbered q) reading
       ∙ passed-by (vouchingPart q) later (vouching-numbered q) vouching
+
+  -- what a request has passed whose number is of none of the checks 1 to 8
+  pub record Read (n : ℕ) : Type 0 where
+    pub entry : first (entryPart q state) ≡ 0
+    pub reading : first (readingPart q) ≡ 0
+    pub later : first (vouchingPart q ++ admittingPart q (state .table)) ≡ n
 
   pub read-through : (n : ℕ) → lacks n (entryPart q state) ≡ true → lacks n (readingPart q) ≡ true → first (requestChecks q state) ≡ n → Read n
   unfolding requestChecks
