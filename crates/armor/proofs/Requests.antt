@@ -1,6 +1,7 @@
 -- What the set of fields of a request, the rules of its keys and the counts of a scan say of a whole value.
 -- Assumes nothing.
 use mathlib.Core.Path.{_≡_, refl, ap, _∙_, sym, ap₂}
+use mathlib.Core.Logic.{⊎-elim}
 use mathlib.Core.Bool.{Bool, true, cond, _&&_, false, not}
 use mathlib.Core.List.{List}
 use mathlib.Core.Option.{some, Option, none}
@@ -23,7 +24,7 @@ use Rattle.cells.proofs.Tests.{tested, both}
 use Rattle.armor.proofs.Numerals.{first, second}
 use Rattle.armor.proofs.Keys.{from-at}
 use Rattle.armor.proofs.Value.{grammar-exactly}
-use Rattle.armor.proofs.Texts.{number-room, mask-room, sized-room}
+use Rattle.armor.proofs.Texts.{number-room, mask-room, sized-room, either-room}
 use Rattle.armor.proofs.Fields.{noted, obeyed-once, none-held, count-bit, counted, counts-are}
 
 -- how often each key stands
@@ -88,10 +89,14 @@ module _ (fs : List Field) (good : allGood fs ≡ true) (right : requestFields f
     h = mask-room (the keyH fs) (held keyH (has .h));
     ah = mask-room (the keyAh fs) (held keyAh (has .ah));
     s = sized-room 1 118 (the keyS fs) (held keyS (has .s));
-    c = exact 64 (the keyC fs) (held keyC (has .c));
+    c = either-room 32 64 (the keyC fs) (held keyC (has .c));
     iv = exact 12 (the keyIv fs) (held keyIv (has .iv));
     tag = exact 16 (the keyTag fs) (held keyTag (has .tag));
   }
+
+-- c is at most as long as the longer of its two sizes
+pub signature-room : {fs : List Field} → Sizes fs → length (the keyC fs) ≤ 64
+signature-room sizes = ⊎-elim (λ e. omega arith) (λ e. omega arith) (sizes .c)
 
 -- what is ready to be read
 pub ready : {v : List ℕ} {seen : Seen} → Sound v seen → requestFields (carried v) ≡ true → Ready v seen

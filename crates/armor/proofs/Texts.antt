@@ -1,14 +1,15 @@
 -- What measuring or decoding a text says of the rules that it keeps.
 -- Assumes nothing.
 use mathlib.Core.Path.{_≡_, refl, sym, ap, ap₂, _∙_}
-use mathlib.Core.Bool.{Bool, true, false, _&&_, and-false}
+use mathlib.Core.Logic.{_⊎_, inl, inr}
+use mathlib.Core.Bool.{Bool, true, false, _&&_, _||_, and-false}
 use mathlib.Core.List.{List, [], _∷_}
-use Prim.Native.Nat.{ℕ, _-_, _≤_}
+use Prim.Native.Nat.{ℕ, _-_, _<_, _≤_}
 use native.Mathlib.Omega.{arith}
 use lib.Dec.{eqb, leb}
 use lib.ListN.{length, getD, take, drop, replicate, length-replicate}
 use lib.Seq.{take-at}
-use borrow.Author.Tests.{leb-true, le-leb, lt-leb}
+use borrow.Author.Tests.{eqb-true, ne-eqb, leb-true, leb-false, le-leb, lt-leb}
 use Rattle.cells.specs.Runs.{fronted}
 use Rattle.cells.specs.Numbers
 use Rattle.cells.proofs.Runs.{length-fronted, fronted-whole}
@@ -17,7 +18,7 @@ use Rattle.base64.specs.declared.Decoded.{Decoded}
 use Rattle.base64.specs.Decoding.{Decoding, nothing, bytes, decoded}
 use Rattle.base64.specs.InnerAnswers.{sizeOf, measured, Outcome, outcome, pickOutcome, into, decodedInto}
 use Rattle.armor.specs.Numerals.{isNumeral, isNumber, isMask, maskOf}
-use Rattle.armor.specs.Keys.{Rule, number, mask, sized, obeys}
+use Rattle.armor.specs.Keys.{Rule, number, mask, sized, either, obeys}
 use Rattle.armor.specs.Value.{decodedObeys, textObeys, held}
 use Rattle.cells.proofs.Tests.{tested}
 use Rattle.armor.proofs.Numerals.{first, second, numeral-parts, mask-parts}
@@ -102,6 +103,11 @@ pub sized-room : (low high : ℕ) (b : List ℕ) → obeys (sized low high) b �
 unfolding obeys
 sized-room low high b e = search (first, second, leb-true)
 
+pub either-room : (short long : ℕ) (b : List ℕ) → obeys (either short long) b ≡ true → (length b ≡ short) ⊎ (length b ≡ long)
+unfolding obeys
+either-room short long b e =
+    tested (eqb (length b) short) (λ t. inl (eqb-true (length b) short t)) (λ t. inr (eqb-true (length b) long (rw t at e)))
+
 -- bytes at the front of a buffer
 pub front-taken : (run out : List ℕ) (n : ℕ) {left : List ℕ} → left ≡ fronted run out → n ≡ length run → take n left ≡ run
 unfolding fronted
@@ -144,6 +150,11 @@ filled-within {out = out} f = omega (arith, f .size, f .fits, ap length (f .fron
 pub sized-test : (n low high : ℕ) → 1 ≤ low → (leb 1 n && (leb low n && leb n high)) ≡ (leb low n && leb n high)
 sized-test n low high one =
     tested (leb low n) (λ e. simp (le-leb 1 n (omega (arith, leb-true low n e)))) (λ e. rw e (and-false (leb 1 n)))
+
+pub either-test : (n short long : ℕ) → 1 ≤ short → 1 ≤ long → (leb 1 n && (eqb n short || eqb n long)) ≡ (eqb n short || eqb n long)
+either-test n short long s l =
+    tested (leb 1 n) (λ e. rw e)
+    (λ e. let none : n < 1 = leb-false 1 n e in rw (e, ne-eqb n short (λ z. omega arith), ne-eqb n long (λ z. omega arith)))
 
 -- a mask's bytes after its length byte
 pub mask-taken : (bs out : List ℕ) (n : ℕ) {left : List ℕ} → 1 ≤ length bs → left ≡ fronted bs out → n ≡ length bs

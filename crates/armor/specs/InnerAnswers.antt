@@ -46,7 +46,9 @@ pub record Holds (v : List ℕ) (fs : List Field) (q : Request) : Type 0 where
   pub token : take (q .«s_len») (q .s) ≡ the keyS fs
   pub token-size : q .«s_len» ≡ length (the keyS fs)
   pub token-fits : q .«s_len» ≤ 118
-  pub signature : q .c ≡ the keyC fs
+  pub signature : take (q .«c_len») (q .c) ≡ the keyC fs
+  pub signature-size : q .«c_len» ≡ length (the keyC fs)
+  pub signature-fits : q .«c_len» ≤ 64
   pub vector : q .iv ≡ the keyIv fs
   pub tag : q .tag ≡ the keyTag fs
   pub time : q .t .0 ≡ number (the keyT fs)

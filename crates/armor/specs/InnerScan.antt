@@ -1,6 +1,7 @@
 -- Invariants of the code: what a scan of a value has seen.
 -- Assumes nothing.
 use mathlib.Core.Path.{_≡_}
+use mathlib.Core.Logic.{_⊎_}
 use mathlib.Core.Bool.{Bool, true, false, cond}
 use mathlib.Core.List.{List, []}
 use mathlib.Core.Option.{Option, none, some}
@@ -67,7 +68,7 @@ pub record Sizes (fs : List Field) : Type 0 where
   pub h : (1 ≤ length (the keyH fs)) × (length (the keyH fs) ≤ 9)
   pub ah : (1 ≤ length (the keyAh fs)) × (length (the keyAh fs) ≤ 9)
   pub s : (1 ≤ length (the keyS fs)) × (length (the keyS fs) ≤ 118)
-  pub c : length (the keyC fs) ≡ 64
+  pub c : (length (the keyC fs) ≡ 32) ⊎ (length (the keyC fs) ≡ 64)
   pub iv : length (the keyIv fs) ≡ 12
   pub tag : length (the keyTag fs) ≡ 16
 

@@ -1,11 +1,11 @@
--- The keys that have a meaning, and the rule for what each holds: document 01, The X-S-Armor value.
+-- The keys that have a meaning, and the rule for what each holds: document 01, The X-S-Armor value, and document 02, K2, for c.
 -- A key goes by its place in the list `keys`: `key-names` of proofs/Keys.antt says which name each number has, and `names-exactly` that no other name has it.
 -- Assumes nothing.
-use mathlib.Core.Bool.{Bool, true, cond, _&&_}
+use mathlib.Core.Bool.{Bool, true, cond, _&&_, _||_}
 use mathlib.Core.List.{List, [], _∷_}
 use Prim.Native.Nat.{ℕ, suc}
 use Prim.Native.String.{String}
-use lib.Dec.{leb}
+use lib.Dec.{eqb, leb}
 use lib.ListN.{length, getD}
 use Rattle.cells.specs.Runs.{same}
 use Rattle.cells.specs.Text.{codes}
@@ -15,6 +15,7 @@ pub data Rule : Type 0 where
   number : Rule
   mask : Rule
   sized : ℕ → ℕ → Rule
+  either : ℕ → ℕ → Rule
   free : Rule
 
 -- whether decoded bytes keep a rule
@@ -22,6 +23,7 @@ unfoldable pub obeys : Rule → List ℕ → Bool
 obeys number bs = isNumber bs
 obeys mask bs = isMask bs
 obeys (sized low high) bs = leb low (length bs) && leb (length bs) high
+obeys (either a b) bs = eqb (length bs) a || eqb (length bs) b
 obeys free bs = true
 
 pub record Key : Type 0 where
@@ -40,7 +42,7 @@ keys =
     ∷ key "ah" mask
     ∷ key "r" mask
     ∷ key "s" (sized 1 118)
-    ∷ key "c" (sized 64 64)
+    ∷ key "c" (either 32 64)
     ∷ key "iv" (sized 12 12)
     ∷ key "tag" (sized 16 16)
     ∷ key "eah" free

@@ -43,7 +43,3 @@ isMask (n ∷ bs) = eqb n (length bs) && isNumeral 8 bs
 unfoldable pub maskOf : List ℕ → ℕ
 maskOf [] = 0
 maskOf (n ∷ bs) = number bs
-
--- the mask of h: SHA-512
-abbrev pub hashMask : ℕ
-hashMask = 4

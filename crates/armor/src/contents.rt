@@ -103,7 +103,7 @@ pub fn request_of(value: &[u8], seen: Seen) -> Request
     let mut s = [0u8; 118];
     let s_len = content(value, seen, key::S, &mut s);
     let mut c = [0u8; 64];
-    content(value, seen, key::C, &mut c);
+    let c_len = content(value, seen, key::C, &mut c);
     let mut iv = [0u8; 12];
     content(value, seen, key::IV, &mut iv);
     let mut tag = [0u8; 16];
@@ -116,6 +116,7 @@ pub fn request_of(value: &[u8], seen: Seen) -> Request
         s,
         s_len,
         c,
+        c_len,
         iv,
         tag,
         t,

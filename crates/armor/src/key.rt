@@ -2,7 +2,7 @@
 ghost use mathlib.Core.Path.{_≡_};
 ghost use Prim.Native.Nat.{_+_, _≤_};
 ghost use lib.ListN.{drop};
-ghost use Rattle.armor.specs.Keys.{keys, rankOf, keyNumber, number, mask, sized, free, ruleAt};
+ghost use Rattle.armor.specs.Keys.{keys, rankOf, keyNumber, number, mask, sized, either, free, ruleAt};
 ghost use Rattle.armor.specs.Value.{textObeys};
 use super::numeral;
 use base64::Decoded;
@@ -91,6 +91,17 @@ fn is_sized(text: &[u8], low: usize, high: usize) -> bool
     (low <= n) & (n <= high)
 }
 
+// Whether a text encodes one of two numbers of bytes.
+fn is_either(text: &[u8], short: usize, long: usize) -> bool
+    requires { ⌜ (1 ≤ short) × (1 ≤ long) ⌝ }
+    ensures { λ r. ⌜ r ≡ textObeys (either short long) (now (text .entry)) ⌝ }
+{
+    let Measured::Bytes(n) = base64::measure(text) else {
+        return false;
+    };
+    (n == short) | (n == long)
+}
+
 // Whether a text encodes any bytes.
 fn is_some(text: &[u8]) -> bool
     ensures { λ r. ⌜ r ≡ textObeys free (now (text .entry)) ⌝ }
@@ -139,7 +150,7 @@ pub fn is_good(text: &[u8], key: usize) -> bool
     }
     match key {
         S => is_sized(text, 1, 118),
-        C => is_sized(text, 64, 64),
+        C => is_either(text, 32, 64),
         IV => is_sized(text, 12, 12),
         TAG => is_sized(text, 16, 16),
         _ => is_some(text),

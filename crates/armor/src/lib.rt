@@ -18,9 +18,6 @@ pub use writing::put_field;
 pub use writing::put_mask;
 pub use writing::put_next;
 
-// The mask of h: SHA-512.
-pub const HASH_MASK: u64 = 4;
-
 pub enum Answer {
     Good,
     Grammar,
@@ -32,6 +29,7 @@ pub struct Request {
     pub s: [u8; 118],
     pub s_len: usize,
     pub c: [u8; 64],
+    pub c_len: usize,
     pub iv: [u8; 12],
     pub tag: [u8; 16],
     pub t: Time,
@@ -77,6 +75,7 @@ fn no_request() -> Request {
         s: [0u8; 118],
         s_len: 0,
         c: [0u8; 64],
+        c_len: 0,
         iv: [0u8; 12],
         tag: [0u8; 16],
         t: Time(0),

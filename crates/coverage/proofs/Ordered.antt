@@ -15,13 +15,14 @@ use Rattle.base64.specs.Encoding.{encoded}
 use Rattle.base64.proofs.Exactly.{encoded-injective}
 use Rattle.armor.specs.declared.Answer.{Answer}
 use Rattle.armor.specs.declared.Request.{Request}
-use Rattle.armor.specs.Numerals.{maskBytes, maskOf, hashMask}
-use Rattle.armor.specs.Keys.{keyH, keyAh, keyEah}
+use Rattle.hashes.specs.Hashes.{digestSize, named, allowedOne}
+use Rattle.armor.specs.Numerals.{maskBytes, maskOf}
+use Rattle.armor.specs.Keys.{keyAh, keyEah}
 use Rattle.armor.specs.Value.{Field, grammar, carried}
 use Rattle.armor.specs.Fields.{contents, times, the, rightTimes, requestFields}
 use Rattle.armor.specs.InnerAnswers.{requestFrom, requestAnswer, Holds}
 use Rattle.armor.proofs.Numerals.{maskOf-maskBytes}
-use Rattle.armor.proofs.Carried.{request-given, request-has, hash-bytes, coverage-bytes, carried-bytes}
+use Rattle.armor.proofs.Carried.{request-given, request-has, coverage-bytes, carried-bytes}
 use Rattle.coverage.specs.Coverage.{extraAsOrdered, asOrdered}
 
 -- fields that are those of a request come of a value that keeps its grammar
@@ -60,9 +61,6 @@ module _ (v : List ℕ) (q : Request) (good : requestFields (carried v) ≡ true
   answer : requestAnswer v ≡ Answer.Good
   answer = request-good v good
 
-  hash-test : same (the keyH (carried v)) (maskBytes hashMask) ≡ eqb (q .h) hashMask
-  hash-test = mask-test (the keyH (carried v)) (q .h) hashMask (hash-bytes v answer) (holds .hash) (omega arith)
-
   coverage-test : (m : ℕ) → m < 2 ^ 64 → same (the keyAh (carried v)) (maskBytes m) ≡ eqb (q .ah) m
   coverage-test m fits = mask-test (the keyAh (carried v)) (q .ah) m (coverage-bytes v answer) (holds .coverage) fits
 
@@ -73,10 +71,11 @@ module _ (v : List ℕ) (q : Request) (good : requestFields (carried v) ≡ true
       text-test (the keyEah (carried v)) b (carried-bytes v (carried v) keyEah (request-given v answer .0)) h
       ∙ ap (λ (l : List ℕ). same l (encoded b)) (sym (holds .extra))
 
-  pub ordered : (mask : ℕ) (extra : List ℕ) → mask < 2 ^ 64
-      → asOrdered mask extra (carried v) ≡ (eqb (q .h) hashMask && (eqb (q .ah) mask && extraAsOrdered extra (carried v)))
+  pub ordered : (hashes mask : ℕ) (extra : List ℕ) {allowed covered : Bool} {size : ℕ} → mask < 2 ^ 64
+      → allowed ≡ allowedOne hashes (q .h) → size ≡ digestSize (named (q .h)) → covered ≡ extraAsOrdered extra (carried v)
+      → ((allowed && eqb (q .«c_len») size) && (eqb (q .ah) mask && covered)) ≡ asOrdered hashes mask extra (carried v)
   unfolding asOrdered
-  ordered mask extra fits = rw (hash-test, coverage-test mask fits)
+  ordered hashes mask extra fits a s e = rw (a, s, e, holds .hash, holds .signature-size, coverage-test mask fits)
 
   pub no-extra : (extra : List ℕ) → length extra ≡ 0 → extraAsOrdered extra (carried v) ≡ not (q .«with_eah»)
   no-extra [] e = none-test (times keyEah (carried v)) (q .«with_eah») (request-has v answer .eah) (holds .with-extra)

@@ -11,12 +11,13 @@ ghost use Rattle.armor.specs.InnerAnswers.{Holds};
 ghost use Rattle.coverage.specs.Coverage.{asOrdered};
 use armor::Request;
 
-// Whether h, ah and eah of a request are those that the orders say, byte for byte.
-pub fn as_ordered(value: &[u8], request: Request, mask: u64, extra: &[u8]) -> bool
+// Whether h of a request is one that the orders allow, c as long as its digests, and ah and eah those that the orders say, byte for byte.
+pub fn as_ordered(value: &[u8], request: Request, hashes: u64, mask: u64, extra: &[u8]) -> bool
     requires { ⌜ (requestFields (carried (now value)) ≡ true) × Holds (now value) (carried (now value)) request × (length (now extra) ≤ 128) ⌝ }
-    ensures { λ r. ⌜ r ≡ asOrdered mask (now (extra .entry)) (carried (now (value .entry))) ⌝ }
+    ensures { λ r. ⌜ r ≡ asOrdered hashes mask (now (extra .entry)) (carried (now (value .entry))) ⌝ }
 {
-    let hash_good = request.h == armor::HASH_MASK;
+    let size = hashes::size(hashes::named(request.h));
+    let hash_good = hashes::allowed_one(hashes, request.h) & (request.c_len == size);
     let mask_good = request.ah == mask;
     let with_eah = request.with_eah;
     if extra.len() == 0 {

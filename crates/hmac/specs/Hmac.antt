@@ -6,7 +6,8 @@ use Prim.Native.Nat.{ℕ, _-_}
 use lib.Bits.{bitXor}
 use lib.Dec.{ltb}
 use lib.ListN.{length, replicate}
-use Rattle.sha2.specs.Hash.{sha512}
+use Rattle.hashes.specs.declared.Hash.{Hash}
+use Rattle.sha2.specs.Hash.{blockSize, sha2}
 
 abbrev pick : Bool → List ℕ → List ℕ → List ℕ
 pick true x y = x
@@ -35,6 +36,6 @@ outerKey hash size key = xored 0x5c (keyBlock hash size key)
 unfoldable pub hmac : (List ℕ → List ℕ) → ℕ → List ℕ → List ℕ → List ℕ
 hmac hash size key text = hash (outerKey hash size key ++ hash (innerKey hash size key ++ text))
 
--- HMAC-SHA-512: blocks of 128 bytes
-abbrev pub hmacSha512 : List ℕ → List ℕ → List ℕ
-hmacSha512 = hmac sha512 128
+-- over SHA-256 and over SHA-512
+abbrev pub hmacOf : Hash → List ℕ → List ℕ → List ℕ
+hmacOf h = hmac (sha2 h) (blockSize h)

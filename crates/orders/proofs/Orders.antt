@@ -1,28 +1,33 @@
 -- Laws of good orders.
 -- Assumes nothing.
 use mathlib.Core.Path.{_≡_, refl}
-use mathlib.Core.Bool.{Bool, true, false, cond, _&&_, and-eq-true-iff}
+use mathlib.Core.Bool.{Bool, true, false, cond}
 use Prim.Native.Nat.{ℕ, _^_, _≤_, _<_}
 use native.Mathlib.Omega.{arith}
 use borrow.Author.Tests.{ltb-true, ne-eqb}
-use lib.Dec.{leb, ltb}
+use lib.Dec.{ltb}
+use Rattle.cells.proofs.Tests.{both}
+use Rattle.hashes.specs.Hashes.{goodAllowed}
 use Rattle.names.specs.Extra.{goodExtra}
-use Rattle.orders.specs.Orders.{Orders, longestSessionLife, ordersGood, limitsOf, checkedOrders}
+use Rattle.orders.specs.Orders.{Orders, ordersGood, limitsOf, checkedOrders}
 use Rattle.orders.specs.declared.Limits.{Limits}
 use Rattle.orders.specs.declared.Checked.the-variants.{Good, Bad}
 
 module _ (o : Orders) (h : ordersGood o ≡ true) where
-  both : (ltb (o .numbers .mask) (2 ^ 56) ≡ true) × (goodExtra (o .extra) ≡ true)
+  parts : ((ltb (o .numbers .mask) (2 ^ 56) ≡ true) × (goodAllowed (o .numbers .hashes) ≡ true)) × (goodExtra (o .extra) ≡ true)
   unfolding ordersGood
-  both =
-      and-eq-true-iff (ltb (o .numbers .mask) (2 ^ 56)) (goodExtra (o .extra)) .0
-      (and-eq-true-iff (ltb (o .numbers .mask) (2 ^ 56) && goodExtra (o .extra)) (leb (o .numbers .«session_life») longestSessionLife) .0 h .0)
+  parts =
+      let first = both _ _ (both _ _ h .0) in
+      (both _ _ (first .0), first .1)
 
   pub good-mask : o .numbers .mask < 2 ^ 56
-  good-mask = ltb-true _ _ (both .0)
+  good-mask = ltb-true _ _ (parts .0 .0)
+
+  pub good-hashes : goodAllowed (o .numbers .hashes) ≡ true
+  good-hashes = parts .0 .1
 
   pub good-extra : goodExtra (o .extra) ≡ true
-  good-extra = both .1
+  good-extra = parts .1
 
 -- what the answer of `check` says
 pub checked-good : (o : Orders) (l : Limits) → checkedOrders o ≡ Good l → (ordersGood o ≡ true) × (l ≡ limitsOf o)

@@ -7,6 +7,7 @@ use names::extra;
 // The orders, the extra names apart, as a host lends them: a limit of 0 stands for its default.
 pub struct Numbers {
     pub mask: u64,
+    pub hashes: u64,
     pub request_life: u32,
     pub idle: u32,
     pub session_life: u32,
@@ -29,6 +30,7 @@ pub fn check(known: &[u8], numbers: Numbers, extra: &[u8]) -> Checked
     ensures { λ r. ⌜ r ≡ checkedOrders (orders numbers (now (extra .entry))) ⌝ }
 {
     if (numbers.mask < 72057594037927936)
+        & hashes::good_allowed(numbers.hashes)
         & extra::good_extra(known, extra)
         & (numbers.session_life <= 2592000)
     {

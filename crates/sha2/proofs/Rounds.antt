@@ -5,13 +5,14 @@ use mathlib.Core.List.{List}
 use Prim.Native.Nat.{ℕ, suc, _+_}
 use native.Mathlib.Omega.{arith}
 use lib.ListN.{getD}
-use Rattle.sha2.specs.declared.block.Words.{Words}
+use Rattle.hashes.specs.declared.Hash.{Hash}
+use Rattle.sha2.specs.declared.Words.{Words}
 use Rattle.sha2.specs.Block.{roundOf, rounds}
 
 -- round t + j after the rounds before it
-pub one-more : (ks ws : List ℕ) (v0 v r : Words) (t j : ℕ) → v ≡ rounds ks ws v0 (t + j)
-    → r ≡ roundOf v (getD ks (t + j) 0) (getD ws (t + j) 0) → r ≡ rounds ks ws v0 (t + (j + 1))
+pub one-more : (h : Hash) (ks ws : List ℕ) (v0 v r : Words) (t j : ℕ) → v ≡ rounds h ks ws v0 (t + j)
+    → r ≡ roundOf h v (getD ks (t + j) 0) (getD ws (t + j) 0) → r ≡ rounds h ks ws v0 (t + (j + 1))
 unfolding rounds
-one-more ks ws v0 v r t j p q =
+one-more h ks ws v0 v r t j p q =
     let e : t + (j + 1) ≡ suc (t + j) = omega arith in
-    rw e (q ∙ ap (λ (x : Words). roundOf x (getD ks (t + j) 0) (getD ws (t + j) 0)) p)
+    rw e (q ∙ ap (λ (x : Words). roundOf h x (getD ks (t + j) 0) (getD ws (t + j) 0)) p)

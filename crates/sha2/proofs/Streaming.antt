@@ -1,121 +1,182 @@
 -- A state takes in one more part: it stays within the block that was begun, ends it, or comes where none was begun.
 -- Assumes nothing.
-use mathlib.Core.Path.{_≡_, refl, sym, ap, ap₂, _∙_}
-use mathlib.Core.List.{List, _++_, append-assoc}
+use mathlib.Core.Path.{_≡_, refl, sym, ap, ap₂, subst, _∙_}
+use mathlib.Core.List.{List, [], _++_, append-assoc}
 use Prim.Native.Nat.{ℕ, zero, suc, _+_, _-_, _*_, _/_, _%_, _≤_, _<_}
-use native.Mathlib.Nat.{add-zero, add-suc}
+use native.Mathlib.Nat.{add-zero, add-suc, mul-zero}
 use native.Mathlib.Omega.{arith}
 use lib.ListN.{length, take, drop, length-append, length-drop, drop-of-length-le}
 use lib.Seq.{take-append-le, drop-append-le, drop-drop, take-all, length-take-le}
 use Rattle.cells.specs.Runs.{spliced, part}
 use Rattle.cells.proofs.Runs.{length-spliced, front-spliced}
-use Rattle.sha2.specs.declared.block.Words.{Words}
-use Rattle.sha2.specs.declared.Sha512.{Sha512}
+use Rattle.hashes.specs.declared.Hash.{Hash}
+use Rattle.hashes.specs.declared.Hash.the-variants.{Sha256, Sha512}
+use Rattle.sha2.specs.declared.Words.{Words}
+use Rattle.sha2.specs.declared.State.{State}
 use Rattle.sha2.specs.Constants.{initial}
 use Rattle.sha2.specs.Block.{afterBlock}
-use Rattle.sha2.specs.Hash.{afterBlocks}
+use Rattle.sha2.specs.Hash.{blockSize, afterBlocks}
 use Rattle.sha2.specs.InnerTaken.{Taken, TookIn}
+use Rattle.sha2.specs.InnerWords.{Fit}
+use Rattle.sha2.proofs.Fitting.{blocks-fit}
+
+-- what blocks of the two sizes ask of numbers, where n bytes were taken in and p more come: the part stays within the block that was
+-- begun, ends it, or comes where none was
+pub record Counts (size n p : ℕ) : Type 0 where
+  pub fits : size ≤ 128
+  pub whole : size * (n / size) ≤ n
+  pub begun : n % size < size
+  pub rest : n - size * (n / size) ≡ n % size
+  pub blocks : (n + p) / size ≡ n / size + (n % size + p) / size
+  pub stays : n % size + p < size → ((n % size + p) / size ≡ 0) × ((n + p) % size ≡ n % size + p)
+  pub ends : n % size + p ≡ size → ((n % size + p) / size ≡ 1) × ((n + p) % size ≡ 0)
+  pub starts : n % size ≡ 0 → ((n % size + p) / size ≡ p / size) × ((n + p) % size ≡ p - size * (p / size))
+
+pub counts : (h : Hash) (n p : ℕ) → Counts (blockSize h) n p
+counts Sha256 n p = search arith
+counts Sha512 n p = search arith
+
+pub over : (h : Hash) (n k : ℕ) → blockSize h * n + blockSize h * k ≡ blockSize h * (n + k)
+over Sha256 n k = omega arith
+over Sha512 n k = omega arith
 
 -- bytes after n whole blocks do not change what those give
-pub blocks-before : (v : Words) (m rest : List ℕ) (n : ℕ) → 128 * n ≤ length m → afterBlocks v (m ++ rest) n ≡ afterBlocks v m n
+pub blocks-before : (h : Hash) (v : Words) (m rest : List ℕ) (n : ℕ) → blockSize h * n ≤ length m
+    → afterBlocks h v (m ++ rest) n ≡ afterBlocks h v m n
 unfolding afterBlocks
-blocks-before v m rest zero h = refl
-blocks-before v m rest (suc n) h =
-    ap₂ afterBlock (blocks-before v m rest n (omega arith))
-    (ap (take 128) (drop-append-le (128 * n) m rest (omega arith))
-    ∙ take-append-le 128 (drop (128 * n) m) rest (simp length-drop (omega arith)))
+blocks-before h v m rest zero fits = refl
+blocks-before h v m rest (suc n) fits =
+    let next = over h n 1 in
+    ap₂ (afterBlock h) (blocks-before h v m rest n (omega arith))
+    (ap (take (blockSize h)) (drop-append-le (blockSize h * n) m rest (omega arith))
+    ∙ take-append-le (blockSize h) (drop (blockSize h * n) m) rest (simp length-drop (omega arith)))
 
 -- blocks may be taken in two runs
-pub blocks-split : (v : Words) (m : List ℕ) (n k : ℕ) → afterBlocks v m (n + k) ≡ afterBlocks (afterBlocks v m n) (drop (128 * n) m) k
+pub blocks-split : (h : Hash) (v : Words) (m : List ℕ) (n k : ℕ)
+    → afterBlocks h v m (n + k) ≡ afterBlocks h (afterBlocks h v m n) (drop (blockSize h * n) m) k
 unfolding afterBlocks
-blocks-split v m n zero = ap (afterBlocks v m) (add-zero n)
-blocks-split v m n (suc k) =
-    let e : 128 * n + 128 * k ≡ 128 * (n + k) = omega arith in
-    ap (afterBlocks v m) (add-suc n k)
-    ∙ ap₂ afterBlock (blocks-split v m n k)
-    (ap (λ (x : ℕ). part m x 128) (sym e) ∙ ap (take 128) (sym (drop-drop (128 * k) (128 * n) m)))
+blocks-split h v m n zero = ap (afterBlocks h v m) (add-zero n)
+blocks-split h v m n (suc k) =
+    ap (afterBlocks h v m) (add-suc n k)
+    ∙ ap₂ (afterBlock h) (blocks-split h v m n k)
+    (ap (λ (x : ℕ). part m x (blockSize h)) (sym (over h n k)) ∙ ap (take (blockSize h)) (sym (drop-drop (blockSize h * k) (blockSize h * n) m)))
+
+-- the hash value after a first block depends on that block alone
+first-block : (h : Hash) (v : Words) (m k : List ℕ) → take (blockSize h) m ≡ take (blockSize h) k → afterBlocks h v m 1 ≡ afterBlocks h v k 1
+unfolding afterBlocks
+first-block h v m k same = ap (afterBlock h v) (rw mul-zero same)
 
 -- what a part that is lent from byte a on, `&l[a..]`, holds
 pub rest-of : (l : List ℕ) (a : ℕ) → take (length l - a) (drop a l) ≡ drop a l
 rest-of l a = take-all (length l - a) (drop a l) (omega (arith, length-drop a l))
 
+-- a state that has taken in nothing
+pub none-taken : (h : Hash) (s : State) → s .hash ≡ h → s .length ≡ 0 → s .value ≡ initial h → Taken h s []
+unfolding afterBlocks
+none-taken Sha256 s is none value = record { is = is; counted = none; hashed = value; kept = refl }
+none-taken Sha512 s is none value = record { is = is; counted = none; hashed = value; kept = refl }
+
 -- what is still to be hashed when part comes: the bytes of the block that was begun, and part
-abbrev pub pending : Sha512 → List ℕ → List ℕ
-pending s part = take (s .length % 128) (s .tail) ++ part
+abbrev pub pending : State → List ℕ → List ℕ
+pending s part = take (s .length % blockSize (s .hash)) (s .tail) ++ part
 
 -- a state that hashed k blocks of what was pending, and keeps the bytes after them, took in part
-pub took-in : (s r : Sha512) (part : List ℕ) (k : ℕ) → k ≡ (s .length % 128 + length part) / 128
+pub took-in : (s r : State) (part : List ℕ) (k : ℕ) → k ≡ (s .length % blockSize (s .hash) + length part) / blockSize (s .hash)
+    → r .hash ≡ s .hash
     → r .length ≡ s .length + length part
-    → r .value ≡ afterBlocks (s .value) (pending s part) k
-    → take ((s .length + length part) % 128) (r .tail) ≡ drop (128 * k) (pending s part)
+    → (Fit (s .hash) (s .value) → r .value ≡ afterBlocks (s .hash) (s .value) (pending s part) k)
+    → take ((s .length + length part) % blockSize (s .hash)) (r .tail) ≡ drop (blockSize (s .hash) * k) (pending s part)
     → TookIn s part r
-took-in s r part k ek el ev et = record { counted = el; appended = appended }
+took-in s r part k ek eh el ev et =
+    record { is = eh; counted = el; appended = λ h m p. subst (λ (x : Hash). Taken x s m → Taken x r (m ++ part)) (p .is) (appended m) p }
   where
-    appended : (m : List ℕ) → Taken s m → Taken r (m ++ part)
+    appended : (m : List ℕ) → Taken (s .hash) s m → Taken (s .hash) r (m ++ part)
     appended m p =
-        let q = length m / 128 in
+        let h = s .hash in
+        let q = length m / blockSize h in
         let all : List ℕ = m ++ part in
         let counted : s .length ≡ length m = p .counted in
         let size : length all ≡ length m + length part = length-append m part in
-        let rest : drop (128 * q) all ≡ pending s part =
-        drop-append-le (128 * q) m part (omega arith)
-        ∙ ap (λ (l : List ℕ). l ++ part) (sym (p .kept) ∙ ap (λ (x : ℕ). take (x % 128) (s .tail)) (sym counted))
+        let numbers = counts h (length m) (length part) in
+        let rest : drop (blockSize h * q) all ≡ pending s part =
+        drop-append-le (blockSize h * q) m part (numbers .whole)
+        ∙ ap (λ (l : List ℕ). l ++ part) (sym (p .kept) ∙ ap (λ (x : ℕ). take (x % blockSize h) (s .tail)) (sym counted))
         in
-        let more : length all / 128 ≡ q + k = omega arith in
-        let left : length all % 128 ≡ (s .length + length part) % 128 = omega arith in
-        let at : 128 * q + 128 * k ≡ 128 * (length all / 128) = omega arith in
+        let more : length all / blockSize h ≡ q + k =
+        ap (λ (x : ℕ). x / blockSize h) size ∙ numbers .blocks
+        ∙ ap (λ (x : ℕ). q + x) (sym (ek ∙ ap (λ (x : ℕ). (x % blockSize h + length part) / blockSize h) counted))
+        in
+        let left : length all % blockSize h ≡ (s .length + length part) % blockSize h =
+        ap (λ (x : ℕ). x % blockSize h) (size ∙ ap (λ (x : ℕ). x + length part) (sym counted))
+        in
+        let at : blockSize h * q + blockSize h * k ≡ blockSize h * (length all / blockSize h) = over h q k ∙ ap (λ (x : ℕ). blockSize h * x) (sym more) in
+        let fit = subst (Fit h) (sym (p .hashed)) (blocks-fit h m q) in
         record {
+          is = eh;
           counted = omega arith;
           hashed =
-              ev
-              ∙ ap₂ (λ (v : Words) (l : List ℕ). afterBlocks v l k) (p .hashed ∙ sym (blocks-before initial m part q (omega arith))) (sym rest)
-              ∙ sym (blocks-split initial all q k)
-              ∙ ap (afterBlocks initial all) (sym more);
+              ev fit
+              ∙ ap₂ (λ (v : Words) (l : List ℕ). afterBlocks h v l k) (p .hashed ∙ sym (blocks-before h (initial h) m part q (numbers .whole))) (sym rest)
+              ∙ sym (blocks-split h (initial h) all q k)
+              ∙ ap (afterBlocks h (initial h) all) (sym more);
           kept =
-              ap (λ (x : ℕ). take x (r .tail)) left ∙ et ∙ ap (drop (128 * k)) (sym rest) ∙ drop-drop (128 * k) (128 * q) all
+              ap (λ (x : ℕ). take x (r .tail)) left ∙ et ∙ ap (drop (blockSize h * k)) (sym rest) ∙ drop-drop (blockSize h * k) (blockSize h * q) all
               ∙ ap (λ (x : ℕ). drop x all) at;
         }
 
 -- one part after the other
-pub took-in-turn : (s t r : Sha512) (a b : List ℕ) → TookIn s a t → TookIn t b r → TookIn s (a ++ b) r
+pub took-in-turn : (s t r : State) (a b : List ℕ) → TookIn s a t → TookIn t b r → TookIn s (a ++ b) r
 took-in-turn s t r a b p q =
     record {
+      is = q .is ∙ p .is;
       counted = omega (arith, p .counted, q .counted, length-append a b);
-      appended = λ m h. rw append-assoc at (q .appended (m ++ a) (p .appended m h));
+      appended = λ h m taken. rw append-assoc at (q .appended h (m ++ a) (p .appended h m taken));
     }
 
-module _ (s r : Sha512) (part : List ℕ) (full : length (s .tail) ≡ 128) (el : r .length ≡ s .length + length part) where
+module _ (s r : State) (part : List ℕ) (full : length (s .tail) ≡ 128) (eh : r .hash ≡ s .hash) (el : r .length ≡ s .length + length part) where
   -- part ends before the block that was begun does
-  pub took-kept : s .length % 128 + length part < 128 → r .value ≡ s .value → r .tail ≡ spliced (s .tail) (s .length % 128) part
+  pub took-kept : s .length % blockSize (s .hash) + length part < blockSize (s .hash) → r .value ≡ s .value
+      → r .tail ≡ spliced (s .tail) (s .length % blockSize (s .hash)) part
       → TookIn s part r
   unfolding afterBlocks
-  took-kept h ev et =
-      took-in s r part 0 (omega arith) el ev
-      (ap (take ((s .length + length part) % 128)) et
-      ∙ front-spliced (s .tail) part (s .length % 128) ((s .length + length part) % 128) (omega arith) (omega arith))
+  took-kept within ev et =
+      let h = s .hash in
+      let numbers = counts h (s .length) (length part) in
+      let stays = numbers .stays within in
+      took-in s r part 0 (sym (stays .0)) eh el (λ fit. ev)
+      (rw mul-zero (ap (take ((s .length + length part) % blockSize h)) et
+      ∙ front-spliced (s .tail) part (s .length % blockSize h) ((s .length + length part) % blockSize h) (omega (arith, numbers .begun, numbers .fits)) (stays .1)))
 
   -- part ends with that block
-  pub took-complete : s .length % 128 + length part ≡ 128 → r .tail ≡ spliced (s .tail) (s .length % 128) part
-      → r .value ≡ afterBlocks (s .value) (r .tail) 1 → TookIn s part r
-  took-complete h et ev =
-      let at = s .length % 128 in
-      let long : length (pending s part) ≡ 128 = length-append (take at (s .tail)) part ∙ omega (arith, length-take-le at (s .tail) (omega arith)) in
-      let same : r .tail ≡ pending s part =
-      et ∙ sym (take-all 128 (spliced (s .tail) at part) (omega (arith, length-spliced (s .tail) part at (omega arith))))
-      ∙ front-spliced (s .tail) part at 128 (omega arith) (omega arith)
+  pub took-complete : s .length % blockSize (s .hash) + length part ≡ blockSize (s .hash)
+      → r .tail ≡ spliced (s .tail) (s .length % blockSize (s .hash)) part
+      → (Fit (s .hash) (s .value) → r .value ≡ afterBlocks (s .hash) (s .value) (r .tail) 1)
+      → TookIn s part r
+  took-complete within et ev =
+      let h = s .hash in
+      let at = s .length % blockSize h in
+      let numbers = counts h (s .length) (length part) in
+      let ends = numbers .ends within in
+      let room : at ≤ 128 = omega (arith, numbers .begun, numbers .fits) in
+      let long : length (pending s part) ≡ blockSize h = length-append (take at (s .tail)) part ∙ omega (arith, length-take-le at (s .tail) (omega arith)) in
+      let front : take (blockSize h) (r .tail) ≡ pending s part =
+      ap (take (blockSize h)) et ∙ front-spliced (s .tail) part at (blockSize h) (omega arith) (sym within)
       in
-      let none : (s .length + length part) % 128 ≡ 0 = omega arith in
-      took-in s r part 1 (omega arith) el (ev ∙ ap (λ (l : List ℕ). afterBlocks (s .value) l 1) same)
-      (ap (λ (x : ℕ). take x (r .tail)) none ∙ sym (drop-of-length-le (pending s part) {i = 128 * 1} (omega arith)))
+      took-in s r part 1 (sym (ends .0)) eh el
+      (λ fit. ev fit ∙ first-block h (s .value) (r .tail) (pending s part) (front ∙ sym (take-all (blockSize h) (pending s part) (omega arith))))
+      (ap (λ (x : ℕ). take x (r .tail)) (ends .1) ∙ sym (drop-of-length-le (pending s part) {i = blockSize h * 1} (omega (arith, over h 0 1))))
 
   -- no block was begun
-  pub took-whole : s .length % 128 ≡ 0 → r .value ≡ afterBlocks (s .value) part (length part / 128)
-      → r .tail ≡ spliced (s .tail) 0 (drop (128 * (length part / 128)) part)
+  pub took-whole : s .length % blockSize (s .hash) ≡ 0
+      → (Fit (s .hash) (s .value) → r .value ≡ afterBlocks (s .hash) (s .value) part (length part / blockSize (s .hash)))
+      → r .tail ≡ spliced (s .tail) 0 (drop (blockSize (s .hash) * (length part / blockSize (s .hash))) part)
       → TookIn s part r
-  took-whole h ev et =
-      let n = length part / 128 in
-      let same : pending s part ≡ part = ap (λ (x : ℕ). take x (s .tail) ++ part) h in
-      took-in s r part n (omega arith) el (ev ∙ ap (λ (l : List ℕ). afterBlocks (s .value) l n) (sym same))
-      (ap (take ((s .length + length part) % 128)) et
-      ∙ front-spliced (s .tail) (drop (128 * n) part) 0 ((s .length + length part) % 128) (omega arith) (omega (arith, length-drop (128 * n) part))
-      ∙ ap (drop (128 * n)) (sym same))
+  took-whole none ev et =
+      let h = s .hash in
+      let n = length part / blockSize h in
+      let starts = counts h (s .length) (length part) .starts none in
+      let same : pending s part ≡ part = ap (λ (x : ℕ). take x (s .tail) ++ part) none in
+      took-in s r part n (sym (starts .0)) eh el (λ fit. ev fit ∙ ap (λ (l : List ℕ). afterBlocks h (s .value) l n) (sym same))
+      (ap (take ((s .length + length part) % blockSize h)) et
+      ∙ front-spliced (s .tail) (drop (blockSize h * n) part) 0 ((s .length + length part) % blockSize h) (omega arith) (omega (arith, starts .1, length-drop (blockSize h * n) part))
+      ∙ ap (drop (blockSize h * n)) (sym same))

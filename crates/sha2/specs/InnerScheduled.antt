@@ -4,9 +4,10 @@ use mathlib.Core.Path.{_≡_}
 use mathlib.Core.List.{List}
 use Prim.Native.Nat.{ℕ}
 use lib.ListN.{length, take}
-use Rattle.sha2.specs.Block.{schedule}
+use Rattle.hashes.specs.declared.Hash.{Hash}
+use Rattle.sha2.specs.Block.{turns, schedule}
 
--- w has eighty words, of which the first t are the schedule's of block
-pub record Scheduled (w block : List ℕ) (t : ℕ) : Type 0 where
-  pub long : length w ≡ 80
-  pub words : take t w ≡ schedule block t
+-- w has as many words as the schedule, and the first t are the schedule's of block
+pub record Scheduled (h : Hash) (w block : List ℕ) (t : ℕ) : Type 0 where
+  pub long : length w ≡ turns h
+  pub words : take t w ≡ schedule h block t

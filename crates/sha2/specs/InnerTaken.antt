@@ -4,17 +4,20 @@ use mathlib.Core.Path.{_≡_}
 use mathlib.Core.List.{List, _++_}
 use Prim.Native.Nat.{ℕ, _+_, _*_, _/_, _%_}
 use lib.ListN.{length, take, drop}
-use Rattle.sha2.specs.declared.Sha512.{Sha512}
+use Rattle.hashes.specs.declared.Hash.{Hash}
+use Rattle.sha2.specs.declared.State.{State}
 use Rattle.sha2.specs.Constants.{initial}
-use Rattle.sha2.specs.Hash.{afterBlocks}
+use Rattle.sha2.specs.Hash.{blockSize, afterBlocks}
 
--- The state counts the bytes of m, has the hash value after its whole blocks, and its tail begins with the bytes after them.
-pub record Taken (s : Sha512) (m : List ℕ) : Type 0 where
+-- The state is one of the hash h, counts the bytes of m, has the hash value after its whole blocks, and its tail begins with the bytes after them.
+pub record Taken (h : Hash) (s : State) (m : List ℕ) : Type 0 where
+  pub is : s .hash ≡ h
   pub counted : s .length ≡ length m
-  pub hashed : s .value ≡ afterBlocks initial m (length m / 128)
-  pub kept : take (length m % 128) (s .tail) ≡ drop (128 * (length m / 128)) m
+  pub hashed : s .value ≡ afterBlocks h (initial h) m (length m / blockSize h)
+  pub kept : take (length m % blockSize h) (s .tail) ≡ drop (blockSize h * (length m / blockSize h)) m
 
 -- s took in part and became r: whatever message s had taken in, r has taken in that message and then part.
-pub record TookIn (s : Sha512) (part : List ℕ) (r : Sha512) : Type 0 where
+pub record TookIn (s : State) (part : List ℕ) (r : State) : Type 0 where
+  pub is : r .hash ≡ s .hash
   pub counted : r .length ≡ s .length + length part
-  pub appended : (m : List ℕ) → Taken s m → Taken r (m ++ part)
+  pub appended : (h : Hash) (m : List ℕ) → Taken h s m → Taken h r (m ++ part)

@@ -10,6 +10,7 @@ use borrow.Author.Tests.{eqb-true, eqb-false, eq-eqb, ne-eqb, not-true}
 use lib.Dec.{eqb}
 use lib.ListN.{length, getD}
 use Rattle.window.specs.Window.{bit}
+use Rattle.hashes.specs.Hashes.{namesOne}
 use Rattle.table.specs.declared.session.Record.{Record}
 use Rattle.table.specs.Record.{freed}
 use Rattle.cells.specs.Runs.{same}
@@ -17,7 +18,7 @@ use Rattle.table.specs.Table.{isUsed, isFree, holds}
 use Rattle.table.specs.WellFormed.{traceless, blank, windowSound, sound, some, fitting, wellFormed, Sound, WellFormed}
 use Rattle.table.proofs.Records.{alike}
 use Rattle.cells.proofs.Equality.{same-equal}
-use Rattle.cells.proofs.Tests.{both}
+use Rattle.cells.proofs.Tests.{tested, both}
 use Rattle.table.proofs.Tests.{refuted, holds-used, used-holds}
 use Rattle.table.proofs.Found.{some-passes, none-passes}
 
@@ -30,12 +31,18 @@ blank-is : (r : Record) → r .used ≡ 0 → blank r ≡ true → r ≡ freed
 blank-is r u e =
     let expiry = both _ _ e in
     let any = both _ _ (expiry .1) in
-    let rest = both _ _ (any .1) in
+    let hash = both _ _ (any .1) in
+    let rest = both _ _ (hash .1) in
     let trace = traceless-is r (rest .0) in
     alike freed u (same-equal (r .iv) (freed .iv) (rest .1)) (eqb-true (r .expiry .0) 0 (expiry .0)) (eqb-true (r .any) 0 (any .0)) (trace .0) (trace .1)
+    (eqb-true (r .hash) 0 (hash .0))
 
-window-is : (r : Record) → r .used ≡ 1 → windowSound r ≡ true → Sound r
-window-is r u e = by (eqb (r .any) 0) refl e
+hash-is : (r : Record) → namesOne (r .hash) ≡ true → (r .hash ≡ 1) ⊎ (r .hash ≡ 4)
+hash-is r e =
+    tested (eqb (r .hash) 1) (λ t. inl (eqb-true (r .hash) 1 t)) (λ t. inr (eqb-true (r .hash) 4 (rw t at e)))
+
+used-is : (r : Record) → r .used ≡ 1 → namesOne (r .hash) ≡ true → windowSound r ≡ true → Sound r
+used-is r u h e = by (eqb (r .any) 0) refl e
   where
     by : (t : Bool) → eqb (r .any) 0 ≡ t → cond t (traceless r) (eqb (r .any) 1 && bit (r .bits) 0) ≡ true → Sound r
     by true p f = record {
@@ -44,6 +51,7 @@ window-is r u e = by (eqb (r .any) 0) refl e
       free = λ z. absurd (omega arith);
       new = λ z. traceless-is r f;
       lowest = λ o q. absurd (omega (arith, eqb-true (r .any) 0 p));
+      hash = λ o. hash-is r h;
     }
     by false p f =
         let parts = both _ _ f in
@@ -53,23 +61,25 @@ window-is r u e = by (eqb (r .any) 0) refl e
           free = λ z. absurd (omega arith);
           new = λ z. absurd (eqb-false (r .any) 0 p z);
           lowest = λ o q. parts .1;
+          hash = λ o. hash-is r h;
         }
 
 -- of the free record
 pub freed-sound : Sound freed
 freed-sound =
-    record { used = inl refl; any = inl refl; free = λ z. refl; new = λ z. (refl, refl); lowest = λ o q. absurd (omega arith) }
+    record { used = inl refl; any = inl refl; free = λ z. refl; new = λ z. (refl, refl); lowest = λ o q. absurd (omega arith); hash = λ o. absurd (omega arith) }
 
 -- of one record
 pub sound-is : (r : Record) → sound r ≡ true → Sound r
 unfolding sound
 sound-is r e = by (isFree r) refl e
   where
-    by : (t : Bool) → isFree r ≡ t → cond t (blank r) (isUsed r && windowSound r) ≡ true → Sound r
+    by : (t : Bool) → isFree r ≡ t → cond t (blank r) (isUsed r && (namesOne (r .hash) && windowSound r)) ≡ true → Sound r
     by true p f = subst (λ (x : Record). Sound x) (sym (blank-is r (eqb-true (r .used) 0 p) f)) freed-sound
     by false p f =
         let parts = both _ _ f in
-        window-is r (eqb-true (r .used) 1 (parts .0)) (parts .1)
+        let rest = both _ _ (parts .1) in
+        used-is r (eqb-true (r .used) 1 (parts .0)) (rest .0) (rest .1)
 
 pub is-sound : (r : Record) → Sound r → sound r ≡ true
 unfolding sound same
@@ -81,8 +91,12 @@ is-sound r s = ⊎-elim (λ u. ap sound (s .free u)) used (s .used)
     window (inr a) u =
         rw (ne-eqb (r .any) 0 (λ z. omega arith), eq-eqb (r .any) 1 a) (s .lowest u a)
 
-    used : r .used ≡ 1 → cond (isFree r) (blank r) (isUsed r && windowSound r) ≡ true
-    used u = rw (ne-eqb (r .used) 0 (λ z. omega arith), eq-eqb (r .used) 1 u) (window (s .any) u)
+    one : (r .hash ≡ 1) ⊎ (r .hash ≡ 4) → namesOne (r .hash) ≡ true
+    one (inl h) = rw h
+    one (inr h) = rw h
+
+    used : r .used ≡ 1 → cond (isFree r) (blank r) (isUsed r && (namesOne (r .hash) && windowSound r)) ≡ true
+    used u = rw (ne-eqb (r .used) 0 (λ z. omega arith), eq-eqb (r .used) 1 u, one (s .hash u)) (window (s .any) u)
 
 -- a table's first record, and the rest
 module _ (r : Record) (rs : List Record) where

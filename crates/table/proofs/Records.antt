@@ -6,8 +6,8 @@ use Prim.Native.Nat.{ℕ, zero, suc, _+_, _-_, _*_, _/_, _≤_, _<_}
 use native.Mathlib.Nat.{zero-add, add-zero, suc-add}
 use native.Mathlib.Omega.{arith}
 use lib.Dec.{lit<}
-use lib.ListN.{length, getD, take, drop, set, replicate, length-append, length-take, length-drop, take-append-drop}
-use lib.Seq.{take-all, take-at, drop-at, take-add, drop-drop, drop-cons, getD-at, getD-take, getD-drop}
+use lib.ListN.{length, getD, take, drop, set, replicate, length-append, length-take, length-drop, take-append-drop, drop-of-length-le}
+use lib.Seq.{take-at, drop-at, take-add, drop-drop, drop-cons, getD-at, getD-take, getD-drop}
 use Rattle.cells.specs.Runs.{spliced, part, Bytes}
 use Rattle.cells.specs.Numbers.{bytesOf, number}
 use Rattle.cells.proofs.Runs.{lent, spliced-front, fronted-whole, length-spliced, length-part}
@@ -23,19 +23,21 @@ laid : {out left text : List ℕ} {at : ℕ} (end : ℕ) → left ≡ spliced ou
 laid end p q = record { is = p; ends = q }
 
 -- a record's fields written one after the other
-pub written : (r : Record) (out : List ℕ) {a b c d e f : List ℕ} → length out ≡ size → length (r .iv) ≡ 12
+pub written : (r : Record) (out : List ℕ) {a b c d e f g : List ℕ} → length out ≡ size → length (r .iv) ≡ 12
     → a ≡ spliced out 0 (r .used ∷ [])
     → b ≡ spliced a 1 (r .iv)
     → c ≡ spliced b 13 (bytesOf 4 (r .expiry .0))
     → d ≡ spliced c 17 (r .any ∷ [])
     → e ≡ spliced d 18 (bytesOf 4 (r .highest .0))
     → f ≡ spliced e 22 (bytesOf 8 (r .bits))
-    → f ≡ recordBytes r
+    → g ≡ spliced f 30 (r .hash ∷ [])
+    → g ≡ recordBytes r
 unfolding recordBytes
-written r out long iv used vector expiry any highest bits =
+written r out long iv used vector expiry any highest bits hash =
     let to-expiry = laid-more (laid-more (laid 1 used refl) (laid 13 vector (omega arith)) (omega arith)) (laid 17 expiry (omega (arith, length-bytesOf 4 (r .expiry .0)))) (omega arith) in
     let to-highest = laid-more (laid-more to-expiry (laid 18 any refl) (omega arith)) (laid 22 highest (omega (arith, length-bytesOf 4 (r .highest .0)))) (omega arith) in
-    let all = laid-more to-highest (laid 30 bits (omega (arith, length-bytesOf 8 (r .bits)))) (omega arith) in
+    let to-bits = laid-more to-highest (laid 30 bits (omega (arith, length-bytesOf 8 (r .bits)))) (omega arith) in
+    let all = laid-more to-bits (laid 31 hash refl) (omega arith) in
     all .is ∙ spliced-front out _ ∙ fronted-whole _ out (omega (arith, all .ends)) ∙ simp append-assoc
 
 pub length-recordBytes : (r : Record) → length (r .iv) ≡ 12 → length (recordBytes r) ≡ size
@@ -46,14 +48,11 @@ length-recordBytes r iv = simp (length-append, length-bytesOf) (omega arith)
 middle : (front field rest : List ℕ) (at n : ℕ) → length front ≡ at → length field ≡ n → part (front ++ (field ++ rest)) at n ≡ field
 middle front field rest at n p q = ap (take n) (drop-at front (field ++ rest) at p) ∙ take-at field rest n q
 
-last : (front field : List ℕ) (at n : ℕ) → length front ≡ at → length field ≡ n → part (front ++ field) at n ≡ field
-last front field at n p q = ap (take n) (drop-at front field at p) ∙ take-all n field (omega arith)
-
 -- two records with equal fields
-pub alike : (r : Record) {used expiry any highest bits : ℕ} {iv : List ℕ}
-    → used ≡ r .used → iv ≡ r .iv → expiry ≡ r .expiry .0 → any ≡ r .any → highest ≡ r .highest .0 → bits ≡ r .bits
-    → _≡_ {A = Record} (record { used = used; iv = iv; expiry = record { 0 = expiry }; any = any; highest = record { 0 = highest }; bits = bits }) r
-alike r a b c d e f = rw (a, b, c, d, e, f)
+pub alike : (r : Record) {used expiry any highest bits hash : ℕ} {iv : List ℕ}
+    → used ≡ r .used → iv ≡ r .iv → expiry ≡ r .expiry .0 → any ≡ r .any → highest ≡ r .highest .0 → bits ≡ r .bits → hash ≡ r .hash
+    → _≡_ {A = Record} (record { used = used; iv = iv; expiry = record { 0 = expiry }; any = any; highest = record { 0 = highest }; bits = bits; hash = hash }) r
+alike r a b c d e f g = rw (a, b, c, d, e, f, g)
 
 -- what is left of a table of which a record's bytes were cleared
 pub cleared : (bytes : List ℕ) (a e : ℕ) {left : List ℕ} → e ≤ length bytes → e - a ≡ size
@@ -76,19 +75,23 @@ recordOf-bytes r f =
     let expiry = bytesOf 4 (r .expiry .0) in
     let highest = bytesOf 4 (r .highest .0) in
     let bits = bytesOf 8 (r .bits) in
-    let to-any : recordBytes r ≡ (r .used ∷ r .iv ++ expiry) ++ r .any ∷ (highest ++ bits) = simp append-assoc in
-    let to-highest : recordBytes r ≡ (r .used ∷ r .iv ++ (expiry ++ r .any ∷ [])) ++ (highest ++ bits) = simp append-assoc in
-    let to-bits : recordBytes r ≡ (r .used ∷ r .iv ++ (expiry ++ r .any ∷ highest)) ++ bits = simp append-assoc in
+    let rest = bits ++ r .hash ∷ [] in
+    let to-any : recordBytes r ≡ (r .used ∷ r .iv ++ expiry) ++ r .any ∷ (highest ++ rest) = simp append-assoc in
+    let to-highest : recordBytes r ≡ (r .used ∷ r .iv ++ (expiry ++ r .any ∷ [])) ++ (highest ++ rest) = simp append-assoc in
+    let to-bits : recordBytes r ≡ (r .used ∷ r .iv ++ (expiry ++ r .any ∷ highest)) ++ rest = simp append-assoc in
+    let to-hash : recordBytes r ≡ (r .used ∷ r .iv ++ (expiry ++ r .any ∷ (highest ++ bits))) ++ r .hash ∷ [] = simp append-assoc in
     alike r refl
-    (middle (r .used ∷ []) (r .iv) (expiry ++ r .any ∷ (highest ++ bits)) 1 12 refl iv)
-    (ap number (middle (r .used ∷ r .iv) expiry (r .any ∷ (highest ++ bits)) 13 4 (omega arith) x) ∙ number-of 4 (r .expiry .0) (f .expiry))
-    (ap (λ (l : List ℕ). getD l 17 0) to-any ∙ getD-at (r .used ∷ r .iv ++ expiry) (r .any) (highest ++ bits) 0 17 (simp length-append (omega arith)))
+    (middle (r .used ∷ []) (r .iv) (expiry ++ r .any ∷ (highest ++ rest)) 1 12 refl iv)
+    (ap number (middle (r .used ∷ r .iv) expiry (r .any ∷ (highest ++ rest)) 13 4 (omega arith) x) ∙ number-of 4 (r .expiry .0) (f .expiry))
+    (ap (λ (l : List ℕ). getD l 17 0) to-any ∙ getD-at (r .used ∷ r .iv ++ expiry) (r .any) (highest ++ rest) 0 17 (simp length-append (omega arith)))
     (ap (λ (l : List ℕ). number (part l 18 4)) to-highest
-    ∙ ap number (middle (r .used ∷ r .iv ++ (expiry ++ r .any ∷ [])) highest bits 18 4 (simp length-append (omega arith)) h)
+    ∙ ap number (middle (r .used ∷ r .iv ++ (expiry ++ r .any ∷ [])) highest rest 18 4 (simp length-append (omega arith)) h)
     ∙ number-of 4 (r .highest .0) (f .highest))
     (ap (λ (l : List ℕ). number (part l 22 8)) to-bits
-    ∙ ap number (last (r .used ∷ r .iv ++ (expiry ++ r .any ∷ highest)) bits 22 8 (simp length-append (omega arith)) w)
+    ∙ ap number (middle (r .used ∷ r .iv ++ (expiry ++ r .any ∷ highest)) bits (r .hash ∷ []) 22 8 (simp length-append (omega arith)) w)
     ∙ number-of 8 (r .bits) (f .bits))
+    (ap (λ (l : List ℕ). getD l 30 0) to-hash
+    ∙ getD-at (r .used ∷ r .iv ++ (expiry ++ r .any ∷ (highest ++ bits))) (r .hash) [] 0 30 (simp length-append (omega arith)))
 
 -- the bytes of the number of a part are the part
 field : (xs : List ℕ) (at n : ℕ) → at + n ≤ length xs → Bytes xs → bytesOf n (number (part xs at n)) ≡ part xs at n
@@ -105,8 +108,11 @@ pub recordBytes-of : (bytes : List ℕ) → length bytes ≡ size → Bytes byte
 unfolding recordOf recordBytes
 recordBytes-of bytes long h =
     rw (field bytes 13 4 (omega arith) h, field bytes 18 4 (omega arith) h, field bytes 22 8 (omega arith) h)
-    (rw (take-all 8 (drop 22 bytes) (rw length-drop (omega arith)), onward bytes 18 4 22 refl, ← (drop-cons bytes 17 0 (omega arith)), onward bytes 13 4 17 refl, onward bytes 1 12 13 refl)
+    (rw (last, onward bytes 22 8 30 refl, onward bytes 18 4 22 refl, ← (drop-cons bytes 17 0 (omega arith)), onward bytes 13 4 17 refl, onward bytes 1 12 13 refl)
     (sym (drop-cons bytes 0 0 (omega arith))))
+  where
+    last : getD bytes 30 0 ∷ [] ≡ drop 30 bytes
+    last = sym (drop-cons bytes 30 0 (omega arith) ∙ ap (λ (l : List ℕ). getD bytes 30 0 ∷ l) (drop-of-length-le bytes {i = 31} (omega arith)))
 
 length-chunks : (n : ℕ) (bytes : List ℕ) → length (chunks n bytes) ≡ n
 length-chunks zero bytes = refl
@@ -206,4 +212,4 @@ records-stored bytes i r h f =
     ∙ ap (set (records bytes) i) (recordOf-bytes r f)
 
 pub freed-fits : Fits freed
-freed-fits = record { used = lit< tt; iv = refl; expiry = lit< tt; any = lit< tt; highest = lit< tt; bits = lit< tt }
+freed-fits = record { used = lit< tt; iv = refl; expiry = lit< tt; any = lit< tt; highest = lit< tt; bits = lit< tt; hash = lit< tt }

@@ -2,7 +2,7 @@
 -- Assumes nothing.
 use mathlib.Core.Path.{_≡_, refl, ap}
 use mathlib.Core.List.{List}
-use mathlib.Core.Logic.{inl, inr}
+use mathlib.Core.Logic.{_⊎_, inl, inr}
 use mathlib.Core.Bool.{Bool, true, false}
 use Prim.Native.Nat.{ℕ, _+_, _*_, _≤_, _<_, _^_}
 use native.Mathlib.Omega.{arith}
@@ -14,6 +14,9 @@ use Rattle.cells.specs.Numbers.{number}
 use Rattle.cells.proofs.Runs.{length-part}
 use Rattle.cells.proofs.Cuts.{bytes-part}
 use Rattle.cells.proofs.Numbers.{number-below}
+use Rattle.hashes.specs.declared.Hash.{Hash}
+use Rattle.hashes.specs.declared.Hash.the-variants.{Sha256, Sha512}
+use Rattle.hashes.specs.Hashes.{hashMask}
 use Rattle.window.specs.declared.Window.{Window}
 use Rattle.window.specs.Window.{stepOf}
 use Rattle.window.specs.History.{isAccepted}
@@ -24,12 +27,27 @@ use Rattle.table.specs.Table.{places, recordAt}
 use Rattle.table.specs.WellFormed.{Sound}
 
 -- a new session
-pub begun-sound : (iv : List ℕ) (expiry : ℕ) → Sound (begun iv expiry)
-begun-sound iv expiry =
-    record { used = inr refl; any = inl refl; free = λ z. absurd (omega arith); new = λ z. (refl, refl); lowest = λ u a. absurd (omega arith) }
+pub begun-sound : (iv : List ℕ) (expiry : ℕ) (hash : Hash) → Sound (begun iv expiry (hashMask hash))
+begun-sound iv expiry hash = record {
+  used = inr refl;
+  any = inl refl;
+  free = λ z. absurd (omega arith);
+  new = λ z. (refl, refl);
+  lowest = λ u a. absurd (omega arith);
+  hash = λ u. one hash;
+}
+  where
+    one : (h : Hash) → (hashMask h ≡ 1) ⊎ (hashMask h ≡ 4)
+    one Sha256 = inl refl
+    one Sha512 = inr refl
 
-pub begun-fits : (iv : List ℕ) (expiry : ℕ) → length iv ≡ 12 → expiry < 2 ^ 32 → Fits (begun iv expiry)
-begun-fits iv expiry l e = record { used = lit< tt; iv = l; expiry = e; any = lit< tt; highest = lit< tt; bits = lit< tt }
+pub mask-fits : (h : Hash) → hashMask h < 256
+mask-fits Sha256 = lit< tt
+mask-fits Sha512 = lit< tt
+
+pub begun-fits : (iv : List ℕ) (expiry : ℕ) (hash : Hash) → length iv ≡ 12 → expiry < 2 ^ 32 → Fits (begun iv expiry (hashMask hash))
+begun-fits iv expiry hash l e =
+    record { used = lit< tt; iv = l; expiry = e; any = lit< tt; highest = lit< tt; bits = lit< tt; hash = mask-fits hash }
 
 -- a used record whose window accepted a nonce
 pub stepped-sound : (r : Record) (n : ℕ) → Sound r → r .used ≡ 1 → isAccepted (stepOf (windowOf r) n .verdict) ≡ true
@@ -42,6 +60,7 @@ stepped-sound r n s u e =
       free = λ z. absurd (omega arith);
       new = λ z. absurd (omega arith);
       lowest = λ o a. accepted-lowest (windowOf r) n (λ p. s .lowest u (eqb-true (r .any) 1 p)) e;
+      hash = s .hash;
     }
 
 -- a record holds the window that it is given
@@ -67,6 +86,7 @@ stepped-fits r n f h = record {
   any = mark-fits (stepOf (windowOf r) n .window .any);
   highest = highest-fits (windowOf r) n (f .highest) h;
   bits = bits-fit (windowOf r) n (f .bits);
+  hash = f .hash;
 }
 
 -- the record of any bytes
@@ -79,6 +99,7 @@ recordOf-fits bytes long b = record {
   any = b 17;
   highest = below 18 4 (omega arith);
   bits = below 22 8 (omega arith);
+  hash = b 30;
 }
   where
     below : (at n : ℕ) → at + n ≤ length bytes → number (part bytes at n) < 2 ^ (8 * n)

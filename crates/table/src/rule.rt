@@ -24,7 +24,9 @@ fn holds_zeros(session: Record) -> bool
 {
     let iv = session.iv;
     let zeros = [0u8; 12];
-    (session.expiry.0 == 0) & ((session.any == 0) & (no_trace(session) & cells::same(&iv, &zeros)))
+    (session.expiry.0 == 0)
+        & ((session.any == 0)
+            & ((session.hash == 0) & (no_trace(session) & cells::same(&iv, &zeros))))
 }
 
 // Whether mark, nonce and bits fit each other.
@@ -43,7 +45,7 @@ pub fn record_sound(session: Record) -> bool
     if session.used == 0 {
         return holds_zeros(session);
     }
-    (session.used == 1) & window_sound(session)
+    (session.used == 1) & (hashes::names_one(session.hash as u64) & window_sound(session))
 }
 
 // Whether the record at a place is sound, and no record after it has its IV where it is used.

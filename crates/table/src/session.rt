@@ -12,7 +12,7 @@ use window::Nonce;
 use window::Window;
 use window::time::Time;
 
-// The marks are bytes, since a host may lend any.
+// The marks and the mask of the hash are bytes, since a host may lend any.
 #[repr(C)]
 pub struct Record {
     pub used: u8,
@@ -21,10 +21,11 @@ pub struct Record {
     pub any: u8,
     pub highest: Nonce,
     pub bits: u64,
+    pub hash: u8,
 }
 
 // Bytes in a record.
-pub const SIZE: usize = 30;
+pub const SIZE: usize = 31;
 
 // The record at a place of the table.
 pub fn read(table: &[u8], place: usize) -> Record
@@ -48,6 +49,7 @@ fn parse(bytes: &[u8]) -> Record
         any: bytes[17],
         highest: Nonce(cells::load32(bytes, 18)),
         bits: cells::load64(bytes, 22),
+        hash: bytes[30],
     }
 }
 
@@ -75,15 +77,16 @@ fn write(out: &mut [u8], session: Record)
     ensures { λ _. ⌜ now (out .exit) ≡ recordBytes session ⌝ }
 {
     let iv = session.iv;
-    put_mark(out, 0, session.used);
+    put_byte(out, 0, session.used);
     cells::put_at(out, 1, &iv);
     cells::put32(out, 13, session.expiry.0);
-    put_mark(out, 17, session.any);
+    put_byte(out, 17, session.any);
     cells::put32(out, 18, session.highest.0);
     cells::put64(out, 22, session.bits);
+    put_byte(out, 30, session.hash);
 }
 
-fn put_mark(out: &mut [u8], at: usize, x: u8)
+fn put_byte(out: &mut [u8], at: usize, x: u8)
     requires { ⌜ at < length (now out) ⌝ }
     ensures { λ _. ⌜ now (out .exit) ≡ spliced (now (out .entry)) at (x ∷ []) ⌝ }
 {
@@ -113,9 +116,9 @@ pub fn put(table: &mut [u8], place: Place, record: Record)
 }
 
 // The record of a new session.
-pub fn begin(iv: &[u8], expiry: Time) -> Record
+pub fn begin(iv: &[u8], expiry: Time, hash: u8) -> Record
     requires { ⌜ length (now iv) ≡ 12 ⌝ }
-    ensures { λ r. ⌜ r ≡ begun (now (iv .entry)) (expiry .0) ⌝ }
+    ensures { λ r. ⌜ r ≡ begun (now (iv .entry)) (expiry .0) hash ⌝ }
 {
     let copy = twelve(iv);
     Record {
@@ -125,6 +128,7 @@ pub fn begin(iv: &[u8], expiry: Time) -> Record
         any: 0,
         highest: Nonce(0),
         bits: 0,
+        hash,
     }
 }
 
@@ -140,6 +144,7 @@ pub fn freed() -> Record
         any: 0,
         highest: Nonce(0),
         bits: 0,
+        hash: 0,
     }
 }
 
@@ -176,6 +181,7 @@ impl Record {
             any: mark(window.any),
             highest,
             bits: window.bits,
+            hash: self.hash,
         }
     }
 }

@@ -10,6 +10,7 @@ unfolding checkedOrders ordersGood limitsOf
 returns c =
     let good = c .before .before .before in
     simp (
+      ← (good .before .before .before .good-allowed .ensures),
       ← (good .before .before .good-extra .ensures),
       good .if1 .taken,
       c .before .before .or-default .ensures,
@@ -19,8 +20,8 @@ returns c =
 
 returns-2 : tie.Need-returns-2
 unfolding checkedOrders ordersGood
-returns-2 c = simp (← (c .before .before .good-extra .ensures), c .if1 .left)
+returns-2 c = simp (← (c .before .before .before .good-allowed .ensures), ← (c .before .before .good-extra .ensures), c .if1 .left)
 
 pub check-spec : {M : Type 1} → statement M
 check-spec =
-    tie.close (tie.spec (λ c κs. search needs) (λ c κs. search needs) (λ c κs. search needs) (λ c κs. search needs) returns returns-2)
+    tie.close (tie.spec (λ c κs. search needs) (λ c κs. search needs) (λ c κs. search needs) (λ c κs. search needs) (λ c κs. search needs) returns returns-2)

@@ -1,24 +1,15 @@
--- `sha2::digest` meets its contract: eight words side by side.
+-- `sha2::digest` meets its contract: each hash's own.
 -- Assumes nothing.
 use borrow.Author.Needs.{needs}
-use Rattle.sha2.proofs.Output.{laid-out}
 use Rattle.sha2.proofs.digest.Statement.{statement}
 use Rattle.sha2.proofs.digest.Tie as tie
 
 returns : tie.Need-returns
-returns c =
-    laid-out _
-    (c .before .before .before .before .before .before .before .before .before .before .before .before .before .before .before .before .before .before .before .before .before .before .put64 .ensures)
-    (c .before .before .before .before .before .before .before .before .before .before .before .before .before .before .before .before .before .before .before .put642 .ensures)
-    (c .before .before .before .before .before .before .before .before .before .before .before .before .before .before .before .before .put643 .ensures)
-    (c .before .before .before .before .before .before .before .before .before .before .before .before .before .put644 .ensures)
-    (c .before .before .before .before .before .before .before .before .before .before .put645 .ensures)
-    (c .before .before .before .before .before .before .before .put646 .ensures)
-    (c .before .before .before .before .put647 .ensures)
-    (c .before .put648 .ensures)
+returns c = rw (c .before .enum-told .given .1) (c .digest .ensures)
+
+returns-2 : tie.Need-returns-2
+returns-2 c = rw (c .before .enum-told2 .given .1) (λ fits. c .digest2 .ensures)
 
 pub digest-spec : {M : Type 1} → statement M
 digest-spec =
-    tie.close (tie.spec (λ c. search needs) (λ c κs. search needs) (λ c. search needs) (λ c κs. search needs) (λ c. search needs)
-    (λ c κs. search needs) (λ c. search needs) (λ c κs. search needs) (λ c. search needs) (λ c κs. search needs) (λ c. search needs)
-    (λ c κs. search needs) (λ c. search needs) (λ c κs. search needs) (λ c. search needs) (λ c κs. search needs) returns)
+    tie.close (tie.spec (λ c. search needs) (λ c κs. search needs) (λ c. search needs) (λ c κs. search needs) returns returns-2)

@@ -12,6 +12,7 @@ use Rattle.armor.specs.Fields.{times, the}
 use Rattle.armor.specs.InnerScan.{countIn}
 use Rattle.armor.proofs.Texts.{front-taken, filled-whole}
 use Rattle.armor.proofs.Fields.{count-bit, counted}
+use Rattle.armor.proofs.Requests.{signature-room}
 use Rattle.armor.proofs.contents.request_of.Statement.{statement}
 use Rattle.armor.proofs.contents.request_of.Tie as tie
 
@@ -19,7 +20,7 @@ content-requires : tie.Need-content-requires
 content-requires c κs = let start = c .before .before in (start .pre .noted keyS (lit< tt), start .pre .sizes .s .1)
 
 content-requires-2 : tie.Need-content-requires-2
-content-requires-2 c κs = let start = c .before .before .before .before .before in (start .pre .noted keyC (lit< tt), omega (arith, start .pre .sizes .c))
+content-requires-2 c κs = let start = c .before .before .before .before .before in (start .pre .noted keyC (lit< tt), signature-room (start .pre .sizes))
 
 content-requires-3 : tie.Need-content-requires-3
 content-requires-3 c κs = let start = c .before .before .before .before .before .before .before .before in (start .pre .noted keyIv (lit< tt), omega (arith, start .pre .sizes .iv))
@@ -35,6 +36,7 @@ returns c =
     let fs = carried v in
     let sizes = start .pre .sizes in
     let s = c .before .before .before .before .before .before .before .before .before .before .before .before .before .before .before .before .before .content in
+    let signature = c .before .before .before .before .before .before .before .before .before .before .before .before .before .before .content2 in
     let numbers = c .before .before .before .before .before .before .numbers-of .ensures in
     let eah = start .pre .noted keyEah (lit< tt) in
     let text = cut v (getD (seen .start) keyEah 0) (getD (seen .end) keyEah 0) in
@@ -42,7 +44,9 @@ returns c =
       token = front-taken (the keyS fs) (replicate 118 0) (s .result) (s .ensures .1) (s .ensures .0);
       token-size = s .ensures .0;
       token-fits = omega (arith, s .ensures .0, sizes .s .1);
-      signature = filled-whole 64 (the keyC fs) (sizes .c) (c .before .before .before .before .before .before .before .before .before .before .before .before .before .before .content2 .ensures .1);
+      signature = front-taken (the keyC fs) (replicate 64 0) (signature .result) (signature .ensures .1) (signature .ensures .0);
+      signature-size = signature .ensures .0;
+      signature-fits = omega (arith, signature .ensures .0, signature-room sizes);
       vector = filled-whole 12 (the keyIv fs) (sizes .iv) (c .before .before .before .before .before .before .before .before .before .before .before .content3 .ensures .1);
       tag = filled-whole 16 (the keyTag fs) (sizes .tag) (c .before .before .before .before .before .before .before .before .content4 .ensures .1);
       time = numbers .time;

@@ -19,6 +19,6 @@ is-good-spec =
     (λ c. rw (from-at (Rules number) 0 3 (refl, (refl, (refl, tt))) _ (omega arith) (c .before .if1 .taken)) (c .is-number .ensures)) (λ c κs. search needs)
     (λ c. rw (from-at (Rules mask) 3 3 (refl, (refl, (refl, tt))) _ (c .before .before .if1 .left) (c .before .if2 .taken)) (c .is-mask .ensures))
     (λ c κs. search needs) (λ c κs. search needs) (λ c κs. search needs) (λ c κs. search needs) (λ c κs. search needs)
-    (λ c. rw (c .before .match .keys1) (c .is-sized .ensures)) (λ c. rw (c .before .match .keys2) (c .is-sized2 .ensures))
-    (λ c. rw (c .before .match .keys3) (c .is-sized3 .ensures)) (λ c. rw (c .before .match .keys4) (c .is-sized4 .ensures))
+    (λ c. rw (c .before .match .keys1) (c .is-sized .ensures)) (λ c. rw (c .before .match .keys2) (c .is-either .ensures))
+    (λ c. rw (c .before .match .keys3) (c .is-sized2 .ensures)) (λ c. rw (c .before .match .keys4) (c .is-sized3 .ensures))
     (λ c. rw (from-at (Rules free) 10 2 (refl, (refl, tt)) (c .before .before .before .before .before .args .key) (omega arith) (omega arith)) (c .is-some .ensures)))

@@ -24,5 +24,5 @@ has-iv-spec =
     tie.close (tie.spec (λ c. search needs) (λ c. search needs)
     (λ c. let start = c .before .before .before .before in
     let a = start .args in
-    rw (used-at (a .table .now) (a .place) (start .pre), ne-eqb (getD (a .table .now) (30 * a .place) 0) 1 (c .if1 .taken)))
+    rw (used-at (a .table .now) (a .place) (start .pre), ne-eqb (getD (a .table .now) (31 * a .place) 0) 1 (c .if1 .taken)))
     (λ c. search needs) (λ c κs. omega arith) returns-2)

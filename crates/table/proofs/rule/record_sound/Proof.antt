@@ -10,5 +10,5 @@ unfolding sound
 record-sound-spec =
     tie.close (tie.spec (λ c κs. search needs)
     (λ c. simp (c .holds-zeros .ensures, eq-eqb _ _ (c .before .if1 .taken)))
-    (λ c κs. search needs)
-    (λ c. simp (c .window-sound .ensures, ne-eqb _ _ (c .before .before .if1 .left))))
+    (λ c. search needs) (λ c κs. search needs) (λ c κs. search needs)
+    (λ c. simp (c .window-sound .ensures, c .before .names-one .ensures, ne-eqb _ _ (c .before .before .before .before .if1 .left))))

@@ -8,5 +8,5 @@ pub parse-spec : {M : Type 1} → statement M
 unfolding recordOf
 parse-spec =
     tie.close (tie.spec (λ c. search needs) (λ c. search needs) (λ c. search needs) (λ c κs. search needs) (λ c. search needs) (λ c κs. search needs)
-    (λ c. search needs) (λ c κs. search needs) (λ c κs. search needs)
-    (λ c. simp (c .load64 .ensures, c .before .load322 .ensures, c .before .before .before .load32 .ensures, c .before .before .before .before .before .twelve .ensures)))
+    (λ c. search needs) (λ c κs. search needs) (λ c κs. search needs) (λ c. search needs)
+    (λ c. simp (c .before .load64 .ensures, c .before .before .load322 .ensures, c .before .before .before .before .load32 .ensures, c .before .before .before .before .before .before .twelve .ensures)))

@@ -12,5 +12,5 @@ pub read-spec : {M : Type 1} → statement M
 read-spec =
     tie.close (tie.spec (λ c. search needs) (λ c. search needs) (λ c. search needs) (λ c. search needs) (λ c. search needs) (λ c κs. search needs)
     (λ c. let a = c .before .before .before .args in
-    let long : 30 * a .place + 30 - 30 * a .place ≡ 30 = omega arith in
-    c .parse .ensures ∙ ap (λ (n : ℕ). recordOf (part (a .table .now) (30 * a .place) n)) long))
+    let long : 31 * a .place + 31 - 31 * a .place ≡ 31 = omega arith in
+    c .parse .ensures ∙ ap (λ (n : ℕ). recordOf (part (a .table .now) (31 * a .place) n)) long))

@@ -16,5 +16,5 @@ store-spec =
     (λ c. search needs)
     (λ c. let a = c .before .before .before .before .before .args in
     let iv : length (a .session .iv) ≡ 12 = search needs in
-    lent (a .table .now) (recordBytes (a .session)) (30 * a .place) (30 * a .place + 30) (c .before .before .write .ensures)
+    lent (a .table .now) (recordBytes (a .session)) (31 * a .place) (31 * a .place + 31) (c .before .before .write .ensures)
     (omega (arith, length-recordBytes (a .session) iv))))

@@ -12,18 +12,21 @@ iv-long start = search needs
 
 returns : tie.Need-returns
 returns c =
-    let highest = c .before .before .before .before .before in
-    let any = highest .before .before .before .before .before in
-    let iv = any .before .before .before .before .before in
-    let used = iv .before .before .before .before .before .before .before .before in
+    let bits = c .before .before .before .before .before .before in
+    let highest = bits .before .before .before .before in
+    let any = highest .before .before .before .before in
+    let expiry = any .before .before .before .before in
+    let iv = expiry .before .before .before .before in
+    let used = iv .before .before .before .before .before in
     let start = used .before .before .before .before in
     let a = start .args in
     written (a .session) (a .out .now) (start .pre) (iv-long start)
-    (used .put-mark .ensures) (iv .before .before .before .put-at .ensures .is) (any .before .before .before .before .put32 .ensures)
-    (any .put-mark2 .ensures) (highest .before .put322 .ensures) (c .before .before .put64 .ensures)
+    (used .put-byte .ensures) (iv .put-at .ensures .is) (expiry .put32 .ensures) (any .put-byte2 .ensures) (highest .put322 .ensures)
+    (bits .put64 .ensures) (c .before .before .put-byte3 .ensures)
 
 pub write-spec : {M : Type 1} → statement M
 write-spec =
     tie.close (tie.spec (λ c κs. search needs) (λ c. search needs)
     (λ c κs. omega (arith, iv-long (c .before .before .before .before .before .before .before .before)))
-    (λ c κs. search needs) (λ c κs. search needs) (λ c κs. search needs) (λ c κs. search needs) (λ c. search needs) returns)
+    (λ c κs. search needs) (λ c κs. search needs) (λ c κs. search needs) (λ c κs. search needs) (λ c κs. search needs) (λ c. search needs)
+    returns)

@@ -1,0 +1,2 @@
+-- Laws of the hashes and their masks.
+pub mod Hashes

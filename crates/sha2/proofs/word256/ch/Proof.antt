@@ -1,0 +1,13 @@
+-- `sha2::word256::ch` meets its contract: the operators mean what the definition says.
+-- Assumes nothing.
+use mathlib.Core.Path.{refl}
+use Rattle.sha2.specs.Word.{Ch}
+use Rattle.sha2.proofs.word256.ch.Statement.{statement}
+use Rattle.sha2.proofs.word256.ch.Tie as tie
+
+returns : tie.Need-returns
+unfolding Ch
+returns c = refl
+
+pub ch-spec : {M : Type 1} → statement M
+ch-spec = tie.close (tie.spec returns)

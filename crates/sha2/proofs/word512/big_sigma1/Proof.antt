@@ -1,0 +1,13 @@
+-- `sha2::word512::big_sigma1` meets its contract: the operators mean what the definition says.
+-- Assumes nothing.
+use mathlib.Core.Path.{refl}
+use Rattle.sha2.specs.Word.{Σ1}
+use Rattle.sha2.proofs.word512.big_sigma1.Statement.{statement}
+use Rattle.sha2.proofs.word512.big_sigma1.Tie as tie
+
+returns : tie.Need-returns
+unfolding Σ1
+returns c = refl
+
+pub big-sigma1-spec : {M : Type 1} → statement M
+big-sigma1-spec = tie.close (tie.spec returns)

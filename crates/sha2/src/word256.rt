@@ -1,0 +1,40 @@
+// The functions on words of SHA-256: FIPS 180-4, 4.1.2.
+ghost use mathlib.Core.Path.{_≡_};
+ghost use Rattle.hashes.specs.declared.Hash.the-variants.{Sha256};
+ghost use Rattle.sha2.specs.Word as Word;
+
+pub fn ch(x: u32, y: u32, z: u32) -> u32
+    ensures { λ r. ⌜ r ≡ Word.Ch Sha256 x y z ⌝ }
+{
+    (x & y) ^ (!x & z)
+}
+
+pub fn maj(x: u32, y: u32, z: u32) -> u32
+    ensures { λ r. ⌜ r ≡ Word.Maj x y z ⌝ }
+{
+    (x & y) ^ (x & z) ^ (y & z)
+}
+
+pub fn big_sigma0(x: u32) -> u32
+    ensures { λ r. ⌜ r ≡ Word.Σ0 Sha256 x ⌝ }
+{
+    ((x >> 2) | (x << 30)) ^ ((x >> 13) | (x << 19)) ^ ((x >> 22) | (x << 10))
+}
+
+pub fn big_sigma1(x: u32) -> u32
+    ensures { λ r. ⌜ r ≡ Word.Σ1 Sha256 x ⌝ }
+{
+    ((x >> 6) | (x << 26)) ^ ((x >> 11) | (x << 21)) ^ ((x >> 25) | (x << 7))
+}
+
+pub fn small_sigma0(x: u32) -> u32
+    ensures { λ r. ⌜ r ≡ Word.σ0 Sha256 x ⌝ }
+{
+    ((x >> 7) | (x << 25)) ^ ((x >> 18) | (x << 14)) ^ (x >> 3)
+}
+
+pub fn small_sigma1(x: u32) -> u32
+    ensures { λ r. ⌜ r ≡ Word.σ1 Sha256 x ⌝ }
+{
+    ((x >> 17) | (x << 15)) ^ ((x >> 19) | (x << 13)) ^ (x >> 10)
+}
