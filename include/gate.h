@@ -37,12 +37,18 @@ extern "C" {
 #define GATE_EXTRA_MAX 128     /* the extra header names with their commas */
 #define GATE_EXTRA_NAMES_MAX 8
 
-#define GATE_RECORD_BYTES 30   /* a session's record in a table */
+#define GATE_RECORD_BYTES 31   /* a session's record in a table */
 #define GATE_RECORDS_MAX 64    /* at least 1 */
 #define GATE_TABLE_MAX (GATE_RECORD_BYTES * GATE_RECORDS_MAX)
 
 #define GATE_SETUP_REPLY_MAX 459
-#define GATE_INVALIDATION_BYTES 90
+#define GATE_INVALIDATION_SHA_256_BYTES 46
+#define GATE_INVALIDATION_SHA_512_BYTES 90
+
+/* ---- Hashes: the bits of the mask of those that are allowed. A record keeps the bit of its session's. ---- */
+
+#define GATE_HASH_SHA_256 1
+#define GATE_HASH_SHA_512 4
 
 /* ---- Limits in seconds. 0 orders the default. ---- */
 
@@ -57,8 +63,9 @@ extern "C" {
 /*
  * ---- The numbers that a call answers ----
  *
- * A request gets the lowest number that holds. A setup is checked for 1, 2, 3, 4, 5, 19, 20, 17, 18, in this order, an
- * ending for 1, 3, 12. Table and reply buffer keep every byte and the reply has length 0, unless the line says more.
+ * A request is checked for 1 to 12, then for 8 against its session's record, then for 13 to 16; a setup for 1, 2, 3, 4,
+ * 5, 19, 20, 17, 18, in this order; an ending for 1, 3, 12. The first that holds is the number. Table and reply buffer
+ * keep every byte and the reply has length 0, unless the line says more.
  */
 enum gate_number {
     GATE_ACCEPTED = 0,        /* done. Setup: the record is taken, the reply is for the client. Request: the reply is
@@ -70,7 +77,8 @@ enum gate_number {
     GATE_BAD_FIELDS = 5,      /* wrong set of fields */
     GATE_BAD_LINE = 6,        /* head or set-aside line malformed */
     GATE_REPEATED_NAME = 7,   /* a covered name twice among the head lines, or twice among the set-aside ones */
-    GATE_BAD_COVERAGE = 8,    /* the request covers, or hashes, otherwise than ordered */
+    GATE_BAD_COVERAGE = 8,    /* the request covers otherwise than ordered, or its hash is not one that is allowed, not
+                                 that of its signature's length, or not its session's */
     GATE_BAD_TOKEN = 9,       /* token fails to open, or does not hold what it must */
     GATE_EXPIRED = 10,        /* the clock is at or past the token's expiry. Frees the record if there is one; the
                                  reply is the invalidation */
@@ -82,7 +90,7 @@ enum gate_number {
     GATE_NONCE_SEEN = 16,     /* nonce accepted before, less than 64 below the highest */
     GATE_IV_TAKEN = 17,       /* setup: IV already in a used record */
     GATE_TABLE_FULL = 18,     /* setup: no free record, and none whose expiry is at or before the clock */
-    GATE_NO_SHA_512 = 19,     /* setup: the client's mask lacks SHA-512 */
+    GATE_NO_HASH = 19,        /* setup: no hash in common: none that the client has is allowed */
     GATE_EXPIRY_TOO_LATE = 20 /* setup: expiry would pass 4,294,967,295 */
 };
 
@@ -97,7 +105,7 @@ static inline const char *gate_text(unsigned number) {
     case GATE_BAD_FIELDS: return "wrong set of fields";
     case GATE_BAD_LINE: return "malformed header line";
     case GATE_REPEATED_NAME: return "covered header repeated";
-    case GATE_BAD_COVERAGE: return "coverage other than ordered";
+    case GATE_BAD_COVERAGE: return "wrong coverage or hash";
     case GATE_BAD_TOKEN: return "token does not open";
     case GATE_EXPIRED: return "session expired";
     case GATE_BAD_SIGNATURE: return "signature differs";
@@ -108,7 +116,7 @@ static inline const char *gate_text(unsigned number) {
     case GATE_NONCE_SEEN: return "nonce seen before";
     case GATE_IV_TAKEN: return "IV already taken";
     case GATE_TABLE_FULL: return "table full";
-    case GATE_NO_SHA_512: return "client lacks SHA-512";
+    case GATE_NO_HASH: return "no hash in common";
     case GATE_EXPIRY_TOO_LATE: return "expiry past the last time";
     default: return "no number of the gate";
     }
@@ -191,9 +199,11 @@ static inline const char *gate_header_name(unsigned bit) {
  * ---- The calls ----
  *
  * A run of bytes is a pointer and then a length. Each call answers its number plus 256 times the reply's length:
- * gate_answer_of takes the two apart. The orders are the same five arguments in each call that takes them:
+ * gate_answer_of takes the two apart. The orders are the same six arguments in each call that takes them:
  *
  *   mask          GATE_COVER of what the client must sign; a bit above 55 makes bad orders
+ *   hashes        GATE_HASH_SHA_256, GATE_HASH_SHA_512, or both joined by |: what a session may be signed with; there is
+ *                 no default, and any other mask makes bad orders
  *   extra         names of further headers to sign: 0 to GATE_EXTRA_NAMES_MAX tokens joined by commas, none twice,
  *                 none that has a bit, not X-S-Armor
  *   request_life  seconds for which a request is taken; 0: GATE_REQUEST_LIFE_DEFAULT; callers that queue for longer than
@@ -215,12 +225,13 @@ static inline const char *gate_header_name(unsigned bit) {
  *   value        the X-S-Armor value of the client's request for a session
  * At GATE_ACCEPTED the record is the lowest free one, else the lowest expired one, and the reply, at most
  * GATE_SETUP_REPLY_MAX bytes, is the X-S-Armor value for the client. It holds the session key: send it over TLS alone.
+ * The session's hash is the longest that is allowed and that the client has; reply and record hold it, and it stays.
  */
-uint32_t gate_setup(uint64_t mask, const uint8_t *extra, size_t extra_len, uint32_t request_life, uint32_t idle,
-                    uint32_t session_life, uint32_t clock, const uint8_t *server_key, size_t server_key_len,
-                    const uint8_t *session_key, size_t session_key_len, const uint8_t *iv, size_t iv_len,
-                    const uint8_t *session_id, size_t session_id_len, const uint8_t *value, size_t value_len,
-                    uint8_t *table, size_t table_len, uint8_t *reply, size_t reply_len);
+uint32_t gate_setup(uint64_t mask, uint64_t hashes, const uint8_t *extra, size_t extra_len, uint32_t request_life,
+                    uint32_t idle, uint32_t session_life, uint32_t clock, const uint8_t *server_key,
+                    size_t server_key_len, const uint8_t *session_key, size_t session_key_len, const uint8_t *iv,
+                    size_t iv_len, const uint8_t *session_id, size_t session_id_len, const uint8_t *value,
+                    size_t value_len, uint8_t *table, size_t table_len, uint8_t *reply, size_t reply_len);
 
 /*
  * Judges a request.
@@ -231,13 +242,13 @@ uint32_t gate_setup(uint64_t mask, const uint8_t *extra, size_t extra_len, uint3
  *   path        1 to GATE_PATH_MAX, as the client sent it
  *   body        at most GATE_BODY_MAX
  * At GATE_ACCEPTED the reply is the session id. At GATE_EXPIRED and GATE_IDLE it is the invalidation, an X-S-Armor value
- * of GATE_INVALIDATION_BYTES for the client.
+ * for the client under the request's hash: of GATE_INVALIDATION_SHA_256_BYTES or GATE_INVALIDATION_SHA_512_BYTES.
  */
-uint32_t gate_judge(uint64_t mask, const uint8_t *extra, size_t extra_len, uint32_t request_life, uint32_t idle,
-                    uint32_t session_life, uint32_t clock, const uint8_t *server_key, size_t server_key_len,
-                    const uint8_t *value, size_t value_len, const uint8_t *head, size_t head_len, const uint8_t *aside,
-                    size_t aside_len, const uint8_t *path, size_t path_len, const uint8_t *body, size_t body_len,
-                    uint8_t *table, size_t table_len, uint8_t *reply, size_t reply_len);
+uint32_t gate_judge(uint64_t mask, uint64_t hashes, const uint8_t *extra, size_t extra_len, uint32_t request_life,
+                    uint32_t idle, uint32_t session_life, uint32_t clock, const uint8_t *server_key,
+                    size_t server_key_len, const uint8_t *value, size_t value_len, const uint8_t *head, size_t head_len,
+                    const uint8_t *aside, size_t aside_len, const uint8_t *path, size_t path_len, const uint8_t *body,
+                    size_t body_len, uint8_t *table, size_t table_len, uint8_t *reply, size_t reply_len);
 
 /* Ends the session of an IV of GATE_IV_BYTES. It has no reply. */
 uint32_t gate_end(const uint8_t *iv, size_t iv_len, uint8_t *table, size_t table_len);
@@ -250,21 +261,22 @@ typedef struct gate_record {
     uint8_t any;      /* whether a nonce was accepted yet, 0 or 1 */
     uint32_t highest; /* the highest one */
     uint64_t bits;    /* that nonce in the lowest bit, and the 63 below it */
+    uint8_t hash;     /* the session's: GATE_HASH_SHA_256 or GATE_HASH_SHA_512 */
 } gate_record;
 
 /* The library reads and writes a record at these places. */
 typedef char gate_record_is_laid_out_so[offsetof(gate_record, used) == 0 && offsetof(gate_record, iv) == 1 &&
                                                 offsetof(gate_record, expiry) == 16 && offsetof(gate_record, any) == 20 &&
                                                 offsetof(gate_record, highest) == 24 && offsetof(gate_record, bits) == 32 &&
-                                                sizeof(gate_record) == 40
+                                                offsetof(gate_record, hash) == 40 && sizeof(gate_record) == 48
                                             ? 1
                                             : -1];
 
 /* Judges a request as gate_judge does with a table of this one record, and leaves the new record in its place. */
-uint32_t gate_judge_one(uint64_t mask, const uint8_t *extra, size_t extra_len, uint32_t request_life, uint32_t idle,
-                        uint32_t session_life, uint32_t clock, const uint8_t *server_key, size_t server_key_len,
-                        const uint8_t *value, size_t value_len, const uint8_t *head, size_t head_len,
-                        const uint8_t *aside, size_t aside_len, const uint8_t *path, size_t path_len,
+uint32_t gate_judge_one(uint64_t mask, uint64_t hashes, const uint8_t *extra, size_t extra_len, uint32_t request_life,
+                        uint32_t idle, uint32_t session_life, uint32_t clock, const uint8_t *server_key,
+                        size_t server_key_len, const uint8_t *value, size_t value_len, const uint8_t *head,
+                        size_t head_len, const uint8_t *aside, size_t aside_len, const uint8_t *path, size_t path_len,
                         const uint8_t *body, size_t body_len, gate_record *record, uint8_t *reply, size_t reply_len);
 
 /*
@@ -287,6 +299,7 @@ typedef struct gate_room {
 
 typedef struct gate_orders {
     uint64_t mask;
+    uint64_t hashes;
     gate_run extra;
     uint32_t request_life;
     uint32_t idle;
@@ -355,18 +368,18 @@ static inline uint8_t *gate_lent_room(gate_room room) {
 static inline gate_answer gate_set_up_session(const gate_orders *orders, uint32_t clock, gate_run server_key,
                                               const gate_new_session *session, gate_room table, gate_room reply) {
     return gate_answer_of(gate_setup(
-        orders->mask, gate_lent(orders->extra), orders->extra.length, orders->request_life, orders->idle,
-        orders->session_life, clock, gate_lent(server_key), server_key.length, gate_lent(session->session_key),
-        session->session_key.length, gate_lent(session->iv), session->iv.length, gate_lent(session->session_id),
-        session->session_id.length, gate_lent(session->value), session->value.length, gate_lent_room(table),
-        table.length, gate_lent_room(reply), reply.length));
+        orders->mask, orders->hashes, gate_lent(orders->extra), orders->extra.length, orders->request_life,
+        orders->idle, orders->session_life, clock, gate_lent(server_key), server_key.length,
+        gate_lent(session->session_key), session->session_key.length, gate_lent(session->iv), session->iv.length,
+        gate_lent(session->session_id), session->session_id.length, gate_lent(session->value), session->value.length,
+        gate_lent_room(table), table.length, gate_lent_room(reply), reply.length));
 }
 
 static inline gate_answer gate_judge_request(const gate_orders *orders, uint32_t clock, gate_run server_key,
                                              const gate_request *request, gate_room table, gate_room reply) {
     return gate_answer_of(gate_judge(
-        orders->mask, gate_lent(orders->extra), orders->extra.length, orders->request_life, orders->idle,
-        orders->session_life, clock, gate_lent(server_key), server_key.length, gate_lent(request->value),
+        orders->mask, orders->hashes, gate_lent(orders->extra), orders->extra.length, orders->request_life,
+        orders->idle, orders->session_life, clock, gate_lent(server_key), server_key.length, gate_lent(request->value),
         request->value.length, gate_lent(request->head), request->head.length, gate_lent(request->aside),
         request->aside.length, gate_lent(request->path), request->path.length, gate_lent(request->body),
         request->body.length, gate_lent_room(table), table.length, gate_lent_room(reply), reply.length));
@@ -376,8 +389,8 @@ static inline gate_answer gate_judge_request(const gate_orders *orders, uint32_t
 static inline gate_answer gate_judge_one_request(const gate_orders *orders, uint32_t clock, gate_run server_key,
                                                  const gate_request *request, gate_record *record, gate_room reply) {
     return gate_answer_of(gate_judge_one(
-        orders->mask, gate_lent(orders->extra), orders->extra.length, orders->request_life, orders->idle,
-        orders->session_life, clock, gate_lent(server_key), server_key.length, gate_lent(request->value),
+        orders->mask, orders->hashes, gate_lent(orders->extra), orders->extra.length, orders->request_life,
+        orders->idle, orders->session_life, clock, gate_lent(server_key), server_key.length, gate_lent(request->value),
         request->value.length, gate_lent(request->head), request->head.length, gate_lent(request->aside),
         request->aside.length, gate_lent(request->path), request->path.length, gate_lent(request->body),
         request->body.length, record, gate_lent_room(reply), reply.length));
@@ -408,6 +421,7 @@ static inline gate_record gate_record_at(const uint8_t *bytes) {
     record.any = bytes[17];
     record.highest = (uint32_t)gate_number_at(bytes + 18, 4);
     record.bits = gate_number_at(bytes + 22, 8);
+    record.hash = bytes[30];
     return record;
 }
 
@@ -418,6 +432,7 @@ static inline void gate_put_record(uint8_t *bytes, const gate_record *record) {
     bytes[17] = record->any;
     gate_put_number(bytes + 18, 4, record->highest);
     gate_put_number(bytes + 22, 8, record->bits);
+    bytes[30] = record->hash;
 }
 
 #ifdef __cplusplus

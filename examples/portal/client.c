@@ -7,6 +7,8 @@
 #include <string.h>
 
 /* From libprimitives.a; 0 is done. */
+uint32_t prim_hmac_sha256(const uint8_t *key, size_t key_len, const uint8_t *text, size_t text_len, uint8_t *out,
+                          size_t out_len);
 uint32_t prim_hmac_sha512(const uint8_t *key, size_t key_len, const uint8_t *text, size_t text_len, uint8_t *out,
                           size_t out_len);
 
@@ -68,6 +70,34 @@ static size_t base64_bytes(const char *from, uint8_t *out, size_t room) {
         }
     }
     return length;
+}
+
+/* ---- Masks ---- */
+
+/* A mask is a byte that says how many follow, and then a number. */
+static uint64_t mask_of(const char *base64) {
+    uint8_t bytes[9];
+    size_t length = base64_bytes(base64, bytes, sizeof bytes);
+    return length > 1 ? gate_number_at(bytes + 1, length - 1) : 0;
+}
+
+static void add_mask_byte(text *to, uint8_t mask) {
+    const uint8_t bytes[2] = {1, mask};
+    add_base64(to, bytes, sizeof bytes);
+    add(to, "", 1);
+}
+
+void client_ask(uint8_t hashes, char *value) {
+    text out = {(uint8_t *)value, CLIENT_ASKS_BYTES, 0, 0};
+    add_string(&out, "r:");
+    add_mask_byte(&out, hashes);
+}
+
+uint64_t client_hash(const client *session) { return mask_of(session->h); }
+
+void client_sign_with(client *session, uint8_t hash) {
+    text out = {(uint8_t *)session->h, sizeof session->h, 0, 0};
+    add_mask_byte(&out, hash);
 }
 
 /* ---- The setup reply ---- */
@@ -153,27 +183,31 @@ typedef struct numbers {
     size_t n_length, t_length, lt_length;
 } numbers;
 
-static uint64_t mask_of(const client *session) {
-    uint8_t ah[9];
-    size_t length = base64_bytes(session->ah, ah, sizeof ah);
-    return length > 1 ? gate_number_at(ah + 1, length - 1) : 0;
+/* The code of a text under the session's key and hash, at most 64 bytes. Answers its length, 0 if there is none. */
+static size_t code_of(const client *session, const uint8_t *bytes, size_t length, uint8_t *out) {
+    switch (client_hash(session)) {
+    case GATE_HASH_SHA_256: return prim_hmac_sha256(session->key, sizeof session->key, bytes, length, out, 32) == 0 ? 32 : 0;
+    case GATE_HASH_SHA_512: return prim_hmac_sha512(session->key, sizeof session->key, bytes, length, out, 64) == 0 ? 64 : 0;
+    default: return 0;
+    }
 }
 
-/* HMAC-SHA-512 of the netstrings of h, ah, eah, n if ordered, t, lt, covered values, path and body. */
-static int signature(const client *session, const client_request *request, const numbers *sent, uint8_t *out) {
+/* The code of the netstrings of h, ah, eah, n if ordered, t, lt, covered values, path and body. */
+static size_t signature(const client *session, const client_request *request, const numbers *sent, uint8_t *out) {
     uint8_t space[8192], h[9], ah[9], eah[GATE_EXTRA_MAX];
+    const uint64_t mask = mask_of(session->ah);
     text all = {space, sizeof space, 0, 0};
     size_t extra_length = base64_bytes(session->eah, eah, sizeof eah);
     add_netstring(&all, h, base64_bytes(session->h, h, sizeof h));
     add_netstring(&all, ah, base64_bytes(session->ah, ah, sizeof ah));
     add_netstring(&all, eah, extra_length);
-    if (mask_of(session) & GATE_COVER(NONCE)) add_netstring(&all, sent->n, sent->n_length);
+    if (mask & GATE_COVER(NONCE)) add_netstring(&all, sent->n, sent->n_length);
     add_netstring(&all, sent->t, sent->t_length);
     add_netstring(&all, sent->lt, sent->lt_length);
-    add_covered(&all, request, mask_of(session), (const char *)eah, extra_length);
+    add_covered(&all, request, mask, (const char *)eah, extra_length);
     add_netstring(&all, request->path, strlen(request->path));
     add_netstring(&all, request->body, strlen(request->body));
-    return !all.full && prim_hmac_sha512(session->key, sizeof session->key, all.bytes, all.length, out, 64) == 0;
+    return all.full ? 0 : code_of(session, all.bytes, all.length, out);
 }
 
 static void add_piece(text *to, const char *key, const char *base64) {
@@ -195,10 +229,11 @@ int client_sign(client *session, const client_request *request, uint32_t now, ch
     sent.n_length = number_bytes(session->next, sent.n);
     sent.t_length = number_bytes(now, sent.t);
     sent.lt_length = number_bytes(session->last, sent.lt);
-    if (!signature(session, request, &sent, c)) return 0;
+    size_t c_length = signature(session, request, &sent, c);
+    if (c_length == 0) return 0;
     add_piece(&out, "s", session->s);
-    add_coded(&out, "c", c, sizeof c);
-    if (mask_of(session) & GATE_COVER(NONCE)) add_coded(&out, "n", sent.n, sent.n_length);
+    add_coded(&out, "c", c, c_length);
+    if (mask_of(session->ah) & GATE_COVER(NONCE)) add_coded(&out, "n", sent.n, sent.n_length);
     add_coded(&out, "t", sent.t, sent.t_length);
     add_coded(&out, "lt", sent.lt, sent.lt_length);
     add_piece(&out, "h", session->h);
@@ -214,9 +249,10 @@ int client_sign(client *session, const client_request *request, uint32_t now, ch
 
 int client_believes(const client *session, const char *reply, size_t length) {
     static const char expired[] = "Session Expired";
-    uint8_t code[64], space[GATE_INVALIDATION_BYTES];
+    uint8_t code[64], space[GATE_INVALIDATION_SHA_512_BYTES];
     text wanted = {space, sizeof space, 0, 0};
-    if (prim_hmac_sha512(session->key, sizeof session->key, (const uint8_t *)expired, strlen(expired), code, 64) != 0) return 0;
-    add_coded(&wanted, "i", code, sizeof code);
+    size_t code_length = code_of(session, (const uint8_t *)expired, strlen(expired), code);
+    if (code_length == 0) return 0;
+    add_coded(&wanted, "i", code, code_length);
     return length == wanted.length && memcmp(reply, wanted.bytes, length) == 0;
 }

@@ -5,8 +5,8 @@
 #include <stddef.h>
 #include <stdint.h>
 
-/* The X-S-Armor value that asks for a session: a client that has SHA-512. */
-#define CLIENT_ASKS "r:AQQ="
+/* Room for the X-S-Armor value that asks for a session. */
+#define CLIENT_ASKS_BYTES 8
 
 /* What the setup reply told, the fields as they came, in base64. */
 typedef struct client {
@@ -28,11 +28,20 @@ typedef struct client_request {
     const char *body;
 } client_request;
 
+/* Writes the value that asks for a session, of a client that has these hashes: GATE_HASH_SHA_256, GATE_HASH_SHA_512 or both. */
+void client_ask(uint8_t hashes, char *value);
+
 /* Takes a setup reply. Answers 0 if it is none. */
 int client_begin(client *session, const char *reply, size_t length, uint32_t now);
 
 /* Writes the next request's X-S-Armor value and a zero byte. Answers 0 if they do not fit. */
 int client_sign(client *session, const client_request *request, uint32_t now, char *value, size_t room);
+
+/* The mask of the hash that it signs with: at first, the one that the setup reply told. */
+uint64_t client_hash(const client *session);
+
+/* Signs with this hash from now on, whatever the setup reply told: what somebody would have it do who wants a weaker one. */
+void client_sign_with(client *session, uint8_t hash);
 
 /* Whether a reply is the invalidation of this session, which nobody without its key can make. */
 int client_believes(const client *session, const char *reply, size_t length);

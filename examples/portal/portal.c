@@ -1,5 +1,6 @@
 /*
- * A day at a parts portal: the proxy's side of the login gate, with dealers, a van and the stock uploader to talk to it.
+ * A day at a parts portal: the proxy's side of the login gate, with dealers, a van, a hand scanner and the stock uploader to
+ * talk to it.
  *
  *     portal day.txt
  *
@@ -10,9 +11,12 @@
  *     server-key HEX                  the portal's own key
  *     records COUNT                   how many sessions the table has room for
  *     cover NAME..                    what a request must sign: nonce, or a header that has a bit in the mask
+ *     hashes NAME..                   what a session may be signed with: SHA-256, SHA-512
  *     extra NAME,NAME                 further headers to sign
  *     limits REQUEST IDLE SESSION     in seconds; 0 is the default
  *     limits-of CALLER LIMITS         the same three in orders of this caller's own; the portal's hold for the others
+ *     hashes-of CALLER NAME..         what this caller's own orders allow
+ *     has CALLER NAME..               the hashes that the caller's program has; SHA-512 if nothing is said
  *     note TEXT                       printed as it stands
  *     at HH:MM:SS                     the clock from now on
  *     setup CALLER IV KEY             the caller asks for a session; IV and session key in hexadecimal
@@ -20,6 +24,7 @@
  *     deliver LABEL                   it reaches the proxy
  *     forge LABEL BODY                it reaches the proxy with another body
  *     send CALLER PATH [BODY]         made and delivered at once
+ *     signs-with CALLER NAME          the hash that the caller's program signs with from now on, whatever its session's
  *     fetch CALLER COUNT PATH         so many requests at once, told in one line
  *     end CALLER                      the caller logs out
  *     table                           prints the table
@@ -38,6 +43,7 @@ typedef struct caller {
     char name[16];
     char session_id[32];
     gate_orders orders;
+    uint8_t hashes; /* of its program */
     uint8_t iv[GATE_IV_BYTES];
     int setups;
     client program;
@@ -78,9 +84,9 @@ static gate_room the_reply(void) { return gate_room_of(reply, sizeof reply); }
 
 static gate_run the_server_key(void) { return gate_bytes(server_key, sizeof server_key); }
 
-static gate_answer set_up(const caller *who, const uint8_t *session_key) {
+static gate_answer set_up(const caller *who, const char *asked, const uint8_t *session_key) {
     const gate_new_session session = {gate_bytes(session_key, GATE_SESSION_KEY_BYTES), gate_bytes(who->iv, sizeof who->iv),
-                                      gate_string(who->session_id), gate_string(CLIENT_ASKS)};
+                                      gate_string(who->session_id), gate_string(asked)};
     return gate_set_up_session(&who->orders, now, the_server_key(), &session, the_table(), the_reply());
 }
 
@@ -120,6 +126,8 @@ static const char *time_text(uint32_t time) {
     return text;
 }
 
+static const char *hash_text(uint64_t hash) { return hash == GATE_HASH_SHA_256 ? "SHA-256" : "SHA-512"; }
+
 static void print_event(const caller *who, const char *what, gate_answer answer) {
     printf("%s  %-7s  %-50s  %2u %s", time_text(now), who->name, what, answer.number, gate_text(answer.number));
 }
@@ -134,7 +142,7 @@ static void print_judged(const request *asked, const char *body, gate_answer ans
         printf(": session %.*s", (int)answer.length, (const char *)reply);
     } else if (answer.length > 0) {
         int believed = client_believes(&asked->from->program, (const char *)reply, answer.length);
-        printf(": invalidation, which the caller's program %s", believed ? "believes" : "does not believe");
+        printf(": invalidation of %u bytes, which the caller's program %s", (unsigned)answer.length, believed ? "believes" : "does not believe");
     }
     printf("\n");
 }
@@ -146,10 +154,10 @@ static void print_table(void) {
         if (record.used == 0) {
             printf("free\n");
         } else if (record.any == 0) {
-            printf("used until %s, no nonce yet\n", time_text(record.expiry));
+            printf("used until %s, %s, no nonce yet\n", time_text(record.expiry), hash_text(record.hash));
         } else {
-            printf("used until %s, highest nonce %u, window %08x %08x\n", time_text(record.expiry), record.highest,
-                   (unsigned)(record.bits >> 32), (unsigned)(record.bits & 0xffffffffu));
+            printf("used until %s, %s, highest nonce %u, window %08x %08x\n", time_text(record.expiry), hash_text(record.hash),
+                   record.highest, (unsigned)(record.bits >> 32), (unsigned)(record.bits & 0xffffffffu));
         }
     }
 }
@@ -182,6 +190,7 @@ static caller *named_caller(void) {
         if (who->name[0] == 0 && strlen(name) < sizeof who->name) {
             strcpy(who->name, name);
             who->orders = orders;
+            who->hashes = GATE_HASH_SHA_512;
         }
         if (strcmp(who->name, name) == 0) return who;
     }
@@ -219,6 +228,19 @@ static uint64_t bit_of(const char *name) {
     return 0;
 }
 
+static uint8_t hash_named(const char *name) {
+    if (strcmp(name, "SHA-256") == 0) return GATE_HASH_SHA_256;
+    if (strcmp(name, "SHA-512") == 0) return GATE_HASH_SHA_512;
+    give_up("no such hash");
+    return 0;
+}
+
+static uint8_t read_hashes(void) {
+    uint8_t hashes = 0;
+    for (const char *name = word(); name != NULL; name = optional_word()) hashes = (uint8_t)(hashes | hash_named(name));
+    return hashes;
+}
+
 /* ---- The script's lines ---- */
 
 static void do_day(void) { midnight = number(); }
@@ -232,6 +254,23 @@ static void do_records(void) {
 
 static void do_cover(void) {
     for (const char *name = word(); name != NULL; name = optional_word()) orders.mask |= bit_of(name);
+}
+
+static void do_hashes(void) { orders.hashes = read_hashes(); }
+
+static void do_hashes_of(void) {
+    caller *who = named_caller();
+    who->orders.hashes = read_hashes();
+}
+
+static void do_has(void) {
+    caller *who = named_caller();
+    who->hashes = read_hashes();
+}
+
+static void do_signs_with(void) {
+    caller *who = named_caller();
+    client_sign_with(&who->program, hash_named(word()));
 }
 
 static void do_extra(void) {
@@ -266,15 +305,17 @@ static void do_at(void) {
 
 static void do_setup(void) {
     caller *who = named_caller();
+    char asked[CLIENT_ASKS_BYTES];
     uint8_t session_key[GATE_SESSION_KEY_BYTES];
     read_hex(who->iv, sizeof who->iv);
     read_hex(session_key, sizeof session_key);
     sprintf(who->session_id, "%s-%d", who->name, ++who->setups);
-    gate_answer answer = set_up(who, session_key);
+    client_ask(who->hashes, asked);
+    gate_answer answer = set_up(who, asked, session_key);
     print_event(who, "setup", answer);
     if (answer.number == GATE_ACCEPTED) {
         if (!client_begin(&who->program, (const char *)reply, answer.length, now)) give_up("the reply is none");
-        printf(": token, key and coverage, %u bytes", (unsigned)answer.length);
+        printf(": token, key, %s and coverage, %u bytes", hash_text(client_hash(&who->program)), (unsigned)answer.length);
     }
     printf("\n");
 }
@@ -331,10 +372,11 @@ static void act(char *line) {
     static const struct {
         const char *name;
         void (*act)(void);
-    } events[] = {{"day", do_day},       {"server-key", do_server_key}, {"records", do_records},     {"cover", do_cover},
-                  {"extra", do_extra},   {"limits", do_limits},         {"limits-of", do_limits_of}, {"note", do_note},
-                  {"at", do_at},         {"setup", do_setup},           {"make", do_make},           {"deliver", do_deliver},
-                  {"forge", do_forge},   {"send", do_send},             {"fetch", do_fetch},         {"end", do_end},
+    } events[] = {{"day", do_day},       {"server-key", do_server_key}, {"records", do_records}, {"cover", do_cover},
+                  {"hashes", do_hashes}, {"extra", do_extra},           {"limits", do_limits},   {"limits-of", do_limits_of},
+                  {"has", do_has},       {"hashes-of", do_hashes_of},   {"note", do_note},       {"at", do_at},
+                  {"setup", do_setup},   {"make", do_make},             {"deliver", do_deliver}, {"forge", do_forge},
+                  {"send", do_send},     {"signs-with", do_signs_with}, {"fetch", do_fetch},     {"end", do_end},
                   {"table", print_table}};
     const char *name = strtok(line, " \n");
     if (name == NULL || name[0] == '#') return;

@@ -20,7 +20,7 @@ static int all(const uint8_t *bytes, size_t count, uint8_t value) {
 }
 
 static const gate_run empty = {NULL, 0};
-static const gate_orders no_orders = {0, {NULL, 0}, 0, 0, 0};
+static const gate_orders no_orders = {0, GATE_HASH_SHA_512, {NULL, 0}, 0, 0, 0};
 static const uint8_t zeros[GATE_SERVER_KEY_BYTES] = {0};
 
 static uint8_t table[GATE_RECORD_BYTES], reply[GATE_REPLY_MIN];
@@ -69,7 +69,7 @@ static void longest_setup(void) {
     memset(id, 'i', sizeof id);
     memset(extra, 'e', sizeof extra);
     memset(reply, 7, sizeof reply);
-    const gate_orders orders = {GATE_COVER(MIME_VERSION), {extra, sizeof extra}, 0, 0, 0};
+    const gate_orders orders = {GATE_COVER(MIME_VERSION), GATE_HASH_SHA_256 | GATE_HASH_SHA_512, {extra, sizeof extra}, 0, 0, 0};
     const gate_new_session session = {key(), {zeros, GATE_IV_BYTES}, {id, sizeof id}, gate_string("r:AQQ=")};
     const uint32_t clock = 4000000000u;
     gate_answer answer = gate_set_up_session(&orders, clock, key(), &session, in_table(), in_reply());
@@ -81,6 +81,7 @@ static void longest_setup(void) {
     expect("its record is used", record.used == 1 && all(record.iv, GATE_IV_BYTES, 0));
     expect("with no nonce", record.any == 0 && record.highest == 0 && record.bits == 0);
     expect("its expiry is the default's", record.expiry == clock + GATE_SESSION_LIFE_DEFAULT);
+    expect("its hash is the one that the client has", record.hash == GATE_HASH_SHA_512);
     answer = gate_end_session(gate_bytes(record.iv, GATE_IV_BYTES), in_table());
     expect("its ending is accepted, with no reply", answer.number == GATE_ACCEPTED && answer.length == 0);
     expect("the record is free", all(table, sizeof table, 0));
@@ -94,6 +95,7 @@ static void records(void) {
     expect("the IV", memcmp(record.iv, bytes + 1, GATE_IV_BYTES) == 0);
     expect("the numbers", record.expiry == 0x8e8f9091u && record.highest == 0x93949596u);
     expect("the bits", (uint32_t)(record.bits >> 32) == 0x9798999au && (uint32_t)record.bits == 0x9b9c9d9eu);
+    expect("the hash", record.hash == 0x9f);
     gate_put_record(again, &record);
     expect("and back", memcmp(again, bytes, sizeof bytes) == 0);
 }
@@ -116,7 +118,8 @@ static void print_constants(void) {
         GATE_VALUE_MAX,            GATE_LINES_MAX,         GATE_PATH_MAX,             GATE_BODY_MAX,
         GATE_REPLY_MIN,            GATE_EXTRA_MAX,         GATE_EXTRA_NAMES_MAX,      GATE_RECORD_BYTES,
         GATE_RECORDS_MAX,          GATE_WINDOW,            GATE_REQUEST_LIFE_DEFAULT, GATE_IDLE_DEFAULT,
-        GATE_SESSION_LIFE_DEFAULT, GATE_SESSION_LIFE_MAX,
+        GATE_SESSION_LIFE_DEFAULT, GATE_SESSION_LIFE_MAX,  GATE_HASH_SHA_256,         GATE_INVALIDATION_SHA_256_BYTES,
+        GATE_HASH_SHA_512,         GATE_INVALIDATION_SHA_512_BYTES,
     };
     for (size_t i = 0; i < sizeof constants / sizeof constants[0]; i++) printf("%ld\n", constants[i]);
     for (unsigned bit = GATE_BIT_HOST; bit < GATE_BITS; bit++) printf("%s\n", gate_header_name(bit));

@@ -31,8 +31,8 @@
 #define UNTOUCHED 0xa5
 #define DEEPEST 12288
 
-/* Of a line: a judge and its twelve arguments. */
-#define MOST_WORDS 13
+/* Of a line: a judge and its thirteen arguments. */
+#define MOST_WORDS 14
 
 enum place { AT_END, AT_BEGIN, ON_HEAP };
 
@@ -287,6 +287,7 @@ static void ask(enum kind kind) {
 
 static void read_site(void) {
     call.orders.mask = number_up_to(UINT64_MAX);
+    call.orders.hashes = number_up_to(UINT64_MAX);
     lend_next(EXTRA);
     call.orders.extra = lent(EXTRA);
     call.orders.request_life = number32();
@@ -352,8 +353,8 @@ static void play(char *line) {
         const char *name;
         size_t words;
         void (*play)(void);
-    } kinds[] = {{"table", 2, set_table},   {"reply", 3, set_reply}, {"setup", 12, play_setup},
-                 {"judge", 13, play_judge}, {"one", 13, play_one},   {"end", 2, play_end}};
+    } kinds[] = {{"table", 2, set_table},   {"reply", 3, set_reply}, {"setup", 13, play_setup},
+                 {"judge", 14, play_judge}, {"one", 14, play_one},   {"end", 2, play_end}};
     split(line);
     const char *kind = words[next_word++];
     for (size_t i = 0; i < sizeof kinds / sizeof kinds[0]; i++) {

@@ -4,7 +4,9 @@
 #include <stdio.h>
 #include <string.h>
 
+uint32_t prim_sha256(const uint8_t *text, size_t text_len, uint8_t *out, size_t out_len);
 uint32_t prim_sha512(const uint8_t *text, size_t text_len, uint8_t *out, size_t out_len);
+uint32_t prim_hmac_sha256(const uint8_t *key, size_t key_len, const uint8_t *text, size_t text_len, uint8_t *out, size_t out_len);
 uint32_t prim_hmac_sha512(const uint8_t *key, size_t key_len, const uint8_t *text, size_t text_len, uint8_t *out, size_t out_len);
 uint32_t prim_gcm_seal(const uint8_t *key, size_t key_len, const uint8_t *iv, size_t iv_len, const uint8_t *text, size_t text_len,
                        uint8_t *out, size_t out_len, uint8_t *tag, size_t tag_len);
@@ -29,37 +31,47 @@ static int all(const uint8_t *bytes, size_t count, uint8_t value) {
     return 1;
 }
 
-/* FIPS 180-4, example "abc"; RFC 4231, case 2. */
-static const char *const abc = "ddaf35a193617abacc417349ae20413112e6fa4e89a97ea20a9eeee64b55d39a"
-                               "2192992a274fc1a836ba3c23a3feebbd454d4423643ce80e2a9ac94fa54ca49f";
-static const char *const jefe = "164b7a7bfcf819e2e395fbe73b56e0a387bd64222e831fd610270cd7ea250554"
-                                "9758bf75c05a994a6d034f65f8f0e6fdcaeab1a34d4a6b4b636e070a38bce737";
+/* FIPS 180-4, examples "abc"; RFC 4231, case 2. */
+static const struct hash {
+    const char *name;
+    size_t size;
+    uint32_t (*hash)(const uint8_t *, size_t, uint8_t *, size_t);
+    uint32_t (*mac)(const uint8_t *, size_t, const uint8_t *, size_t, uint8_t *, size_t);
+    const char *abc, *jefe;
+} known[] = {
+    {"SHA-256", 32, prim_sha256, prim_hmac_sha256, "ba7816bf8f01cfea414140de5dae2223b00361a396177a9cb410ff61f20015ad",
+     "5bdcc146bf60754e6a042426089575c75a003f089d2739839dec58b964ec3843"},
+    {"SHA-512", 64, prim_sha512, prim_hmac_sha512,
+     "ddaf35a193617abacc417349ae20413112e6fa4e89a97ea20a9eeee64b55d39a2192992a274fc1a836ba3c23a3feebbd454d4423643ce80e2a9ac94fa54ca49f",
+     "164b7a7bfcf819e2e395fbe73b56e0a387bd64222e831fd610270cd7ea2505549758bf75c05a994a6d034f65f8f0e6fdcaeab1a34d4a6b4b636e070a38bce737"},
+};
 
-static void hashes(void) {
-    const uint8_t *text = (const uint8_t *)"abc";
-    uint8_t out[80];
-    memset(out, 7, sizeof out);
-    expect("prim_sha512 answers 0 for 64 bytes", prim_sha512(text, 3, out, 64) == 0);
-    expect("its digest is the published one", shows(out, 64, abc));
-    expect("nothing stands past it", all(out + 64, 16, 7));
-    memset(out, 7, sizeof out);
-    expect("prim_sha512 answers 1 for 63 bytes", prim_sha512(text, 3, out, 63) == 1);
-    expect("prim_sha512 answers 1 for 65 bytes", prim_sha512(text, 3, out, 65) == 1);
-    expect("prim_sha512 answers 1 for no bytes", prim_sha512(text, 3, out, 0) == 1);
-    expect("and touches nothing then", all(out, sizeof out, 7));
+static uint32_t digest(const struct hash *by, uint8_t *out, size_t size) { return by->hash((const uint8_t *)"abc", 3, out, size); }
+
+static uint32_t code(const struct hash *by, uint8_t *out, size_t size) {
+    return by->mac((const uint8_t *)"Jefe", 4, (const uint8_t *)"what do ya want for nothing?", 28, out, size);
 }
 
-static void macs(void) {
-    const uint8_t *key = (const uint8_t *)"Jefe", *text = (const uint8_t *)"what do ya want for nothing?";
+static void by_size(const struct hash *by, uint32_t (*call)(const struct hash *, uint8_t *, size_t), const char *published) {
+    static const size_t sizes[] = {0, 1, 31, 32, 33, 63, 64, 65};
     uint8_t out[80];
     memset(out, 7, sizeof out);
-    expect("prim_hmac_sha512 answers 0 for 64 bytes", prim_hmac_sha512(key, 4, text, 28, out, 64) == 0);
-    expect("its code is the published one", shows(out, 64, jefe));
-    expect("nothing stands past it", all(out + 64, 16, 7));
-    memset(out, 7, sizeof out);
-    expect("prim_hmac_sha512 answers 1 for 63 bytes", prim_hmac_sha512(key, 4, text, 28, out, 63) == 1);
-    expect("prim_hmac_sha512 answers 1 for 65 bytes", prim_hmac_sha512(key, 4, text, 28, out, 65) == 1);
+    for (size_t i = 0; i < sizeof sizes / sizeof sizes[0]; i++) {
+        if (sizes[i] != by->size) expect("answers 1 for a buffer of another size", call(by, out, sizes[i]) == 1);
+    }
     expect("and touches nothing then", all(out, sizeof out, 7));
+    expect("answers 0 for a buffer of its size", call(by, out, by->size) == 0);
+    expect("what it writes is the published one", shows(out, by->size, published));
+    expect("nothing stands past it", all(out + by->size, sizeof out - by->size, 7));
+}
+
+static void hashes(void) {
+    for (const struct hash *by = known; by < known + sizeof known / sizeof known[0]; by++) {
+        printf("%s:\n", by->name);
+        by_size(by, digest, by->abc);
+        printf("HMAC-%s:\n", by->name);
+        by_size(by, code, by->jefe);
+    }
 }
 
 /* The GCM specification's test case 14: a key, an IV and a text of zeros. */
@@ -105,7 +117,6 @@ static void seal_sizes(void) {
 
 int main(void) {
     hashes();
-    macs();
     seals();
     seal_sizes();
     printf("%d passed, %d failed\n", passed, failed);

@@ -65,10 +65,14 @@ def coverage(arguments):
     for name, count in counts.faults.items():
         print(f"fault {count}: {name}")
     for (lower, higher, answer), count in sorted(counts.pairs.items()):
-        print(f"pair {lower} with {higher} gave {answer}: {count}")
+        print(f"pair {check_text(*lower)} with {check_text(*higher)} gave {answer}: {count}")
     unmet = [name for name, count in counts.faults.items() if count == 0]
     print(f"{len(counts.faults) - len(unmet)} of {len(counts.faults)} faults came up")
     return report_numbers(counts)
+
+
+def check_text(number, late):
+    return f"{number} against the record" if late else number
 
 
 def run_cases(arguments):

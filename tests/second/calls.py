@@ -5,10 +5,12 @@ from typing import NamedTuple, Optional
 import model
 import record as rec
 
+ORDERS = model.Orders._fields
+REQUEST = [*ORDERS, *"clock server_key value head aside path body".split()]
 ARGUMENTS = {
-    "setup": "mask extra request_life idle session_life clock server_key session_key iv session_id value".split(),
-    "judge": "mask extra request_life idle session_life clock server_key value head aside path body".split(),
-    "one": "mask extra request_life idle session_life clock server_key value head aside path body".split(),
+    "setup": [*ORDERS, *"clock server_key session_key iv session_id value".split()],
+    "judge": REQUEST,
+    "one": REQUEST,
     "end": ["iv"],
 }
 MOST_SHOWN = 5
@@ -22,12 +24,26 @@ def field_text(contents):
     return str(contents) if isinstance(contents, int) else run_text(contents)
 
 
+def named(call):
+    """The arguments of a call by their names."""
+    return dict(zip(ARGUMENTS[call.kind], call.arguments))
+
+
+def altered(call, **changed):
+    """The call with other arguments."""
+    return call._replace(arguments=tuple((named(call) | changed).values()))
+
+
+def orders_of(call):
+    return model.Orders(*call.arguments[:len(ORDERS)])
+
+
 def answered(call, table, reply):
     """What the model answers to this call; the thin entry is lent the table's first record alone."""
     arguments = call.arguments
     if call.kind == "end":
         return model.end(*arguments, table)._replace(reply=reply)
-    orders, rest = model.Orders(*arguments[:5]), arguments[5:]
+    orders, rest = orders_of(call), arguments[len(ORDERS):]
     if call.kind == "setup":
         return model.setup(orders, *rest, table, reply)
     if call.kind == "judge":

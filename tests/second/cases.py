@@ -11,6 +11,7 @@ from cryptography.hazmat.primitives.ciphers.aead import AESGCM
 import calls
 import client
 import encoding
+import hashing
 import model
 import record as rec
 from faults import CATALOGUE
@@ -48,20 +49,20 @@ def equal(name, got, wanted):
 
 # The twelve cases of 01
 
-WINDOW_100 = rec.Record(1, bytes(12), 0, 1, 100, 1)
+WINDOW_100 = rec.Record(1, bytes(12), 0, 1, 100, 1, hashing.SHA_512)
 
 equal("1, netstring of nothing", encoding.netstring(b""), b"0:,")
 equal("2, Kb+4", encoding.number(encoding.base64_bytes(b"Kb+4")), 2_736_056)
 equal("3, AQQ=", encoding.mask(encoding.base64_bytes(b"AQQ=")), 4)
 equal("4, WcBGQw==", encoding.number(encoding.base64_bytes(b"WcBGQw==")), 1_505_773_123)
 equal("5, Aw1z7w==", encoding.mask(encoding.base64_bytes(b"Aw1z7w==")), 0x0D73EF)
-equal("6, fresh, n 0", rec.take_nonce(rec.fresh(bytes(12), 0), 0), (0, rec.Record(1, bytes(12), 0, 1, 0, 1)))
+equal("6, fresh, n 0", rec.take_nonce(rec.fresh(bytes(12), 0), 0), (0, WINDOW_100._replace(highest=0)))
 equal("7, n 37", rec.take_nonce(WINDOW_100, 37), (0, WINDOW_100._replace(bits=1 << 63 | 1)))
 equal("8, n 36", rec.take_nonce(WINDOW_100, 36), (15, WINDOW_100))
 equal("9, n 100", rec.take_nonce(WINDOW_100, 100), (16, WINDOW_100))
 equal("10, n 164", rec.take_nonce(WINDOW_100, 164), (0, WINDOW_100._replace(highest=164, bits=1)))
 equal("11, t 1000, lt 1010",
-      model.idle_too_long(model.Orders(0, b"", 0, 0, 0), {b"t": b"\3\xe8", b"lt": b"\3\xf2"}), False)
+      model.idle_too_long(model.Orders(0, 4, b"", 0, 0, 0), {b"t": b"\3\xe8", b"lt": b"\3\xf2"}), False)
 
 TEXT_12 = bytes.fromhex(
     "323a 0104 2c 323a 0103 2c 303a 2c 313a 05 2c 323a 03e8 2c 323a 03de 2c 313a 61 2c 313a 2f 2c 303a 2c"
@@ -74,9 +75,11 @@ equal("12, signed text of the client",
 
 # The primitives, by published vectors: RFC 4231 case 1, and test case 14 of the GCM specification
 
-equal("HMAC-SHA-512", model.hmac_sha_512(b"\x0b" * 20, b"Hi There").hex(),
+equal("HMAC-SHA-512", hashing.code(4, b"\x0b" * 20, b"Hi There").hex(),
       "87aa7cdea5ef619d4ff0b4241a1d6cb02379f4e2ce4ec2787ad0b30545e17cde"
       "daa833b7d6b8a702038b274eaea3f4e4be9d914eeb61f1702e696c203a126854")
+equal("HMAC-SHA-256", hashing.code(1, b"\x0b" * 20, b"Hi There").hex(),
+      "b0344c61d8db38535ca8afceaf0bf12b881dc200c9833da726e9376c2e32cff7")
 equal("AES-256-GCM", tuple(run.hex() for run in model.sealed(bytes(32), bytes(12), bytes(16))),
       ("cea7403d4d606b6e074ec5d3baf39d18", "d0d1c8a799996bf0265b98b5d48ab919"))
 
@@ -107,7 +110,7 @@ SESSION_KEY = bytes(range(100, 132))
 IV = b"twelve bytes"
 REPLY = b"\xaa" * 1_024
 FRESH = rec.fresh(IV, 2_000)
-ORDERS = model.Orders(3, b"", 0, 0, 1_000)
+ORDERS = model.Orders(3, 5, b"", 0, 0, 1_000)
 
 
 def text_of(fields):
@@ -118,11 +121,11 @@ TOKEN = b"32:" + SESSION_KEY + b",2:id,4:2000,"
 
 
 def request(records=(FRESH, rec.FREE), orders=ORDERS, clock=1_000, head=b"Host: a\r\n", path=b"/", token=TOKEN,
-            text=TEXT_12, server_key=SERVER_KEY, reply=REPLY, closing=b"", **changed):
+            text=TEXT_12, sign=hashlib.sha512, server_key=SERVER_KEY, reply=REPLY, closing=b"", **changed):
     """The request with one thing or two changed; further names are fields."""
     run = AESGCM(SERVER_KEY).encrypt(IV, token, None)
     fields = {b"s": run[:-16], b"iv": IV, b"tag": run[-16:], **FIELDS_12}
-    fields[b"c"] = hmac.new(SESSION_KEY, text, hashlib.sha512).digest()
+    fields[b"c"] = hmac.new(SESSION_KEY, text, sign).digest()
     fields.update({key.encode(): run for key, run in changed.items()})
     value = text_of(fields) + closing
     table = rec.table_of(records)
@@ -140,17 +143,17 @@ def row(number, asked, name=""):
     equal(f"row {number} {name}", outcome, model.Outcome(number, 0, reply, table))
 
 
-def freed(number, asked):
+def freed(number, asked, sign=hashlib.sha512, length=90):
     """A refusal that frees the one used record and writes the invalidation."""
     outcome, table, reply = asked
-    text = b"i:" + base64.b64encode(hmac.new(SESSION_KEY, b"Session Expired", hashlib.sha512).digest())
-    wanted = model.Outcome(number, 90, text + reply[90:], bytes(len(table)))
+    text = b"i:" + base64.b64encode(hmac.new(SESSION_KEY, b"Session Expired", sign).digest())
+    wanted = model.Outcome(number, length, text + reply[length:], bytes(len(table)))
     equal(f"row {number}, which frees", outcome, wanted)
 
 
 def accepted(name, asked, record):
     outcome, table, reply = asked
-    wanted = model.Outcome(0, 2, b"id" + reply[2:], rec.to_bytes(record) + table[30:])
+    wanted = model.Outcome(0, 2, b"id" + reply[2:], rec.to_bytes(record) + table[31:])
     equal(f"row 0, {name}", outcome, wanted)
 
 
@@ -190,32 +193,70 @@ row(15, request(records=(TAKEN._replace(highest=69),)))
 row(16, request(records=(TAKEN,)))
 row(17, setting_up(records=(FRESH, rec.FREE)))
 row(18, setting_up(records=(rec.fresh(b"another iv..", 1_001),)))
-row(19, setting_up(value=b"r:AQM="))
+row(19, setting_up(value=b"r:AQI="))
 row(20, setting_up(clock=4_294_966_296))
 row(1, setting_up(session_id=bytes(65)), "at setup")
 row(5, setting_up(value=b"r:AQQ=;r:AQQ="), "at setup")
 
 
-@case("row 0, setup: reply and record")
-def setup_accepted():
-    outcome, table, _ = setting_up(records=(rec.fresh(b"another iv..", 1_000),))
+def set_up(h, record, **asked):
+    """A setup whose reply has this h, and which leaves this record."""
+    outcome, table, _ = setting_up(records=(rec.fresh(b"another iv..", 1_000),), **asked)
     run = AESGCM(SERVER_KEY).encrypt(IV, TOKEN, None)
-    fields = {b"s": run[:-16], b"iv": IV, b"tag": run[-16:], b"kh": SESSION_KEY, b"h": b"\1\4", b"ah": b"\1\3"}
+    fields = {b"s": run[:-16], b"iv": IV, b"tag": run[-16:], b"kh": SESSION_KEY, b"h": h, b"ah": b"\1\3"}
     text = text_of(fields)
-    return outcome == model.Outcome(0, len(text), text + REPLY[len(text):], rec.to_bytes(FRESH))
+    equal(f"row 0, setup: {asked}", outcome, model.Outcome(0, len(text), text + REPLY[len(text):], rec.to_bytes(record)))
+
+
+# The two hashes. The request of case 12 under SHA-256 has another h in its text, and its code is made with that hash.
+
+UNDER_256 = {"h": b"\1\1", "text": TEXT_12.replace(b"\1\4", b"\1\1"), "sign": hashlib.sha256}
+FRESH_256, TAKEN_256 = (record._replace(hash=1) for record in (FRESH, TAKEN))
+ONLY_512, ONLY_256 = (ORDERS._replace(hashes=hashes) for hashes in (4, 1))
+
+set_up(b"\1\4", FRESH)
+set_up(b"\1\4", FRESH, value=b"r:AQU=")
+set_up(b"\1\1", FRESH_256, value=b"r:AQE=")
+set_up(b"\1\1", FRESH_256, value=b"r:AQU=", orders=ONLY_256)
+row(19, setting_up(value=b"r:AQE=", orders=ONLY_512), "SHA-256 offered, SHA-512 allowed")
+row(19, setting_up(value=b"r:AQQ=", orders=ONLY_256), "SHA-512 offered, SHA-256 allowed")
+for other_hashes in (0, 2, 3, 7, 1 << 63 | 5):
+    row(2, setting_up(orders=ORDERS._replace(hashes=other_hashes)), f"hashes {other_hashes}, at setup")
+    row(2, request(orders=ORDERS._replace(hashes=other_hashes)), f"hashes {other_hashes}")
+for other_hash in (0, 2, 5, 255):
+    row(3, request(records=(FRESH._replace(hash=other_hash),)), f"hash {other_hash}")
+row(3, request(records=(FRESH, rec.FREE._replace(hash=4))), "a free record that keeps a hash")
+accepted("request of SHA-256", request(records=(FRESH_256, rec.FREE), **UNDER_256), TAKEN_256)
+accepted("request of SHA-256, which alone is allowed", request(records=(FRESH_256,), orders=ONLY_256, **UNDER_256), TAKEN_256)
+row(4, request(c=bytes(48)), "c of 48 bytes")
+row(8, request(c=bytes(32)), "c of 32 bytes under h 4")
+row(8, request(records=(FRESH_256,), **UNDER_256, c=bytes(64)), "c of 64 bytes under h 1")
+row(8, request(h=b"\1\5", text=TEXT_12.replace(b"\1\4", b"\1\5")), "h 5")
+row(8, request(records=(FRESH_256,), orders=ONLY_512, clock=2_000, **UNDER_256), "h not allowed, before 10")
+row(8, request(orders=ONLY_256, path=b"/x"), "h not allowed, before 11")
+row(8, request(**UNDER_256), "h other than the record's")
+row(11, request(path=b"/x", **UNDER_256), "before h is held to the record")
+row(12, request(records=(rec.FREE,), **UNDER_256), "before h is held to the record")
+row(8, request(clock=1_100, **UNDER_256), "h other than the record's, before 14")
+row(8, request(records=(TAKEN,), **UNDER_256), "h other than the record's, before 16")
+freed(10, request(clock=2_000, **UNDER_256), hashlib.sha256, 46)
+freed(10, request(records=(FRESH_256,), clock=2_000))
+IDLE_256 = {**UNDER_256, "text": UNDER_256["text"].replace(b"2:\3\xde", b"1:\0"), "lt": b"\0", "orders": ORDERS._replace(idle=999)}
+freed(13, request(records=(FRESH_256,), **IDLE_256), hashlib.sha256, 46)
+row(8, request(**IDLE_256), "h other than the record's, before 13")
 
 
 @case("setup: the longest reply has 459 bytes")
 def longest_reply():
-    orders = model.Orders((1 << 56) - 1, b"x" * 128, 0, 0, 0)
+    orders = model.Orders((1 << 56) - 1, 5, b"x" * 128, 0, 0, 0)
     outcome, _, _ = setting_up(orders=orders, clock=2_000_000_000, session_id=bytes(64))
     return outcome.length == 459
 
 
-equal("row 0, end", model.end(IV, rec.table_of([rec.FREE, TAKEN])), model.Outcome(0, 0, b"", bytes(60)))
+equal("row 0, end", model.end(IV, rec.table_of([rec.FREE, TAKEN])), model.Outcome(0, 0, b"", bytes(62)))
 equal("row 1, end", model.end(IV[:11], rec.to_bytes(FRESH)), model.Outcome(1, 0, b"", rec.to_bytes(FRESH)))
 equal("row 3, end", model.end(IV, rec.to_bytes(FRESH._replace(begun=2))).number, 3)
-equal("row 12, end", model.end(bytes(12), bytes(30)), model.Outcome(12, 0, b"", bytes(30)))
+equal("row 12, end", model.end(bytes(12), bytes(31)), model.Outcome(12, 0, b"", bytes(31)))
 
 
 # The window over whole histories, against the rule of demand 2

@@ -5,9 +5,8 @@ It signs whatever it carries, good or bad, so that only the rule under test can 
 """
 
 import base64
-import hashlib
-import hmac
 
+import hashing
 from model import NAMES, Orders
 
 UNLISTED = [b"X-Dealer", b"X-Farm", b"x-order.no", b"Part", b"Z", b"Content-Type", b"X_Trace", b"Accept-Parts", b"~x~"]
@@ -17,12 +16,13 @@ UNLISTED = [b"X-Dealer", b"X-Farm", b"x-order.no", b"Part", b"Z", b"Content-Type
 
 
 def make_orders(rng, session_life):
-    """Good orders: some bits, some extra names, limits at their default or not."""
+    """Good orders: some bits, one hash or both, some extra names, limits at their default or not."""
     bits = rng.sample(range(1, len(NAMES) + 1), rng.choice([0, 1, 2, 3, 3, 4, 6]))
     mask = sum(1 << bit for bit in bits) | (rng.random() < 0.8)
     names = rng.sample(UNLISTED, rng.choice([0, 0, 0, 1, 1, 2, 3, 8]))
     return Orders(
         mask=mask,
+        hashes=rng.choice([hashing.SHA_256, hashing.SHA_512, hashing.BOTH, hashing.BOTH]),
         extra=b",".join(rng.choice([name, name, name.upper()]) for name in names),
         request_life=rng.choice([0, 0, 300, 60, 1, 3_000]),
         idle=rng.choice([0, 0, 1_800, 600, 1, 100_000]),
@@ -41,6 +41,10 @@ def encoded_number(number):
 def encoded_mask(mask):
     run = encoded_number(mask)
     return bytes([len(run)]) + run
+
+
+def decoded_mask(run):
+    return int.from_bytes(run[1:], "big")
 
 
 def piece(key, contents):
@@ -90,7 +94,7 @@ def signed_parts(fields, head, aside, path, body):
     if b"n" in carried:
         parts.append((b"n", carried[b"n"]))
     parts += [(b"t", carried.get(b"t", b"")), (b"lt", carried.get(b"lt", b""))]
-    mask = int.from_bytes(carried.get(b"ah", b"")[1:], "big")
+    mask = decoded_mask(carried.get(b"ah", b""))
     for place, name in enumerate(NAMES):
         if mask & 2 << place:
             parts.append((name, header(name, head, aside)))
@@ -103,5 +107,7 @@ def joined(parts):
     return b"".join(str(len(part)).encode() + b":" + part + b"," for _, part in parts)
 
 
-def signature(key, text):
-    return hmac.digest(key, text, hashlib.sha512)
+def named_hash(fields, own):
+    """The hash that h names; its own where h, by some fault, names none."""
+    mask = decoded_mask(dict(fields).get(b"h", b""))
+    return mask if mask in hashing.FUNCTIONS else own

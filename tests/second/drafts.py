@@ -9,6 +9,7 @@ from dataclasses import dataclass, field
 from typing import NamedTuple, Optional
 
 import client
+import hashing
 import model
 import record as rec
 from encoding import netstring
@@ -105,6 +106,10 @@ class Setup(Valued):
 
     stages = ("plan", "fields", "pieces", "value", "lent")
 
+    def hashed(self, known):
+        """Let the client have this hash alone."""
+        self.offer = client.encoded_mask(known)
+
     def stage(self, name, rng):
         if name == "fields":
             self.fields = [(b"r", self.offer)]
@@ -125,6 +130,7 @@ class Request(Valued):
     t: int = 0
     lt: int = 0
     n: int = 0  # carried if the orders say so
+    hash: int = hashing.SHA_512  # that it names and signs with
     head_lines: list = field(default_factory=list)
     aside_lines: list = field(default_factory=list)
     path: bytes = b"/"
@@ -147,6 +153,14 @@ class Request(Valued):
 
     def order_extra(self, extra):
         self.order(extra=extra)
+
+    def hashed(self, known):
+        """Let the session have this hash, and the request sign with it."""
+        self.hash = known
+        self.put(self.place, self.own()._replace(hash=known))
+
+    def code(self, key, text):
+        return hashing.code(client.named_hash(self.fields, self.hash), key, text)
 
     def window(self, highest, bits):
         self.put(self.place, self.own()._replace(begun=1, highest=highest, bits=bits | 1))
@@ -207,7 +221,7 @@ class Request(Valued):
         if name == "text":
             self.text = client.joined(self.parts)
         if name == "signed":
-            self.add_field(rng, b"c", client.signature(self.key, self.text))
+            self.add_field(rng, b"c", self.code(self.key, self.text))
         if name == "lent":
             self.head = b"".join(self.head_lines)
             self.aside = b"".join(self.aside_lines)
@@ -221,7 +235,7 @@ class Request(Valued):
             (b"tag", tag),
             (b"t", client.encoded_number(self.t)),
             (b"lt", client.encoded_number(self.lt)),
-            (b"h", client.encoded_mask(model.SHA_512)),
+            (b"h", client.encoded_mask(self.hash)),
             (b"ah", client.encoded_mask(self.orders.mask)),
         ]
         if self.orders.extra:

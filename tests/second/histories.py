@@ -9,6 +9,7 @@ import random
 from collections import Counter
 from dataclasses import dataclass
 
+import calls
 import client
 import drafts
 import model
@@ -19,6 +20,7 @@ HIGHEST = model.HIGHEST
 CALLS_IN_CHAPTER = 250
 TABLE_SIZES = [1, 2, 2, 3, 3, 4, 4, 5, 6, 8, 8, 12, 16, 30, 64]
 CLOCKS = [0, 200, 5_000, 70_000, 1_505_773_123, 1_760_000_000, (1 << 31) - 600, HIGHEST - 3_000_000, HIGHEST - 9_000]
+OFFERS = [1, 1, 3, 4, 5, 5, 6, 0xF4, 0xF9, 1 << 40 | 5]
 KINDS_IN_PAIRS = ["judge"] * 14 + ["one"] * 3 + ["setup"] * 8 + ["end"]
 
 
@@ -34,6 +36,7 @@ class Session:
     key: bytes
     session_id: bytes
     expiry: int
+    hash: int
     orders: model.Orders
     last: int
 
@@ -136,9 +139,8 @@ class History:
         """An accepted request again, as a proxy or a reader of a bundle would send it."""
         if not self.accepted:
             return self.set_up()
-        arguments = list(self.rng.choice(self.accepted))
-        arguments[5] = self.clock
-        return self.act(drafts.Call("judge", tuple(arguments), self.table, self.lent_reply()), "resent request")
+        again = drafts.Call("judge", self.rng.choice(self.accepted), self.table, self.lent_reply())
+        return self.act(calls.altered(again, clock=self.clock), "resent request")
 
     def request_of_gone_session(self):
         gone = self.gone_sessions()
@@ -157,15 +159,15 @@ class History:
         return self.ask(self.draft_for_faults(kind), [fault], fault.name, expected=fault.number)
 
     def pair_of_faults(self):
-        """Two numbers first, so that rare ones are paired as often as common ones."""
+        """Two checks first, so that rare ones are paired as often as common ones."""
         kind = self.rng.choice(KINDS_IN_PAIRS)
         fitting = [fault for fault in CATALOGUE if kind in fault.on and not fault.long]
-        numbers = self.rng.sample(sorted({fault.number for fault in fitting}), 2)
-        pair = [self.rng.choice([fault for fault in fitting if fault.number == number]) for number in numbers]
+        checks = self.rng.sample(sorted({fault.check for fault in fitting}), 2)
+        pair = [self.rng.choice([fault for fault in fitting if fault.check == check]) for check in checks]
         # Edges go in first, then high numbers: the faults of 1 cut runs to a size that nothing can be put into.
         pair.sort(key=lambda fault: fault.number or HIGHEST, reverse=True)
         outcome = self.ask(self.draft_for_faults(kind), pair, " + ".join(fault.name for fault in pair))
-        self.counts.pairs[(min(numbers), max(numbers), outcome.number)] += 1
+        self.counts.pairs[(min(checks), max(checks), outcome.number)] += 1
         return outcome
 
     # Drafts of good calls
@@ -176,17 +178,18 @@ class History:
 
     def setup_draft(self):
         rng = self.rng
+        orders = rng.choice(self.orders)
         return drafts.Setup(
             kind="setup",
             table=self.table,
             iv=rng.randbytes(12),
             reply=self.lent_reply(),
-            orders=rng.choice(self.orders),
+            orders=orders,
             clock=self.clock,
             server_key=self.server_key,
             session_key=rng.randbytes(32),
             session_id=rng.randbytes(rng.choice([1, 16, 64, rng.randint(1, 64)])),
-            offer=client.encoded_mask(rng.choice([4, 4, 4, 5, 6, 7, 0xF4, 1 << 40 | 4])),
+            offer=client.encoded_mask(rng.choice([offer for offer in OFFERS if offer & orders.hashes])),
         )
 
     def request_draft(self, session, kind):
@@ -212,6 +215,7 @@ class History:
             key=session.key,
             session_id=session.session_id,
             expiry=session.expiry,
+            hash=session.hash,
             t=t,
             lt=lt,
             n=nonce,
@@ -292,18 +296,27 @@ class History:
     def remember(self, call, outcome):
         """A call was accepted on the chapter's own table: later ones build on it."""
         if call.kind == "setup":
-            orders, (clock, _, _, _, session_id, _) = model.Orders(*call.arguments[:5]), call.arguments[5:]
+            orders, told = calls.orders_of(call), calls.named(call)
             given = client.parse_reply(outcome.reply[:outcome.length])
-            expiry = clock + model.session_life(orders)
-            self.sessions.append(Session(given[b"iv"], given[b"kh"], session_id, expiry, orders, clock))
-        if call.kind in ("judge", "one") and sum(map(len, call.arguments[7:])) < 4_000:
+            self.sessions.append(
+                Session(
+                    iv=given[b"iv"],
+                    key=given[b"kh"],
+                    session_id=told["session_id"],
+                    expiry=told["clock"] + model.session_life(orders),
+                    hash=client.decoded_mask(given[b"h"]),
+                    orders=orders,
+                    last=told["clock"],
+                )
+            )
+        if call.kind in ("judge", "one") and sum(len(run) for run in call.arguments if isinstance(run, bytes)) < 4_000:
             self.accepted = [*self.accepted[-5:], call.arguments]
 
 
 def shuffled_deck(rng):
     """Every fault with every kind of call that it concerns; the thin entry, judge's twin, only for a third of judge's.
 
-    One fault of each number is dealt first, so that short histories too meet them all.
+    One fault of each check is dealt first, so that short histories too meet them all.
     """
     deck = [
         (fault, kind)
@@ -312,8 +325,8 @@ def shuffled_deck(rng):
         if kind != "one" or len(fault.on) == 1 or rng.random() < 0.33
     ]
     rng.shuffle(deck)
-    first_of_number = {fault.number: (fault, kind) for fault, kind in deck}
-    firsts = list(first_of_number.values())
+    first_of_check = {fault.check: (fault, kind) for fault, kind in deck}
+    firsts = list(first_of_check.values())
     return [card for card in deck if card not in firsts] + firsts
 
 

@@ -4,14 +4,13 @@ Each takes everything lent and answers an Outcome. The checks stand in 01's orde
 a comment names docs/DECISIONS.md where 01 can be read in two ways.
 """
 
-import hashlib
-import hmac
 from typing import NamedTuple
 
 from cryptography.exceptions import InvalidTag
 from cryptography.hazmat.primitives.ciphers.aead import AESGCM
 
 import encoding
+import hashing
 import record as rec
 from encoding import base64_bytes, base64_text, netstring
 
@@ -47,8 +46,6 @@ NAMES = (
 ).split(b",")
 HIGHEST_BIT = len(NAMES)
 
-SHA_512 = 4  # its mask in h and r
-
 TOKEN_CHARACTERS = (
     b"!#$%&'*+-.^_`|~0123456789ABCDEFGHIJKLMNOPQRSTUVWXYZabcdefghijklmnopqrstuvwxyz"
 )
@@ -58,6 +55,7 @@ class Orders(NamedTuple):
     """The site's settings as lent; 0 in a limit is the default."""
 
     mask: int
+    hashes: int  # the mask of those allowed
     extra: bytes
     request_life: int
     idle: int
@@ -106,7 +104,8 @@ def setup(orders, clock, server_key, session_key, iv, session_id, value, table, 
         return refused(4)
     if setup_fields_wrong(fields):
         return refused(5)
-    if lacks_sha_512(fields):
+    chosen = chosen_hash(orders, fields)
+    if chosen is None:
         return refused(19)
     expiry = clock + session_life(orders)
     if expiry > HIGHEST:
@@ -117,13 +116,13 @@ def setup(orders, clock, server_key, session_key, iv, session_id, value, table, 
     if place is None:
         return refused(18)
 
-    records[place] = rec.fresh(iv, expiry)
-    text = setup_reply(orders, server_key, iv, Token(session_key, session_id, expiry))
+    records[place] = rec.fresh(iv, expiry, chosen)
+    text = setup_reply(orders, chosen, server_key, iv, Token(session_key, session_id, expiry))
     return Outcome(0, len(text), written(reply, text), rec.table_of(records))
 
 
 def judge(orders, clock, server_key, value, head, aside, path, body, table, reply):
-    """Judge a request. The lowest number that holds, from 1 to 16."""
+    """Judge a request. Checks 1 to 12, 8 against the record, 13 to 16, in this order."""
 
     def refused(number):
         return Outcome(number, 0, reply, table)
@@ -132,7 +131,7 @@ def judge(orders, clock, server_key, value, head, aside, path, body, table, repl
         """10 and 13 free the record if there is one and write the invalidation, alone among the refusals."""
         if place is not None:
             records[place] = rec.FREE
-        text = invalidation(token.key)
+        text = invalidation(own_hash(field), token.key)
         return Outcome(number, len(text), written(reply, text), rec.table_of(records))
 
     if (
@@ -175,6 +174,8 @@ def judge(orders, clock, server_key, value, head, aside, path, body, table, repl
         return refused(11)
     if place is None:
         return refused(12)
+    if records[place].hash != own_hash(field):
+        return refused(8)
     if idle_too_long(orders, field):
         return invalidated(13, token, place)
     if too_old(orders, clock, field):
@@ -257,9 +258,15 @@ def reply_size_bad(reply):
 def orders_bad(orders):
     return (
         orders.mask >> (HIGHEST_BIT + 1) != 0
+        or hashes_bad(orders.hashes)
         or orders.session_life > LONGEST_SESSION_LIFE
         or extra_names_bad(orders.extra)
     )
+
+
+def hashes_bad(hashes):
+    """'An allowed mask of 0 or with other bits is 2.'"""
+    return hashes == 0 or hashes & ~hashing.BOTH != 0
 
 
 def extra_names_bad(extra):
@@ -325,7 +332,7 @@ def contents_bad(key, contents):
     if key in (b"r", b"h", b"ah"):
         return encoding.mask(contents) is None
     if key == b"c":
-        return len(contents) != 64
+        return len(contents) not in hashing.SIZES
     if key == b"iv":
         return len(contents) != 12
     if key == b"tag":
@@ -402,11 +409,20 @@ def covered_values(orders, head_lines, aside_lines):
 
 
 def coverage_differs(orders, field):
+    named = own_hash(field)
     return (
-        field[b"h"] != encoding.mask_bytes(SHA_512)
+        named is None
+        or named & orders.hashes == 0
+        or len(field[b"c"]) != hashing.size(named)
         or field[b"ah"] != encoding.mask_bytes(orders.mask)
         or field.get(b"eah", b"") != orders.extra  # a carried eah is never empty: no value is
     )
+
+
+def own_hash(field):
+    """The hash that a request names, or None where its h is not the mask of one."""
+    mask = encoding.mask(field[b"h"])
+    return mask if mask in hashing.FUNCTIONS else None
 
 
 # 9 and 10: the token
@@ -452,10 +468,6 @@ def expired(clock, token):
 # 11: the signature
 
 
-def hmac_sha_512(key, text):
-    return hmac.new(key, text, hashlib.sha512).digest()
-
-
 def signed_text(field, values, path, body):
     """In netstrings: 'h, ah, eah (empty if absent), n if carried, t, lt …, covered values …, path, body'."""
     parts = [field[b"h"], field[b"ah"], field.get(b"eah", b"")]
@@ -468,7 +480,7 @@ def signed_text(field, values, path, body):
 
 
 def signature_differs(field, token, text):
-    return field[b"c"] != hmac_sha_512(token.key, text)
+    return field[b"c"] != hashing.code(own_hash(field), token.key, text)
 
 
 # 13 and 14: idleness and age, which may be below zero
@@ -496,8 +508,9 @@ def place_for_setup(records, clock):
     return None
 
 
-def lacks_sha_512(fields):
-    return encoding.mask(dict(fields)[b"r"]) & SHA_512 == 0
+def chosen_hash(orders, fields):
+    """'Setup picks the longest hash that both sides have.'"""
+    return hashing.longest(encoding.mask(dict(fields)[b"r"]) & orders.hashes)
 
 
 # Replies
@@ -508,14 +521,14 @@ def written(reply, text):
     return text + reply[len(text):]
 
 
-def setup_reply(orders, server_key, iv, token):
+def setup_reply(orders, chosen, server_key, iv, token):
     s, tag = sealed(server_key, iv, token_text(token))
     fields = [
         (b"s", s),
         (b"iv", iv),
         (b"tag", tag),
         (b"kh", token.key),
-        (b"h", encoding.mask_bytes(SHA_512)),
+        (b"h", encoding.mask_bytes(chosen)),
         (b"ah", encoding.mask_bytes(orders.mask)),
     ]
     if orders.extra:
@@ -523,5 +536,5 @@ def setup_reply(orders, server_key, iv, token):
     return b";".join(key + b":" + base64_text(contents) for key, contents in fields)
 
 
-def invalidation(session_key):
-    return b"i:" + base64_text(hmac_sha_512(session_key, b"Session Expired"))
+def invalidation(known, session_key):
+    return b"i:" + base64_text(hashing.code(known, session_key, b"Session Expired"))

@@ -2,7 +2,9 @@
 
 from typing import NamedTuple
 
-SIZE = 30
+import hashing
+
+SIZE = 31
 WIDTH = 64  # the highest nonce and the 63 below it
 
 
@@ -15,14 +17,15 @@ class Record(NamedTuple):
     begun: int  # whether a nonce was accepted yet
     highest: int
     bits: int
+    hash: int  # the mask of the one that the setup chose; 0 in a free record
 
 
-FREE = Record(0, bytes(12), 0, 0, 0, 0)
+FREE = Record(0, bytes(12), 0, 0, 0, 0, 0)
 
 
-def fresh(iv, expiry):
-    """What a setup leaves: 'it then holds the IV, the new expiry and no nonce'."""
-    return Record(1, iv, expiry, 0, 0, 0)
+def fresh(iv, expiry, chosen=hashing.SHA_512):
+    """What a setup leaves: 'it then holds the IV, the new expiry and no nonce', and 'keeps the choice at its end'."""
+    return Record(1, iv, expiry, 0, 0, 0, chosen)
 
 
 def from_bytes(run):
@@ -33,6 +36,7 @@ def from_bytes(run):
         begun=run[17],
         highest=int.from_bytes(run[18:22], "big"),
         bits=int.from_bytes(run[22:30], "big"),
+        hash=run[30],
     )
 
 
@@ -44,6 +48,7 @@ def to_bytes(record):
         + bytes([record.begun])
         + record.highest.to_bytes(4, "big")
         + record.bits.to_bytes(8, "big")
+        + bytes([record.hash])
     )
 
 
@@ -79,6 +84,8 @@ def contents_good(record):
     """The conditions on a single record; bits for nonces below 0 are not among them (docs/DECISIONS.md)."""
     if record.used == 0:
         return record == FREE
+    if record.hash not in hashing.FUNCTIONS:
+        return False
     if record.begun == 0:
         return record.highest == 0 and record.bits == 0
     return record.bits % 2 == 1

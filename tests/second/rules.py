@@ -3,14 +3,17 @@
 What the page says at an edge is a call here, which the C host plays on the library too (sentences/edges.py).
 """
 
+import base64
 import pathlib
 import re
 
 import calls
 import client
+import hashing
 import model
-from sentences.edges import EDGES, example
-from sentences.placing import request_call
+import record as rec
+from sentences.edges import DEALER, EDGES, SCANNER, example_lines, talked_down
+from sentences.placing import CLOCK, at, replaced, request_call
 
 ROOT = pathlib.Path(__file__).resolve().parents[2]
 
@@ -23,23 +26,23 @@ SIZES = (
     ("head, set-aside lines, each", 0, model.MOST_LINES),
     ("path", 1, model.MOST_PATH),
     ("body", 0, model.MOST_BODY),
-    ("table, in records of 30 bytes", 1, model.MOST_RECORDS),
+    (f"table, in records of {rec.SIZE} bytes", 1, model.MOST_RECORDS),
     ("reply buffer", model.LEAST_REPLY, None),
 )
 
-# Fields: key, the least and the most bytes that it holds.
+# Fields: key, how many bytes it holds as the page says it, and whether it may hold so many.
 FIELDS = (
-    ("s", 1, 118),
-    ("c", 64, 64),
-    ("iv", 12, 12),
-    ("tag", 16, 16),
-    ("t", 1, 4),
-    ("lt", 1, 4),
-    ("n", 1, 4),
-    ("h", 2, 9),
-    ("ah", 2, 9),
-    ("r", 2, 9),
-    ("eah", 1, None),
+    ("s", "1 to 118", range(1, 119)),
+    ("c", "32 or 64", (32, 64)),
+    ("iv", "12", (12,)),
+    ("tag", "16", (16,)),
+    ("t", "1 to 4", range(1, 5)),
+    ("lt", "1 to 4", range(1, 5)),
+    ("n", "1 to 4", range(1, 5)),
+    ("h", "2 to 9", range(2, 10)),
+    ("ah", "2 to 9", range(2, 10)),
+    ("r", "2 to 9", range(2, 10)),
+    ("eah", "at least 1", range(1, 1_000)),
 )
 
 LIMITS = (
@@ -76,20 +79,26 @@ def held_by(key, size):
     return model.fields_of(client.piece(key.encode(), contents)) is not None
 
 
+def hash_row(name, known):
+    """Its mask, h, and the sizes of a code and of an invalidation."""
+    h = base64.b64encode(client.encoded_mask(known)).decode()
+    return [name, str(known), f"`{h}`", str(hashing.size(known)), str(len(model.invalidation(known, bytes(model.KEY))))]
+
+
 def longest_reply():
-    orders = model.Orders(mask=(1 << model.HIGHEST_BIT + 1) - 1, extra=bytes(model.MOST_EXTRA), request_life=0, idle=0, session_life=0)
+    orders = model.Orders((1 << model.HIGHEST_BIT + 1) - 1, hashing.BOTH, bytes(model.MOST_EXTRA), request_life=0, idle=0, session_life=0)
     token = model.Token(bytes(model.KEY), bytes(model.MOST_SESSION_ID), model.HIGHEST)
-    return len(model.setup_reply(orders, bytes(model.KEY), bytes(model.IV), token))
+    return max(len(model.setup_reply(orders, known, bytes(model.KEY), bytes(model.IV), token)) for known in hashing.FUNCTIONS)
 
 
 def in_any_order():
     """Whether 64 nonces in a row are accepted though the last comes first."""
     table = request_call().table
     for n in reversed(range(64)):
-        outcome = calls.answered(request_call(n=n)._replace(table=table), table, bytes(model.LEAST_REPLY))
-        if outcome.number:
+        answer = outcome(request_call(n=n)._replace(table=table))
+        if answer.number:
             return False
-        table = outcome.table
+        table = answer.table
     return True
 
 
@@ -97,21 +106,32 @@ def at_edge(asked):
     return next(number for edge, _, number in EDGES if edge == asked)
 
 
+def directly_after_12():
+    """Whether 12 comes before a hash other than the session's, and 13 after it."""
+    gone = talked_down(at("lent", lambda draft: draft.put(draft.place, rec.FREE)))
+    idle = talked_down(replaced("plan", "lt", CLOCK - model.DEFAULT_IDLE - 1))
+    return [outcome(call).number for call in (gone, idle)] == [12, 8]
+
+
+def outcome(call):
+    return calls.answered(call, call.table, bytes(model.LEAST_REPLY))
+
+
 def sent_again(request):
-    first = calls.answered(request, request.table, bytes(model.LEAST_REPLY))
-    return calls.answered(request, first.table, bytes(model.LEAST_REPLY)).number
+    return outcome(request._replace(table=outcome(request).table)).number
 
 
-def phrases(setup, request):
+def phrases():
     """What the page says with numbers in it outside its tables, and whether it is so."""
-    mask, clock = request.arguments[0], setup.arguments[5]
-    fields = model.fields_of(request.arguments[7])
-    told = dict(fields)
-    defaults = model.Orders(0, b"", 0, 0, 0)
-    yield "bit 0", request.arguments[0] & 1 and b"n" in told
+    setup, request = calls.named(DEALER.setup), DEALER.request
+    mask, clock, told = setup["mask"], setup["clock"], dict(DEALER.fields)
+    defaults = model.Orders(0, hashing.BOTH, b"", 0, 0, 0)
+    yield f"one record of {rec.SIZE} bytes", True
+    yield "bit 0", mask & 1 and b"n" in told
     yield "Bit 0", True
     yield "where 0 stands for the default", model.request_life(defaults) == model.DEFAULT_REQUEST_LIFE
     yield "more than 30 days", model.LONGEST_SESSION_LIFE == 30 * 86_400
+    yield "only the masks 1, 4 and 5 make good orders", [hashes for hashes in range(1 << 16) if not model.hashes_bad(hashes)] == [1, 4, 5]
     yield f"Bits 1 to {len(model.NAMES)}", model.HIGHEST_BIT == len(model.NAMES)
     yield f"none of the {len(model.NAMES)}", True
     yield f"at most {model.MOST_EXTRA_NAMES}, at most {model.MOST_EXTRA} bytes together", True
@@ -123,13 +143,14 @@ def phrases(setup, request):
     yield "at most 64 requests at a time never meets 15 or 16", in_any_order()
     yield "At 0 the reply", True
     yield "At 10 and 13", True
-    yield f"the invalidation of {len(model.invalidation(bytes(model.KEY)))} bytes", True
-    yield "from 1 to 16", "from 1 to 16" in model.judge.__doc__
+    yield "At 10 the record is freed whatever hash it holds", outcome(talked_down(replaced("plan", "expiry", CLOCK))).table == bytes(rec.SIZE)
+    yield "directly after 12", directly_after_12()
+    yield "for 1 to 12, then for 8 against the session's record, then for 13 to 16", "1 to 12, 8 against the record, 13 to 16" in model.judge.__doc__
     yield "for 1, 2, 3, 4, 5, 19, 20, 17 and 18 in this order", "Checks 1, 2, 3, 4, 5, 19, 20, 17, 18" in model.setup.__doc__
     yield "an ending for 1, 3 and 12", "1, 3, 12" in model.end.__doc__
-    yield "the bytes 00 to 1f", setup.arguments[6] == bytes(range(0x20))
-    yield "the session key 20 to 3f", setup.arguments[7] == bytes(range(0x20, 0x40))
-    yield "the IV 40 to 4b", setup.arguments[8] == bytes(range(0x40, 0x4C))
+    yield "the bytes 00 to 1f", setup["server_key"] == bytes(range(0x20))
+    yield "the session key 20 to 3f", setup["session_key"] == bytes(range(0x20, 0x40))
+    yield "the IV 40 to 4b", setup["iv"] == bytes(range(0x40, 0x4C))
     yield f"the mask {mask}, bytes {client.encoded_number(mask).hex(' ')}", mask == 1 | 2 | 256
     yield f"Now is {clock}", True
     yield "nonce 7", told[b"n"] == b"\7"
@@ -138,7 +159,7 @@ def phrases(setup, request):
     yield "gets 16", sent_again(request) == 16
 
 
-STANDARDS = r"RFC \d+|section \d+|AES-256-GCM|SHA-512|[Bb]ase64|HTTP2-Settings"
+STANDARDS = r"RFC \d+|section \d+|AES-256-GCM|SHA-256|SHA-512|[Bb]ase64|HTTP2-Settings"
 
 
 def unchecked(text, told):
@@ -156,24 +177,24 @@ def claims(text):
     """Each thing that the page says, and whether it is so."""
     yield "sizes", rows(text, "Sizes") == [[name, span(least, most)] for name, least, most in SIZES]
     yield "limits", rows(text, "Orders") == [[name, f"{seconds:,}"] for name, seconds in LIMITS]
-    yield "fields", [row[0::2] for row in rows(text, "The value")] == [[f"`{key}`", span(least, most)] for key, least, most in FIELDS]
-    for key, least, most in FIELDS:
-        yield f"{key} of its sizes", held_by(key, least) and not held_by(key, least - 1) and (most is None or held_by(key, most) and not held_by(key, most + 1))
+    yield "hashes", rows(text, "Hashes") == [hash_row(name, known) for name, known in (("SHA-256", hashing.SHA_256), ("SHA-512", hashing.SHA_512))]
+    yield "fields", [row[0::2] for row in rows(text, "The value")] == [[f"`{key}`", told] for key, told, _ in FIELDS]
+    for key, _, sizes in FIELDS:
+        yield f"{key} of its sizes", all(held_by(key, size) == (size in sizes) for size in range(200))
     named = header_numbers()
     yield "numbers", [row[:2] for row in rows(text, "Numbers")] == [[str(number), f"`{named[number]}`"] for number in range(21)]
     yield "names", ", ".join(name.decode() for name in model.NAMES) in re.sub(r"\s+", " ", text)
-    setup, request, lines = example()
-    told = dict(phrases(setup, request))
+    told = dict(phrases())
     for phrase, good in told.items():
         yield phrase, bool(good) and phrase in text
     yield f"numbers that nothing checks: {unchecked(text, told)}", not unchecked(text, told)
-    for line in lines:
+    for line in example_lines():
         yield f"example: {line[:40]}", line in text.split("\n")
-    for call in (setup, request):
-        yield f"example: {call.kind}", calls.answered(call, call.table, bytes(model.LEAST_REPLY)).number == 0
+    for call in (DEALER.setup, DEALER.request, SCANNER.setup, SCANNER.request):
+        yield f"example: {call.kind}", outcome(call).number == 0
     yield "edges", rows(text, "Edges") == [[asked, str(number)] for asked, _, number in EDGES]
     for asked, call, number in EDGES:
-        yield asked, calls.answered(call, call.table, bytes(model.LEAST_REPLY)).number == number
+        yield asked, outcome(call).number == number
 
 
 def run(out):

@@ -20,10 +20,10 @@ typedef struct {
 #define OUT(name) uint8_t *name, size_t name##_len
 #define LIMITS uint32_t request_life, uint32_t idle, uint32_t session_life, uint32_t clock
 
-uint32_t gate_setup(uint64_t mask, IN(extra), LIMITS, IN(server_key), IN(session_key), IN(iv), IN(session_id), IN(value),
-                    OUT(table), OUT(reply));
-uint32_t gate_judge(uint64_t mask, IN(extra), LIMITS, IN(server_key), IN(value), IN(head), IN(aside), IN(path), IN(body),
-                    OUT(table), OUT(reply));
+uint32_t gate_setup(uint64_t mask, uint64_t hashes, IN(extra), LIMITS, IN(server_key), IN(session_key), IN(iv), IN(session_id),
+                    IN(value), OUT(table), OUT(reply));
+uint32_t gate_judge(uint64_t mask, uint64_t hashes, IN(extra), LIMITS, IN(server_key), IN(value), IN(head), IN(aside), IN(path),
+                    IN(body), OUT(table), OUT(reply));
 uint32_t gate_end(IN(iv), OUT(table));
 
 enum { SETUP, JUDGE, END };
@@ -34,7 +34,7 @@ static const double TURN = 0.02;
 
 typedef struct {
     int kind;
-    uint64_t mask;
+    uint64_t mask, hashes;
     uint32_t limits[4];
     run runs[MOST_RUNS]; /* in the order of the call, without table and reply */
     run table, reply;
@@ -43,7 +43,7 @@ typedef struct {
 
 static call calls[MOST_CALLS];
 static size_t count;
-static uint8_t table[64 * 30], reply[1024];
+static uint8_t table[64 * 31], reply[1024];
 
 static void fail(const char *what) {
     fprintf(stderr, "%s\n", what);
@@ -76,6 +76,7 @@ static void read_call(call *c, int kind) {
     c->kind = kind;
     if (kind != END) {
         c->mask = number();
+        c->hashes = number();
         c->runs[at++] = bytes();
         for (int i = 0; i < 4; i++) c->limits[i] = (uint32_t)number();
     }
@@ -114,7 +115,7 @@ static void read_calls(const char *path) {
 /* Making a call */
 
 #define RUN(i) c->runs[i].bytes, c->runs[i].len
-#define ORDERS c->mask, RUN(0), c->limits[0], c->limits[1], c->limits[2], c->limits[3]
+#define ORDERS c->mask, c->hashes, RUN(0), c->limits[0], c->limits[1], c->limits[2], c->limits[3]
 
 static uint32_t answer(const call *c) {
     switch (c->kind) {

@@ -1,4 +1,4 @@
-//! Times `prim_sha512` beside a plain Rust SHA-512, in turns within one run, and sealing and opening a token's 118 bytes.
+//! Times `prim_sha512` and `prim_sha256` beside plain Rust ones, in turns within one run, and sealing and opening a token's 118 bytes.
 mod plain;
 
 use std::hint::black_box;
@@ -6,6 +6,7 @@ use std::time::{Duration, Instant};
 
 extern "C" {
     fn prim_sha512(text: *const u8, text_len: usize, out: *mut u8, out_len: usize) -> u32;
+    fn prim_sha256(text: *const u8, text_len: usize, out: *mut u8, out_len: usize) -> u32;
     #[rustfmt::skip]
     fn prim_gcm_seal(key: *const u8, key_len: usize, iv: *const u8, iv_len: usize, text: *const u8, text_len: usize,
                      out: *mut u8, out_len: usize, tag: *mut u8, tag_len: usize) -> u32;
@@ -18,9 +19,11 @@ const KEY: [u8; 32] = [1; 32];
 const IV: [u8; 12] = [2; 12];
 const TOKEN: usize = 118;
 
-fn ours(message: &[u8]) -> [u8; 64] {
-    let mut digest = [0; 64];
-    let done = unsafe { prim_sha512(message.as_ptr(), message.len(), digest.as_mut_ptr(), digest.len()) };
+type Hash = unsafe extern "C" fn(*const u8, usize, *mut u8, usize) -> u32;
+
+fn digest<const N: usize>(hash: Hash, message: &[u8]) -> [u8; N] {
+    let mut digest = [0; N];
+    let done = unsafe { hash(message.as_ptr(), message.len(), digest.as_mut_ptr(), N) };
     assert_eq!(done, 0);
     digest
 }
@@ -65,22 +68,28 @@ fn sealing() {
     println!("{TOKEN} bytes: sealed in {:.1} us, opened in {:.1} us", best_seal * 1e6, best_open * 1e6);
 }
 
+fn hashing<const N: usize>(name: &str, message: &[u8], hash: Hash, plain: impl Fn(&[u8]) -> [u8; N]) {
+    assert_eq!(digest(hash, message), plain(message));
+    let (mut best_ours, mut best_plain) = (f64::MAX, f64::MAX);
+    for _ in 0..20 {
+        best_ours = best_ours.min(time(|| digest::<N>(hash, black_box(message))));
+        best_plain = best_plain.min(time(|| plain(black_box(message))));
+    }
+    let rate = |seconds: f64| message.len() as f64 / seconds / 1e6;
+    println!(
+        "{name}, {} bytes: ours {:.0} MB/s, plain Rust {:.0} MB/s, ratio {:.2}",
+        message.len(),
+        rate(best_ours),
+        rate(best_plain),
+        best_plain / best_ours
+    );
+}
+
 fn main() {
     sealing();
     for size in [4096, 65536] {
         let message: Vec<u8> = (0..size).map(|i| (i * 7 % 251) as u8).collect();
-        assert_eq!(ours(&message), plain::sha512(&message));
-        let (mut best_ours, mut best_plain) = (f64::MAX, f64::MAX);
-        for _ in 0..20 {
-            best_ours = best_ours.min(time(|| ours(black_box(&message))));
-            best_plain = best_plain.min(time(|| plain::sha512(black_box(&message))));
-        }
-        let rate = |seconds: f64| size as f64 / seconds / 1e6;
-        println!(
-            "{size} bytes: ours {:.0} MB/s, plain Rust {:.0} MB/s, ratio {:.2}",
-            rate(best_ours),
-            rate(best_plain),
-            best_plain / best_ours
-        );
+        hashing("SHA-512", &message, prim_sha512, plain::sha512);
+        hashing("SHA-256", &message, prim_sha256, plain::sha256);
     }
 }

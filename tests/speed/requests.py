@@ -18,6 +18,7 @@ sys.path.insert(0, os.path.join(os.path.dirname(os.path.abspath(__file__)), ".."
 import calls  # noqa: E402
 import client  # noqa: E402
 import drafts  # noqa: E402
+import hashing  # noqa: E402
 import model  # noqa: E402
 import record as rec  # noqa: E402
 
@@ -40,11 +41,11 @@ class Maker:
     def text(self, count):
         return bytes(self.rng.choice(b"abcdefghijklmnopqrstuvwxyz0123456789 ") for _ in range(count)).strip().ljust(count, b".")
 
-    def table(self, used, iv, free=0):
+    def table(self, used, iv, free=0, known=hashing.SHA_512):
         """So many used records, the one with this IV in the middle, and then free ones."""
-        records = [rec.Record(1, self.run(12), EXPIRY, 1, 1_000, 1) for _ in range(used)]
+        records = [rec.Record(1, self.run(12), EXPIRY, 1, 1_000, 1, known) for _ in range(used)]
         if iv:
-            records[used // 2] = rec.Record(1, iv, EXPIRY, 1, 1_000, 0x5555)
+            records[used // 2] = rec.Record(1, iv, EXPIRY, 1, 1_000, 0x5555, known)
         return rec.table_of(records + [rec.FREE] * free)
 
     def lines(self, named, size=0):
@@ -58,13 +59,13 @@ class Maker:
             others.insert(place * (len(others) + 1) // len(named), text)
         return others
 
-    def judge(self, covered=8, lines=None, records=64, body=200, extra=b"", expiry=EXPIRY, lt=CLOCK - 40):
+    def judge(self, covered=8, lines=None, records=64, body=200, extra=b"", expiry=EXPIRY, lt=CLOCK - 40, known=hashing.SHA_512):
         """A request that covers the first names; its head has a line for each, and no other, unless lines are given."""
         iv = self.run(12)
         mask = 1 | sum(2 << place for place in range(covered))
         draft = drafts.Request(
-            kind="judge", table=self.table(records, iv), iv=iv, place=records // 2, reply=REPLY,
-            orders=model.Orders(mask, extra, 0, 0, 0), clock=CLOCK, server_key=self.run(32),
+            kind="judge", table=self.table(records, iv, known=known), iv=iv, place=records // 2, reply=REPLY, hash=known,
+            orders=model.Orders(mask, hashing.BOTH, extra, 0, 0, 0), clock=CLOCK, server_key=self.run(32),
             key=self.run(32), session_id=self.text(32), expiry=expiry, t=CLOCK - 2, lt=lt, n=1_001,
             head_lines=self.lines(covered) if lines is None else lines, path=b"/order/17?part=4711", body=self.run(body),
         )
@@ -73,8 +74,8 @@ class Maker:
     def setup(self, records=63, extra=b""):
         draft = drafts.Setup(
             kind="setup", table=self.table(records, None, free=1), iv=self.run(12), reply=REPLY,
-            orders=model.Orders(0x1FF, extra, 0, 0, 0), clock=CLOCK, server_key=self.run(32),
-            session_key=self.run(32), session_id=self.text(32), offer=client.encoded_mask(4),
+            orders=model.Orders(0x1FF, hashing.BOTH, extra, 0, 0, 0), clock=CLOCK, server_key=self.run(32),
+            session_key=self.run(32), session_id=self.text(32), offer=client.encoded_mask(hashing.BOTH),
         )
         return drafts.build(draft, [], self.rng)
 
@@ -89,6 +90,8 @@ def measured():
     yield "setup", maker.setup()
     yield "judge, small", maker.judge()
     yield "judge, body of 64 KiB", maker.judge(body=65_536)
+    yield "judge, small, SHA-256", maker.judge(known=hashing.SHA_256)
+    yield "judge, body of 64 KiB, SHA-256", maker.judge(body=65_536, known=hashing.SHA_256)
     yield "end", maker.end()
     for records in (1, 8, 64):
         yield f"judge, {records} records", maker.judge(records=records)
@@ -106,8 +109,9 @@ def others():
     maker = Maker(20261116)
     yield "setup, 8 extra names", maker.setup(extra=EXTRA)
     yield "judge, 8 extra names", maker.judge(extra=EXTRA)
-    yield "judge, token expired", maker.judge(expiry=CLOCK)
-    yield "judge, idle", maker.judge(lt=CLOCK - 2_000)
+    for name, known in (("SHA-512", hashing.SHA_512), ("SHA-256", hashing.SHA_256)):
+        yield f"judge, token expired, {name}", maker.judge(expiry=CLOCK, known=known)
+        yield f"judge, idle, {name}", maker.judge(lt=CLOCK - 2_000, known=known)
 
 
 def write(path, named_calls):

@@ -48,9 +48,10 @@ use Rattle.demands.proofs.History.Calls.{held-step, call-standing}
 -- after any calls the table's sessions are those of the history
 standing : (n : ℕ) (calls : List Call)
     → Standing n (after (empty n) calls .table) (setUpIn (empty n) calls) (λ iv. acceptedIn iv (empty n) calls)
-unfolding after setUpIn acceptedIn
+    (λ iv. chosenIn iv (empty n) calls)
+unfolding after setUpIn acceptedIn chosenIn
 standing n [] = empty-standing n
-standing n (call ∷ earlier) = call-standing n _ _ _ (standing n earlier) call
+standing n (call ∷ earlier) = call-standing n _ _ _ _ (standing n earlier) call
 
 -- which of 0, 15 and 16 a request that passes the other checks is answered
 pub verdict-exactly : (n : ℕ) (calls : List Call) (q : Request)
@@ -65,7 +66,7 @@ verdict-exactly n calls q apart ordered passes =
     let f = passes-finds q state passes in
     judged-number q state
     ∙ passes-window q state passes ordered
-    ∙ ap (λ (s : Stepped). numberOf (s .verdict)) (held-step n state _ _ st q f)
+    ∙ ap (λ (s : Stepped). numberOf (s .verdict)) (held-step n state _ _ _ st q f)
     ∙ ap numberOf (right _ before (st .sessions .known apart (ivOf q) (f .place) (f .finds)) (nonceOf q) .verdict)
 
 -- the customer's sentence
@@ -112,7 +113,7 @@ never-malformed n calls (judging q) e =
     never-given 3 (requestChecks q (after (empty n) calls)) (λ z. omega arith) (rw well) (sym (judged-number q _) ∙ e)
 never-malformed n calls (judging-one place q) e =
     let state = after (empty n) calls in
-    let well = is-wellFormed _ (one-well n state _ _ (standing n calls) place) in
+    let well = is-wellFormed _ (one-well n state _ _ _ (standing n calls) place) in
     never-given 3 (requestChecks q (takenOut place state)) (λ z. omega arith) (rw well) (sym (judged-number q _) ∙ e)
 never-malformed n calls (ending iv) e =
     let well = well-formed n calls .0 in

@@ -1,5 +1,6 @@
 -- The theorems: Untouched (demand 1), History (demand 2), Agreement (demand 3), Cases (document 01's twelve), Determined (document 01, 'How far
--- each contract reaches'), Client (what is asked of a request can be met), Age (how long a request is taken) and Witnesses (no number of its list
+-- each contract reaches'), Client (what is asked of a request can be met), Age (how long a request is taken),
+-- Chosen (an accepted request has its session's hash) and Witnesses (no number of its list
 -- is idle). A theorem's own laws stand in the folder of its name.
 pub mod Shared
 pub mod Untouched
@@ -9,4 +10,5 @@ pub mod Cases
 pub mod Determined
 pub mod Client
 pub mod Age
+pub mod Chosen
 pub mod Witnesses

@@ -7,7 +7,7 @@ use Prim.Native.Nat.{ℕ, _+_, _≤_, _<_, _^_}
 use lib.ListN.{length}
 use Rattle.cells.specs.Runs.{Bytes}
 use Rattle.cells.specs.Text.{codes}
-use Rattle.hmac.specs.Hmac.{hmacSha512}
+use Rattle.hmac.specs.Hmac.{hmacOf}
 use Rattle.names.specs.Covered.{coveredNames}
 use Rattle.lines.specs.Lines.{linesIn, goodBlock}
 use Rattle.lines.specs.Values.{repeated}
@@ -18,7 +18,7 @@ use Rattle.signed.specs.SignedText.{ordersNonce, requestText}
 use Rattle.reply.specs.Replies.{orderFields}
 use Rattle.stages.specs.Request.{Request, requestOf}
 use Rattle.gate.specs.Calls.{Setup}
-use Rattle.gate.specs.Setup.{expiryOf, sealedOf}
+use Rattle.gate.specs.Setup.{chosenOf, expiryOf, sealedOf}
 
 -- what a client sends beside its value, and the numbers that the value names
 pub record Message : Type 0 where
@@ -37,11 +37,11 @@ nonceField false n = []
 
 abbrev pub clientText : Setup → Message → List ℕ
 clientText s m =
-    requestText (s .orders .numbers .mask) (s .orders .extra) (m .nonce) (m .time) (m .last-time) (m .aside) (m .head) (m .path) (m .body)
+    requestText (chosenOf s) (s .orders .numbers .mask) (s .orders .extra) (m .nonce) (m .time) (m .last-time) (m .aside) (m .head) (m .path) (m .body)
 
--- the signature, under the key that the reply brought
+-- the signature, under the key and the hash that the reply brought
 unfoldable pub clientCode : Setup → Message → List ℕ
-clientCode s m = hmacSha512 (s .session-key) (clientText s m)
+clientCode s m = hmacOf (chosenOf s) (s .session-key) (clientText s m)
 
 -- s, iv and tag as the reply brought them, the signature and the times
 abbrev pub mainFields : Setup → Message → List Field
@@ -58,7 +58,7 @@ mainFields s m =
 unfoldable pub clientFields : Setup → Message → List Field
 clientFields s m =
     mainFields s m
-    ++ (orderFields (s .orders .numbers .mask) (s .orders .extra) ++ nonceField (ordersNonce (s .orders .numbers .mask)) (m .nonce))
+    ++ (orderFields (chosenOf s) (s .orders .numbers .mask) (s .orders .extra) ++ nonceField (ordersNonce (s .orders .numbers .mask)) (m .nonce))
 
 unfoldable pub clientRequest : Setup → Message → ℕ → List ℕ → Request
 clientRequest s m clock reply =

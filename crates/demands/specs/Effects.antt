@@ -7,17 +7,18 @@ use mathlib.Core.Logic.{_⊎_}
 use Prim.Native.Nat.{ℕ, _≤_}
 use lib.ListN.{length, take, drop}
 use Rattle.cells.specs.Runs.{Bytes}
+use Rattle.hashes.specs.Hashes.{hashMask}
 use Rattle.window.specs.Window.{stepOf}
 use Rattle.table.specs.declared.place.Place.the-variants.{At}
 use Rattle.table.specs.Record.{freed, begun, windowOf, withWindow}
 use Rattle.table.specs.Table.{records, recordAt, taken}
 use Rattle.signed.specs.SignedText.{ordersNonce}
-use Rattle.reply.specs.Replies.{invalidation}
+use Rattle.reply.specs.Replies.{invalidation, invalidationSize}
 use Rattle.gate.specs.Calls.{Setup}
 use Rattle.stages.specs.Request.{Request}
 use Rattle.gate.specs.State.{State, Outcome}
-use Rattle.gate.specs.Setup.{expiryOf, setupChecks, replyOf}
-use Rattle.stages.specs.Parts.{ivOf, nonceOf, tokenOf}
+use Rattle.gate.specs.Setup.{chosenOf, expiryOf, setupChecks, replyOf}
+use Rattle.stages.specs.Parts.{ivOf, hashOf, nonceOf, tokenOf}
 use Rattle.gate.specs.Judge.{requestChecks}
 use Rattle.gate.specs.End.{endChecks}
 use Rattle.demands.specs.Order.{Exactly}
@@ -28,7 +29,7 @@ abbrev pub setupNumbers : List ℕ
 setupNumbers = 0 ∷ 1 ∷ 2 ∷ 3 ∷ 4 ∷ 5 ∷ 19 ∷ 20 ∷ 17 ∷ 18 ∷ []
 
 abbrev pub judgeNumbers : List ℕ
-judgeNumbers = 0 ∷ 1 ∷ 2 ∷ 3 ∷ 4 ∷ 5 ∷ 6 ∷ 7 ∷ 8 ∷ 9 ∷ 10 ∷ 11 ∷ 12 ∷ 13 ∷ 14 ∷ 15 ∷ 16 ∷ []
+judgeNumbers = 0 ∷ 1 ∷ 2 ∷ 3 ∷ 4 ∷ 5 ∷ 6 ∷ 7 ∷ 8 ∷ 9 ∷ 10 ∷ 11 ∷ 12 ∷ 8 ∷ 13 ∷ 14 ∷ 15 ∷ 16 ∷ []
 
 abbrev pub endNumbers : List ℕ
 endNumbers = 0 ∷ 1 ∷ 3 ∷ 12 ∷ []
@@ -49,7 +50,7 @@ pub record Replied (text buffer : List ℕ) (o : Outcome) : Type 0 where
 pub record Begun (s : Setup) (before : State) (o : Outcome) : Type 0 where
   pub place : ℕ
   pub lowest : taken (records (before .table)) (s .clock) ≡ At place
-  pub session : Replaced (before .table) (o .state .table) place (begun (s .iv) (expiryOf s))
+  pub session : Replaced (before .table) (o .state .table) place (begun (s .iv) (expiryOf s) (hashMask (chosenOf s)))
   pub reply : Replied (replyOf s) (s .reply) o
 
 pub record SetupEffects (s : Setup) (before : State) (o : Outcome) : Type 0 where
@@ -62,10 +63,10 @@ pub record SetupEffects (s : Setup) (before : State) (o : Outcome) : Type 0 wher
 abbrev pub TenOrThirteen : ℕ → Type 0
 TenOrThirteen n = (n ≡ 10) ⊎ (n ≡ 13)
 
--- at 10 and 13 the record with the request's IV is freed, if there is one, and the reply is the invalidation
+-- at 10 and 13 the record with the request's IV is freed, if there is one, and the reply is the invalidation under the request's hash
 pub record Invalidated (q : Request) (before : State) (o : Outcome) : Type 0 where
-  pub long : o .length ≡ 90
-  pub reply : Replied (invalidation (tokenOf q .key)) (q .reply) o
+  pub long : o .length ≡ invalidationSize (hashOf q)
+  pub reply : Replied (invalidation (hashOf q) (tokenOf q .key)) (q .reply) o
   pub freed : (place : ℕ) → SessionAt (before .table) (ivOf q) place → Replaced (before .table) (o .state .table) place freed
   pub kept : ((place : ℕ) → SessionAt (before .table) (ivOf q) place → ⊥) → o .state ≡ before
 
@@ -75,6 +76,7 @@ pub record Moved (before after : List ℕ) (place nonce : ℕ) : Type 0 where
   pub used : recordAt after place .used ≡ recordAt before place .used
   pub iv : recordAt after place .iv ≡ recordAt before place .iv
   pub expiry : recordAt after place .expiry ≡ recordAt before place .expiry
+  pub hash : recordAt after place .hash ≡ recordAt before place .hash
 
 -- a request that returns 0 is replied to with the session id; its session's window takes the nonce where nonces are ordered
 pub record Accepted (q : Request) (before : State) (o : Outcome) : Type 0 where

@@ -4,17 +4,19 @@
 use mathlib.Core.Path.{_≡_}
 use mathlib.Core.Bool.{Bool, false, cond, _&&_, _||_}
 use mathlib.Core.List.{List, [], _∷_}
+use mathlib.Core.Option.{Option, none, some}
 use Prim.Native.Nat.{ℕ, _*_}
 use lib.Dec.{eqb}
 use lib.ListN.{replicate}
 use Rattle.cells.specs.Runs.{spliced, part, same}
+use Rattle.hashes.specs.declared.Hash.{Hash}
 use Rattle.window.specs.History.{keep}
 use Rattle.table.specs.Record.{size}
 use Rattle.signed.specs.SignedText.{ordersNonce}
 use Rattle.gate.specs.Calls.{Setup}
 use Rattle.stages.specs.Request.{Request}
 use Rattle.gate.specs.State.{State, holding, Outcome}
-use Rattle.gate.specs.Setup.{setUp}
+use Rattle.gate.specs.Setup.{chosenOf, setUp}
 use Rattle.stages.specs.Parts.{ivOf, nonceOf}
 use Rattle.gate.specs.Judge.{judged}
 use Rattle.gate.specs.End.{ended}
@@ -82,6 +84,18 @@ withSetUp (ending iv) number ivs = ivs
 unfoldable pub setUpIn : State → List Call → List (List ℕ)
 setUpIn state [] = []
 setUpIn state (call ∷ earlier) = withSetUp call (answer call (after state earlier) .number) (setUpIn state earlier)
+
+-- with the hash that a call chose for an IV, if it is a setup with that IV that was answered 0
+abbrev pub withChosen : List ℕ → Call → ℕ → Option Hash → Option Hash
+withChosen iv (setting-up s) number earlier = cond (eqb number 0 && same (s .iv) iv) (some (chosenOf s)) earlier
+withChosen iv (judging q) number earlier = earlier
+withChosen iv (judging-one place q) number earlier = earlier
+withChosen iv (ending other) number earlier = earlier
+
+-- the hash that the setup of an IV chose: the latest one, which is the session's
+unfoldable pub chosenIn : List ℕ → State → List Call → Option Hash
+chosenIn iv state [] = none
+chosenIn iv state (call ∷ earlier) = withChosen iv call (answer call (after state earlier) .number) (chosenIn iv state earlier)
 
 -- with the IV that is lent to a call, if it is a setup
 abbrev pub withLent : Call → List (List ℕ) → List (List ℕ)

@@ -11,7 +11,7 @@ use Rattle.stages.specs.declared.settling.Decision.{Decision}
 use Rattle.stages.specs.Request.{Request, requestOf}
 use Rattle.stages.specs.Checks.{first}
 use Rattle.table.specs.Session.{placeOf}
-use Rattle.stages.specs.Parts.{ivOf, tokenOf, ordered, nextOf}
+use Rattle.stages.specs.Parts.{ivOf, hashOf, tokenOf, ordered, nextOf}
 use Rattle.stages.specs.InnerStages.{tells, About}
 use Rattle.gate.specs.declared.entry.Entry.{Entry}
 use Rattle.gate.specs.State.{State, holding, Outcome, outcome}
@@ -45,7 +45,7 @@ EnterIs fits number o r = (s : State) → (fits ≡ true → number ≡ first (s
 -- 1 to 16: the number, and where its effect needs them the token, room for the reply, the place and the next record
 pub record Decides (q : Request) (s : State) (d : Decision) : Type 0 where
   pub is : d .number ≡ first (requestChecks q s)
-  pub knows : tells (d .number) ≡ true → About (tokenOf q) d
+  pub knows : tells (d .number) ≡ true → About (tokenOf q) (hashOf q) d
   pub room : tells (d .number) ≡ true → 1024 ≤ length (q .reply)
   pub at : tells (d .number) ≡ true → d .place ≡ placeOf (s .table) (ivOf q)
   pub within : Within (places (s .table)) (d .place)
@@ -57,7 +57,7 @@ abbrev pub leftBy : Decision → List ℕ → List ℕ
 leftBy d table = tableAfter (d .number) (d .nonces) (d .place) (d .next) table
 
 abbrev pub answeredBy : Decision → List ℕ → State → Outcome
-answeredBy d reply s = answered (d .number) (take (d .«id_len») (d .id)) (d .key) reply s
+answeredBy d reply s = answered (d .number) (take (d .«id_len») (d .id)) (d .key) (d .hash) reply s
 
 abbrev pub AnswerIs : Decision → List ℕ → List ℕ → ℕ → Type 0
 AnswerIs d before after r = (s : State) → outcome r after s ≡ answeredBy d before s

@@ -4,6 +4,8 @@ use mathlib.Core.Bool.{cond, not}
 use mathlib.Core.List.{List, [], _∷_, _++_}
 use Prim.Native.Nat.{ℕ, _+_}
 use lib.Dec.{eqb, ltb}
+use Rattle.hashes.specs.declared.Hash.{Hash}
+use Rattle.hashes.specs.Hashes.{hashMask, inCommon, chosen}
 use Rattle.armor.specs.Numerals.{maskOf}
 use Rattle.armor.specs.Keys.{keyR}
 use Rattle.armor.specs.Value.{grammar, carried}
@@ -14,7 +16,6 @@ use Rattle.reply.specs.Replies.{setupReply}
 use Rattle.table.specs.Record.{begun}
 use Rattle.table.specs.Table.{records, taken}
 use Rattle.token.specs.Token.{Token, sealedToken}
-use Rattle.window.specs.Window.{bit}
 use Rattle.stages.specs.Checks.{Check, check, first, missing, nowhere}
 use Rattle.table.specs.Session.{placeOf, with-record}
 use Rattle.gate.specs.Calls.{Setup}
@@ -22,9 +23,13 @@ use Rattle.gate.specs.State.{State, holding, Outcome, untouched, replied
 use Rattle.gate.specs.Sizes.{setupFits}
 use Rattle.gate.specs.Entry.{entryChecks}
 
--- the mask that the client offers; SHA-512 is bit 2
+-- the mask that the client offers
 unfoldable pub offered : Setup → ℕ
 offered s = maskOf (the keyR (carried (s .value)))
+
+-- the longest hash that client and orders both have
+unfoldable pub chosenOf : Setup → Hash
+chosenOf s = chosen (offered s) (s .orders .numbers .hashes)
 
 -- now plus session life
 unfoldable pub expiryOf : Setup → ℕ
@@ -36,7 +41,7 @@ entryPart s state = entryChecks (setupFits s state) (s .orders) state
 
 -- 19 and 20: a hash in common, and the session's end
 unfoldable pub lastingPart : Setup → List Check
-lastingPart s = check 19 (not (bit (offered s) 2)) ∷ check 20 (ltb 4294967295 (expiryOf s)) ∷ []
+lastingPart s = check 19 (not (inCommon (offered s) (s .orders .numbers .hashes))) ∷ check 20 (ltb 4294967295 (expiryOf s)) ∷ []
 
 -- 4, 5, 19, 20: what the client offers
 unfoldable pub offerPart : Setup → List Check
@@ -63,11 +68,11 @@ unfoldable pub sealedOf : Setup → Sealed
 sealedOf s = sealedToken (s .server-key) (s .iv) (newToken s)
 
 unfoldable pub replyOf : Setup → List ℕ
-replyOf s = setupReply (sealedOf s .cipher) (s .iv) (sealedOf s .tag) (s .session-key) (s .orders .numbers .mask) (s .orders .extra)
+replyOf s = setupReply (sealedOf s .cipher) (s .iv) (sealedOf s .tag) (s .session-key) (chosenOf s) (s .orders .numbers .mask) (s .orders .extra)
 
--- the record that is taken holds the IV, the new expiry and no nonce
+-- the record that is taken holds the IV, the new expiry, no nonce and the chosen hash
 unfoldable pub withSession : Setup → List ℕ → List ℕ
-withSession s table = with-record table (taken (records table) (s .clock)) (begun (s .iv) (expiryOf s))
+withSession s table = with-record table (taken (records table) (s .clock)) (begun (s .iv) (expiryOf s) (hashMask (chosenOf s)))
 
 abbrev pub setupOutcome : ℕ → Setup → State → Outcome
 setupOutcome number s state =

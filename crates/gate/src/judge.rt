@@ -116,8 +116,9 @@ pub fn answer(decision: Decision, reply: &mut [u8]) -> u32
     }
     if invalidates(decision.number) {
         let key = decision.key;
-        reply::invalidate(reply, &key);
-        return decision.number + 256 * 90;
+        let hash = decision.hash;
+        let len = reply::invalidate(reply, hash, &key);
+        return decision.number + 256 * (len as u32);
     }
     decision.number
 }

@@ -29,6 +29,7 @@ mod sizes;
 #[no_mangle]
 pub extern "C" fn gate_setup(
     mask: u64,
+    hashes: u64,
     extra: &[u8],
     request_life: u32,
     idle: u32,
@@ -42,11 +43,12 @@ pub extern "C" fn gate_setup(
     table: &mut [u8],
     reply: &mut [u8],
 ) -> u32
-    ensures { λ r. ⌜ outcome r (now (reply .exit)) (holding (now (table .exit))) ≡ setUp (setupOf (ordersOf mask (now (extra .entry)) «request_life» idle «session_life») clock (now («server_key» .entry)) (now («session_key» .entry)) (now (iv .entry)) (now («session_id» .entry)) (now (value .entry)) (now (reply .entry))) (holding (now (table .entry))) ⌝ }
+    ensures { λ r. ⌜ outcome r (now (reply .exit)) (holding (now (table .exit))) ≡ setUp (setupOf (ordersOf mask hashes (now (extra .entry)) «request_life» idle «session_life») clock (now («server_key» .entry)) (now («session_key» .entry)) (now (iv .entry)) (now («session_id» .entry)) (now (value .entry)) (now (reply .entry))) (holding (now (table .entry))) ⌝ }
 {
     let known = names::known();
     let numbers = Numbers {
         mask,
+        hashes,
         request_life,
         idle,
         session_life,
@@ -65,7 +67,7 @@ pub extern "C" fn gate_setup(
         reply,
     );
     match start {
-        Start::At(place, expiry) => setup::apply(
+        Start::At(place, hash, expiry) => setup::apply(
             mask,
             extra,
             server_key,
@@ -73,6 +75,7 @@ pub extern "C" fn gate_setup(
             iv,
             session_id,
             place,
+            hash,
             expiry,
             table,
             reply,
@@ -85,6 +88,7 @@ pub extern "C" fn gate_setup(
 #[no_mangle]
 pub extern "C" fn gate_judge<'a>(
     mask: u64,
+    hashes: u64,
     extra: &[u8],
     request_life: u32,
     idle: u32,
@@ -99,11 +103,12 @@ pub extern "C" fn gate_judge<'a>(
     table: &mut [u8],
     reply: &mut [u8],
 ) -> u32
-    ensures { λ r. ⌜ outcome r (now (reply .exit)) (holding (now (table .exit))) ≡ judged (requestOf (ordersOf mask (now (extra .entry)) «request_life» idle «session_life») clock (now («server_key» .entry)) (now (value .entry)) (now (head .entry)) (now (aside .entry)) (now (path .entry)) (now (body .entry)) (now (reply .entry))) (holding (now (table .entry))) ⌝ }
+    ensures { λ r. ⌜ outcome r (now (reply .exit)) (holding (now (table .exit))) ≡ judged (requestOf (ordersOf mask hashes (now (extra .entry)) «request_life» idle «session_life») clock (now («server_key» .entry)) (now (value .entry)) (now (head .entry)) (now (aside .entry)) (now (path .entry)) (now (body .entry)) (now (reply .entry))) (holding (now (table .entry))) ⌝ }
 {
     let known = names::known();
     let numbers = Numbers {
         mask,
+        hashes,
         request_life,
         idle,
         session_life,
@@ -130,6 +135,7 @@ pub extern "C" fn gate_judge<'a>(
 #[no_mangle]
 pub extern "C" fn gate_judge_one<'a>(
     mask: u64,
+    hashes: u64,
     extra: &[u8],
     request_life: u32,
     idle: u32,
@@ -144,11 +150,12 @@ pub extern "C" fn gate_judge_one<'a>(
     record: &mut Record,
     reply: &mut [u8],
 ) -> u32
-    ensures { λ r. ⌜ outcome r (now (reply .exit)) (holding (recordBytes (now («record» .exit)))) ≡ judged (requestOf (ordersOf mask (now (extra .entry)) «request_life» idle «session_life») clock (now («server_key» .entry)) (now (value .entry)) (now (head .entry)) (now (aside .entry)) (now (path .entry)) (now (body .entry)) (now (reply .entry))) (holding (recordBytes (now («record» .entry)))) ⌝ }
+    ensures { λ r. ⌜ outcome r (now (reply .exit)) (holding (recordBytes (now («record» .exit)))) ≡ judged (requestOf (ordersOf mask hashes (now (extra .entry)) «request_life» idle «session_life») clock (now («server_key» .entry)) (now (value .entry)) (now (head .entry)) (now (aside .entry)) (now (path .entry)) (now (body .entry)) (now (reply .entry))) (holding (recordBytes (now («record» .entry)))) ⌝ }
 {
     let held = *record;
     let judged = one::judge(
         mask,
+        hashes,
         extra,
         request_life,
         idle,

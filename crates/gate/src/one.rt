@@ -33,6 +33,7 @@ pub struct Judged {
 
 pub fn judge<'a>(
     mask: u64,
+    hashes: u64,
     extra: &[u8],
     request_life: u32,
     idle: u32,
@@ -47,11 +48,12 @@ pub fn judge<'a>(
     record: Record,
     reply: &mut [u8],
 ) -> Judged
-    ensures { λ r. ⌜ outcome (r .answer) (now (reply .exit)) (holding (recordBytes (r .next))) ≡ judged (requestOf (ordersOf mask (now (extra .entry)) «request_life» idle «session_life») clock (now («server_key» .entry)) (now (value .entry)) (now (head .entry)) (now (aside .entry)) (now (path .entry)) (now (body .entry)) (now (reply .entry))) (holding (recordBytes «record»)) ⌝ }
+    ensures { λ r. ⌜ outcome (r .answer) (now (reply .exit)) (holding (recordBytes (r .next))) ≡ judged (requestOf (ordersOf mask hashes (now (extra .entry)) «request_life» idle «session_life») clock (now («server_key» .entry)) (now (value .entry)) (now (head .entry)) (now (aside .entry)) (now (path .entry)) (now (body .entry)) (now (reply .entry))) (holding (recordBytes «record»)) ⌝ }
 {
     let known = names::known();
     let numbers = Numbers {
         mask,
+        hashes,
         request_life,
         idle,
         session_life,

@@ -11,15 +11,16 @@ ghost use Rattle.gate.specs.InnerStarts.{StartIs, UntilIs, OfferIs, Room
 use super::entry;
 use super::sizes;
 use armor::SetupRead;
+use hashes::Hash;
 use orders::Numbers;
 use table::place;
 use table::place::Place;
 use table::session;
 use window::time::Time;
 
-// The place that the new session takes, and its expiry; or the number of the refusal.
+// The place that the new session takes, its hash and its expiry; or the number of the refusal.
 pub enum Start {
-    At(usize, Time),
+    At(usize, Hash, Time),
     Refused(u32),
 }
 
@@ -46,52 +47,51 @@ pub fn decide(
         return Start::Refused(entry.number);
     }
     let limits = entry.limits;
-    match offered(value, clock, limits.session_life) {
+    match offered(value, numbers.hashes, clock, limits.session_life) {
         Offer::Refused(number) => Start::Refused(number),
-        Offer::Until(expiry) => room(table, iv, clock, expiry),
+        Offer::Until(hash, expiry) => room(table, iv, clock, hash, expiry),
     }
 }
 
 enum Offer {
-    Until(Time),
+    Until(Hash, Time),
     Refused(u32),
 }
 
-// What the client offers, and until when the session would last: checks 4, 5, 19 and 20.
-fn offered(value: &[u8], clock: Time, life: u32) -> Offer
+// The hash that client and orders come to, and until when the session would last: checks 4, 5, 19 and 20.
+fn offered(value: &[u8], hashes: u64, clock: Time, life: u32) -> Offer
     requires { ⌜ length (now value) ≤ 4096 ⌝ }
-    ensures { λ r. ⌜ OfferIs (now (value .entry)) (clock .0 + life) r ⌝ }
+    ensures { λ r. ⌜ OfferIs (now (value .entry)) hashes (clock .0 + life) r ⌝ }
 {
     let read = armor::read_setup(value);
     match read {
         SetupRead::Grammar => Offer::Refused(4),
         SetupRead::Fields => Offer::Refused(5),
-        SetupRead::Mask(mask) => until(mask, clock, life),
+        SetupRead::Mask(mask) => until(mask, hashes, clock, life),
     }
 }
 
-// Bit 2 of a client's mask is SHA-512.
-fn until(mask: u64, clock: Time, life: u32) -> Offer
-    ensures { λ r. ⌜ UntilIs mask (clock .0 + life) r ⌝ }
+fn until(mask: u64, hashes: u64, clock: Time, life: u32) -> Offer
+    ensures { λ r. ⌜ UntilIs mask hashes (clock .0 + life) r ⌝ }
 {
-    if (mask >> 2) % 2 != 1 {
+    if !hashes::in_common(mask, hashes) {
         return Offer::Refused(19);
     }
     if 4294967295 - clock.0 < life {
         return Offer::Refused(20);
     }
-    Offer::Until(Time(clock.0 + life))
+    Offer::Until(hashes::chosen(mask, hashes), Time(clock.0 + life))
 }
 
 // The place for the new session: checks 17 and 18.
-fn room(table: &[u8], iv: &[u8], clock: Time, expiry: Time) -> Start
-    ensures { λ r. ⌜ RoomIs (now (table .entry)) (now (iv .entry)) (clock .0) (expiry .0) r ⌝ }
+fn room(table: &[u8], iv: &[u8], clock: Time, hash: Hash, expiry: Time) -> Start
+    ensures { λ r. ⌜ RoomIs (now (table .entry)) (now (iv .entry)) (clock .0) hash (expiry .0) r ⌝ }
 {
     if let Place::At(_) = place::find(table, iv) {
         return Start::Refused(17);
     }
     match place::to_take(table, clock) {
-        Place::At(place) => Start::At(place, expiry),
+        Place::At(place) => Start::At(place, hash, expiry),
         Place::Nowhere => Start::Refused(18),
     }
 }
@@ -105,18 +105,23 @@ pub fn apply(
     iv: &[u8],
     session_id: &[u8],
     place: usize,
+    hash: Hash,
     expiry: Time,
     table: &mut [u8],
     reply: &mut [u8],
 ) -> u32
     requires { ⌜ (mask < 2 ^ 56) × (length (now extra) ≤ 128) × (length (now «server_key») ≡ 32) × (length (now «session_key») ≡ 32) × (length (now iv) ≡ 12) × (1 ≤ length (now «session_id»)) × (length (now «session_id») ≤ 64) × (place < places (now table)) × (1024 ≤ length (now reply)) ⌝ }
-    ensures { λ r. ⌜ outcome r (now (reply .exit)) (holding (now (table .exit))) ≡ startAt mask (now (extra .entry)) (now («server_key» .entry)) (now («session_key» .entry)) (now (iv .entry)) (now («session_id» .entry)) place (expiry .0) (now (table .entry)) (now (reply .entry)) ⌝ }
+    ensures { λ r. ⌜ outcome r (now (reply .exit)) (holding (now (table .exit))) ≡ startAt mask (now (extra .entry)) (now («server_key» .entry)) (now («session_key» .entry)) (now (iv .entry)) (now («session_id» .entry)) place hash (expiry .0) (now (table .entry)) (now (reply .entry)) ⌝ }
 {
     let sealed = token::seal(server_key, iv, session_key, session_id, expiry);
     let s = sealed.s;
     let s_len = sealed.s_len;
     let tag = sealed.tag;
-    let len = reply::setup(reply, &s[..s_len], iv, &tag, session_key, mask, extra);
-    session::store(table, place, session::begin(iv, expiry));
+    let len = reply::setup(reply, &s[..s_len], iv, &tag, session_key, hash, mask, extra);
+    session::store(
+        table,
+        place,
+        session::begin(iv, expiry, hashes::mask(hash) as u8),
+    );
     256 * (len as u32)
 }

@@ -1,19 +1,23 @@
 -- A mask names the hash that it was made for, and a setup chooses the longest hash that both sides have.
 -- Assumes nothing.
-use mathlib.Core.Path.{_≡_, refl, sym}
+use mathlib.Core.Path.{_≡_, refl, sym, ap, _∙_}
 use mathlib.Core.Bool.{Bool, true, false, true≢false, cond, _&&_, _||_}
-use Prim.Native.Nat.{ℕ}
+use Prim.Native.Nat.{ℕ, _≤_}
+use native.Mathlib.Omega.{arith}
 use lib.Dec.{eqb}
 use borrow.Author.Tests.{eqb-true}
 use Rattle.hashes.specs.declared.Hash.{Hash}
 use Rattle.hashes.specs.declared.Hash.the-variants.{Sha256, Sha512}
-use Rattle.hashes.specs.Hashes.{hashMask, has, namesOne, named, allowedOne, inCommon, chosen}
+use Rattle.hashes.specs.Hashes.{hashMask, digestSize, has, namesOne, named, allowedOne, inCommon, chosen}
 
 -- the mask of a hash names that hash, and no other does
 pub mask-named : (h : Hash) → named (hashMask h) ≡ h
 unfolding named
 mask-named Sha256 = refl
 mask-named Sha512 = refl
+
+pub mask-tells : (g h : Hash) → hashMask g ≡ hashMask h → g ≡ h
+mask-tells g h e = sym (mask-named g) ∙ ap named e ∙ mask-named h
 
 pub named-mask : (m : ℕ) → namesOne m ≡ true → hashMask (named m) ≡ m
 unfolding named
@@ -55,3 +59,8 @@ chosen-common offered hashes h =
 pub chosen-longest : (offered hashes : ℕ) → has Sha512 offered ≡ true → has Sha512 hashes ≡ true → chosen offered hashes ≡ Sha512
 unfolding chosen
 chosen-longest offered hashes e f = rw (e, f)
+
+-- room for either digest
+pub digest-fits : (h : Hash) → digestSize h ≤ 64
+digest-fits Sha256 = omega arith
+digest-fits Sha512 = omega arith

@@ -1,15 +1,19 @@
 -- What a streaming HMAC rests on, over any hash function: Has s m says that the state s of the hash has taken in the message m.
 -- Assumes nothing.
-use mathlib.Core.Path.{_≡_, ap, _∙_}
+use mathlib.Core.Path.{_≡_, sym, ap, _∙_}
 use mathlib.Core.List.{List, [], _++_, append-nil, append-assoc}
-use Prim.Native.Nat.{ℕ}
+use Prim.Native.Nat.{ℕ, _≤_}
 use native.Mathlib.Omega.{arith}
-use lib.ListN.{length, length-append}
+use lib.ListN.{length, take, length-append}
+use lib.Seq.{length-take-le}
 use Rattle.cells.specs.Runs.{Bytes}
-use Rattle.sha2.specs.Hash.{sha512}
-use Rattle.sha2.proofs.Output.{length-sha512, bytes-sha512}
+use Rattle.hashes.specs.declared.Hash.{Hash}
+use Rattle.hashes.specs.declared.Hash.the-variants.{Sha256, Sha512}
+use Rattle.hashes.specs.Hashes.{digestSize}
+use Rattle.sha2.specs.Hash.{blockSize, sha2}
+use Rattle.sha2.proofs.Output.{length-sha2, bytes-sha2}
 use Rattle.hmac.specs.declared.Hmac.{Hmac}
-use Rattle.hmac.specs.Hmac.{innerKey, outerKey, hmac, hmacSha512}
+use Rattle.hmac.specs.Hmac.{innerKey, outerKey, hmac, hmacOf}
 use Rattle.hmac.specs.InnerKeyed.{KeyedOver, TookIn}
 
 module _ {S : Type 0} (Has : S → List ℕ → Type 0) (hash : List ℕ → List ℕ) (size : ℕ) where
@@ -37,14 +41,27 @@ took-in-turn s t r a b p q =
     record {
       inner-counted = omega (arith, p .inner-counted, q .inner-counted, length-append a b);
       outer-counted = q .outer-counted ∙ p .outer-counted;
-      appended = λ key text h. rw append-assoc at (q .appended key (text ++ a) (p .appended key text h));
+      appended = λ h key text k. rw append-assoc at (q .appended h key (text ++ a) (p .appended h key text k));
     }
 
--- an HMAC-SHA-512 has 64 bytes
-pub length-hmac : (key text : List ℕ) → length (hmacSha512 key text) ≡ 64
-unfolding hmac
-length-hmac key text = length-sha512 (outerKey sha512 128 key ++ sha512 (innerKey sha512 128 key ++ text))
+-- the first n bytes of an array, lent
+pub record Front (n : ℕ) (xs : List ℕ) : Type 0 where
+  pub fits : n ≤ length xs
+  pub long : n ≡ length (take n xs)
 
-pub bytes-hmac : (key text : List ℕ) → Bytes (hmacSha512 key text)
+pub digest-front : (h : Hash) (n : ℕ) (xs : List ℕ) → n ≡ digestSize h → length xs ≡ 64 → Front n xs
+digest-front Sha256 n xs e f = record { fits = omega arith; long = sym (length-take-le n xs (omega arith)) }
+digest-front Sha512 n xs e f = record { fits = omega arith; long = sym (length-take-le n xs (omega arith)) }
+
+pub block-front : (h : Hash) (n : ℕ) (xs : List ℕ) → n ≡ blockSize h → length xs ≡ 128 → Front n xs
+block-front Sha256 n xs e f = record { fits = omega arith; long = sym (length-take-le n xs (omega arith)) }
+block-front Sha512 n xs e f = record { fits = omega arith; long = sym (length-take-le n xs (omega arith)) }
+
+-- an HMAC is as long as a digest, and each is a byte
+pub length-hmac : (h : Hash) (key text : List ℕ) → length (hmacOf h key text) ≡ digestSize h
 unfolding hmac
-bytes-hmac key text = bytes-sha512 (outerKey sha512 128 key ++ sha512 (innerKey sha512 128 key ++ text))
+length-hmac h key text = length-sha2 h (outerKey (sha2 h) (blockSize h) key ++ sha2 h (innerKey (sha2 h) (blockSize h) key ++ text))
+
+pub bytes-hmac : (h : Hash) (key text : List ℕ) → Bytes (hmacOf h key text)
+unfolding hmac
+bytes-hmac h key text = bytes-sha2 h (outerKey (sha2 h) (blockSize h) key ++ sha2 h (innerKey (sha2 h) (blockSize h) key ++ text))

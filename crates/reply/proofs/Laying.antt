@@ -8,6 +8,7 @@ use lib.ListN.{length}
 use Rattle.cells.specs.InnerLaid.{Laid}
 use Rattle.cells.specs.Text.{codes}
 use Rattle.cells.proofs.Laid.{laid-more}
+use Rattle.hashes.specs.declared.Hash.{Hash}
 use Rattle.armor.specs.Value.{field, fieldText, following}
 use Rattle.armor.proofs.Laying.{following-more, joined-fields}
 use Rattle.reply.specs.Replies.{extraField, tokenFields, orderFields, replyFields, setupReply}
@@ -23,19 +24,19 @@ some-extra [] more = absurd (more refl)
 some-extra (b ∷ bs) more = refl
 
 -- s, and the fields that stand after it
-pub setup-fields : (s iv tag key : List ℕ) (mask : ℕ) (extra : List ℕ)
-    → setupReply s iv tag key mask extra ≡ fieldText (field (codes "s") s) ++ following (tokenFields iv tag key ++ orderFields mask extra)
+pub setup-fields : (s iv tag key : List ℕ) (hash : Hash) (mask : ℕ) (extra : List ℕ)
+    → setupReply s iv tag key hash mask extra ≡ fieldText (field (codes "s") s) ++ following (tokenFields iv tag key ++ orderFields hash mask extra)
 unfolding setupReply replyFields
-setup-fields s iv tag key mask extra = joined-fields (field (codes "s") s) (tokenFields iv tag key ++ orderFields mask extra)
+setup-fields s iv tag key hash mask extra = joined-fields (field (codes "s") s) (tokenFields iv tag key ++ orderFields hash mask extra)
 
 -- s and the token's other fields, and then the orders', are the reply
-pub laid-setup : {out mid left : List ℕ} {next end : ℕ} (s iv tag key : List ℕ) (mask : ℕ) (extra : List ℕ)
-    → Laid out mid 0 next (fieldText (field (codes "s") s) ++ following (tokenFields iv tag key)) → Laid mid left next end (following (orderFields mask extra))
-    → end ≤ length out → Laid out left 0 end (setupReply s iv tag key mask extra)
-laid-setup {out = out} {left = left} {end = end} s iv tag key mask extra p q room =
+pub laid-setup : {out mid left : List ℕ} {next end : ℕ} (s iv tag key : List ℕ) (hash : Hash) (mask : ℕ) (extra : List ℕ)
+    → Laid out mid 0 next (fieldText (field (codes "s") s) ++ following (tokenFields iv tag key)) → Laid mid left next end (following (orderFields hash mask extra))
+    → end ≤ length out → Laid out left 0 end (setupReply s iv tag key hash mask extra)
+laid-setup {out = out} {left = left} {end = end} s iv tag key hash mask extra p q room =
     let first = fieldText (field (codes "s") s) in
     subst (λ (text : List ℕ). Laid out left 0 end text)
-    (append-assoc first (following (tokenFields iv tag key)) (following (orderFields mask extra))
-    ∙ ap (λ (l : List ℕ). first ++ l) (following-more (tokenFields iv tag key) (orderFields mask extra))
-    ∙ sym (setup-fields s iv tag key mask extra))
+    (append-assoc first (following (tokenFields iv tag key)) (following (orderFields hash mask extra))
+    ∙ ap (λ (l : List ℕ). first ++ l) (following-more (tokenFields iv tag key) (orderFields hash mask extra))
+    ∙ sym (setup-fields s iv tag key hash mask extra))
     (laid-more p q room)

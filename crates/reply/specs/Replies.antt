@@ -2,9 +2,12 @@
 -- Assumes nothing.
 use mathlib.Core.List.{List, [], _∷_, _++_}
 use Prim.Native.Nat.{ℕ}
-use Rattle.hmac.specs.Hmac.{hmacSha512}
+use Rattle.hashes.specs.declared.Hash.{Hash}
+use Rattle.hashes.specs.declared.Hash.the-variants.{Sha256, Sha512}
+use Rattle.hashes.specs.Hashes.{hashMask}
+use Rattle.hmac.specs.Hmac.{hmacOf}
 use Rattle.cells.specs.Text.{codes}
-use Rattle.armor.specs.Numerals.{maskBytes, hashMask}
+use Rattle.armor.specs.Numerals.{maskBytes}
 use Rattle.armor.specs.Value.{Field, field, fieldText, joined, textsOf}
 
 -- eah if there are extra names
@@ -16,17 +19,22 @@ extraField (b ∷ bs) = field (codes "eah") (b ∷ bs) ∷ []
 abbrev pub tokenFields : List ℕ → List ℕ → List ℕ → List Field
 tokenFields iv tag key = field (codes "iv") iv ∷ field (codes "tag") tag ∷ field (codes "kh") key ∷ []
 
-abbrev pub orderFields : ℕ → List ℕ → List Field
-orderFields mask extra = field (codes "h") (maskBytes hashMask) ∷ field (codes "ah") (maskBytes mask) ∷ extraField extra
+abbrev pub orderFields : Hash → ℕ → List ℕ → List Field
+orderFields hash mask extra = field (codes "h") (maskBytes (hashMask hash)) ∷ field (codes "ah") (maskBytes mask) ∷ extraField extra
 
 -- s, iv, tag, kh, h, ah, and eah if there are extra names
-unfoldable pub replyFields : List ℕ → List ℕ → List ℕ → List ℕ → ℕ → List ℕ → List Field
-replyFields s iv tag key mask extra = field (codes "s") s ∷ (tokenFields iv tag key ++ orderFields mask extra)
+unfoldable pub replyFields : List ℕ → List ℕ → List ℕ → List ℕ → Hash → ℕ → List ℕ → List Field
+replyFields s iv tag key hash mask extra = field (codes "s") s ∷ (tokenFields iv tag key ++ orderFields hash mask extra)
 
 -- those fields with ; between them, and no closing one
-unfoldable pub setupReply : List ℕ → List ℕ → List ℕ → List ℕ → ℕ → List ℕ → List ℕ
-setupReply s iv tag key mask extra = joined (textsOf (replyFields s iv tag key mask extra))
+unfoldable pub setupReply : List ℕ → List ℕ → List ℕ → List ℕ → Hash → ℕ → List ℕ → List ℕ
+setupReply s iv tag key hash mask extra = joined (textsOf (replyFields s iv tag key hash mask extra))
 
--- i: and the base64 of HMAC(session key, `Session Expired`)
-unfoldable pub invalidation : List ℕ → List ℕ
-invalidation key = fieldText (field (codes "i") (hmacSha512 key (codes "Session Expired")))
+-- i: and the base64 of HMAC(session key, `Session Expired`), under the session's hash
+unfoldable pub invalidation : Hash → List ℕ → List ℕ
+invalidation hash key = fieldText (field (codes "i") (hmacOf hash key (codes "Session Expired")))
+
+-- 46 bytes or 90
+abbrev pub invalidationSize : Hash → ℕ
+invalidationSize Sha256 = 46
+invalidationSize Sha512 = 90

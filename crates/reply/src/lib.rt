@@ -8,6 +8,7 @@ ghost use Rattle.cells.specs.InnerLaid.{Laid};
 ghost use Rattle.cells.specs.Text.{codes};
 ghost use Rattle.armor.specs.Value.{field, fieldText, following};
 ghost use Rattle.reply.specs.Replies.{extraField, tokenFields, orderFields, setupReply, invalidation};
+use hashes::Hash;
 use hmac::Hmac;
 
 // Writes the reply of a setup to the front of out; how long it is.
@@ -17,25 +18,27 @@ pub fn setup(
     iv: &[u8],
     tag: &[u8],
     key: &[u8],
+    hash: Hash,
     mask: u64,
     extra: &[u8],
 ) -> usize
     requires { ⌜ (1024 ≤ length (now out)) × (length (now s) ≤ 118) × (length (now iv) ≡ 12) × (length (now tag) ≡ 16) × (length (now key) ≡ 32) × (length (now extra) ≤ 128) ⌝ }
-    ensures { λ r. ⌜ (r ≡ length (setupReply (now (s .entry)) (now (iv .entry)) (now (tag .entry)) (now (key .entry)) mask (now (extra .entry)))) × (now (out .exit) ≡ fronted (setupReply (now (s .entry)) (now (iv .entry)) (now (tag .entry)) (now (key .entry)) mask (now (extra .entry))) (now (out .entry))) ⌝ }
+    ensures { λ r. ⌜ (r ≡ length (setupReply (now (s .entry)) (now (iv .entry)) (now (tag .entry)) (now (key .entry)) hash mask (now (extra .entry)))) × (now (out .exit) ≡ fronted (setupReply (now (s .entry)) (now (iv .entry)) (now (tag .entry)) (now (key .entry)) hash mask (now (extra .entry))) (now (out .entry))) ⌝ }
 {
     let at = put_token(out, s, iv, tag, key);
-    put_orders(out, at, mask, extra)
+    put_orders(out, at, hash, mask, extra)
 }
 
-// Writes the invalidation of the session with this key to the front of out: 90 bytes.
-pub fn invalidate(out: &mut [u8], key: &[u8])
+// Writes the invalidation of the session with this key to the front of out; how long it is: 46 bytes under SHA-256, 90 under SHA-512.
+pub fn invalidate(out: &mut [u8], hash: Hash, key: &[u8]) -> usize
     requires { ⌜ (1024 ≤ length (now out)) × (length (now key) ≡ 32) ⌝ }
-    ensures { λ _. ⌜ now (out .exit) ≡ fronted (invalidation (now (key .entry))) (now (out .entry)) ⌝ }
+    ensures { λ r. ⌜ (r ≡ length (invalidation hash (now (key .entry)))) × (now (out .exit) ≡ fronted (invalidation hash (now (key .entry))) (now (out .entry))) ⌝ }
 {
-    let fresh = Hmac::new(key);
+    let fresh = Hmac::new(hash, key);
     let taken = fresh.absorb(b"Session Expired");
     let code = taken.finish();
-    armor::put_field(out, 0, b"i", &code);
+    let n = hashes::size(hash);
+    armor::put_field(out, 0, b"i", &code[..n])
 }
 
 // s, iv, tag and kh at the front of out, and the place after them.
@@ -50,11 +53,11 @@ fn put_token(out: &mut [u8], s: &[u8], iv: &[u8], tag: &[u8], key: &[u8]) -> usi
 }
 
 // h, ah, and eah if there are extra names, after other fields.
-fn put_orders(out: &mut [u8], at: usize, mask: u64, extra: &[u8]) -> usize
+fn put_orders(out: &mut [u8], at: usize, hash: Hash, mask: u64, extra: &[u8]) -> usize
     requires { ⌜ (at + 208 ≤ length (now out)) × (length (now extra) ≤ 128) ⌝ }
-    ensures { λ r. ⌜ (r ≤ at + 208) × Laid (now (out .entry)) (now (out .exit)) at r (following (orderFields mask (now (extra .entry)))) ⌝ }
+    ensures { λ r. ⌜ (r ≤ at + 208) × Laid (now (out .entry)) (now (out .exit)) at r (following (orderFields hash mask (now (extra .entry)))) ⌝ }
 {
-    let after_h = armor::put_mask(out, at, b"h", armor::HASH_MASK);
+    let after_h = armor::put_mask(out, at, b"h", hashes::mask(hash));
     let after_ah = armor::put_mask(out, after_h, b"ah", mask);
     put_extra(out, after_ah, extra)
 }

@@ -6,6 +6,7 @@ use Prim.Native.Nat.{ℕ}
 use Rattle.cells.specs.Numbers.{bytesOf}
 use Rattle.cells.specs.Decimal.{decimalTo, decimal}
 use Rattle.netstring.specs.Netstring.{netstring, netstrings}
+use Rattle.hashes.specs.declared.Hash.the-variants.{Sha512}
 use Rattle.armor.specs.Numerals.{shortest, numberBytes, maskBytes}
 use Rattle.cells.specs.Text.{codes}
 use Rattle.cells.specs.Spans.{all, leading}
@@ -54,6 +55,6 @@ computed : signedText (signing (codes "a" ∷ [])) ≡ text
 unfolding signedText signedParts nonceOf netstrings netstring decimal decimalTo numberBytes maskBytes shortest bytesOf codes
 computed = refl
 
-pub case-12 : requestText 3 [] 5 1000 990 [] host (codes "/") [] ≡ text
+pub case-12 : requestText Sha512 3 [] 5 1000 990 [] host (codes "/") [] ≡ text
 unfolding requestText signedOf
 case-12 = ap (λ (values : List (List ℕ)). signedText (signing values)) host-value ∙ computed

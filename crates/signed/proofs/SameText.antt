@@ -9,6 +9,10 @@ use native.Mathlib.Omega.{arith}
 use lib.ListN.{length, length-map}
 use Rattle.netstring.specs.Netstring.{netstrings}
 use Rattle.netstring.proofs.Determined.{netstrings-determined, netstrings-append}
+use Rattle.hashes.specs.declared.Hash.{Hash}
+use Rattle.hashes.specs.declared.Hash.the-variants.{Sha256, Sha512}
+use Rattle.hashes.specs.Hashes.{hashMask}
+use Rattle.hashes.proofs.Hashes.{mask-tells}
 use Rattle.armor.specs.Numerals.{numberBytes, maskBytes}
 use Rattle.armor.proofs.Numerals.{numberBytes-injective, maskBytes-injective}
 use Rattle.names.specs.Covered.{coveredNames}
@@ -61,8 +65,9 @@ signed-same a b alike e =
     let five = netstrings-determined (a .path ∷ a .body ∷ []) (b .path ∷ b .body ∷ []) [] [] refl (ap (λ (l : List ℕ). l ++ []) (four .1)) in
     made-same (one .0) (n .1 (two .0)) (three .0) (four .0) (five .0)
 
--- what the code of a request is made from: the orders' mask and extra names, the numbers that it carries, and what the host lends
+-- what the code of a request is made from: its hash, the orders' mask and extra names, the numbers that it carries, and what the host lends
 pub record Request : Type 0 where
+  pub hash : Hash
   pub mask : ℕ
   pub extra : List ℕ
   pub n : ℕ
@@ -74,7 +79,7 @@ pub record Request : Type 0 where
   pub body : List ℕ
 
 abbrev pub textOf : Request → List ℕ
-textOf p = requestText (p .mask) (p .extra) (p .n) (p .t) (p .lt) (p .aside) (p .head) (p .path) (p .body)
+textOf p = requestText (p .hash) (p .mask) (p .extra) (p .n) (p .t) (p .lt) (p .aside) (p .head) (p .path) (p .body)
 
 -- no bit above 55, and numbers of 32 bits
 pub record Fits (p : Request) : Type 0 where
@@ -88,6 +93,7 @@ abbrev pub valueOf : Request → List ℕ → List ℕ
 valueOf p = coveredValue (linesIn (p .aside)) (linesIn (p .head))
 
 pub record Same (p q : Request) : Type 0 where
+  pub hash : p .hash ≡ q .hash
   pub mask : p .mask ≡ q .mask
   pub extra : p .extra ≡ q .extra
   pub n : ordersNonce (p .mask) ≡ true → p .n ≡ q .n
@@ -98,7 +104,7 @@ pub record Same (p q : Request) : Type 0 where
   pub body : p .body ≡ q .body
 
 abbrev signing : Request → Signed
-signing p = signedOf (p .mask) (p .extra) (p .n) (p .t) (p .lt) (p .aside) (p .head) (p .path) (p .body)
+signing p = signedOf (p .hash) (p .mask) (p .extra) (p .n) (p .t) (p .lt) (p .aside) (p .head) (p .path) (p .body)
 
 carries : (mask n : ℕ) → isCarried (nonceOf mask n) ≡ ordersNonce mask
 unfolding nonceOf
@@ -117,6 +123,10 @@ each-same : (f g : List ℕ → List ℕ) (ns : List (List ℕ)) → map f ns �
 each-same f g (n ∷ ns) e name (List·Memᴰ·head p) = cc
 each-same f g (n ∷ ns) e name (List·Memᴰ·tail m) = each-same f g ns (cc) name m
 
+short : (h : Hash) → hashMask h < 2 ^ 64
+short Sha256 = omega arith
+short Sha512 = omega arith
+
 -- THE THEOREM, of requests
 pub request-same : (p q : Request) → Fits p → Fits q → textOf p ≡ textOf q → Same p q
 unfolding requestText signedOf coveredValues
@@ -133,6 +143,7 @@ request-same p q fp fq e =
     let m = masks (ap (λ (x : Signed). x .ah) s) in
     let x = ap (λ (x : Signed). x .eah) s in
     record {
+      hash = mask-tells (p .hash) (q .hash) (maskBytes-injective (hashMask (p .hash)) (hashMask (q .hash)) (short (p .hash)) (short (q .hash)) (ap (λ (x : Signed). x .h) s));
       mask = m;
       extra = x;
       n = λ o. nonce-same (p .mask) (p .n) (q .n) (fp .n) (fq .n) o (ap (λ (x : Signed). x .n) s ∙ ap (λ (k : ℕ). nonceOf k (q .n)) (sym m));

@@ -11,7 +11,9 @@ use lib.ListN.{length, drop, length-append, length-take, length-drop}
 use Rattle.cells.proofs.Digits.{decimal-length}
 use Rattle.netstring.specs.Netstring.{netstrings}
 use Rattle.netstring.proofs.Laid.{length-netstring}
-use Rattle.armor.specs.Numerals.{numberBytes, maskBytes, hashMask}
+use Rattle.hashes.specs.declared.Hash.{Hash}
+use Rattle.hashes.specs.Hashes.{hashMask}
+use Rattle.armor.specs.Numerals.{numberBytes, maskBytes}
 use Rattle.armor.proofs.Numerals.{length-numberBytes, length-maskBytes}
 use Rattle.names.specs.Names.{sameName, headerNames}
 use Rattle.names.specs.Extra.{extraNames, goodExtra}
@@ -87,18 +89,18 @@ nonce-short mask n =
     elim (ordersNonce mask) as (λ (b : Bool). size (carried (cond b (some (numberBytes n)) none)) ≤ 15) [ true ↦ number-short n | false ↦ omega arith ]
 
 -- THE BOUND, far from what a state can take in
-pub request-short : (mask n t lt : ℕ) (extra aside head path body : List ℕ) → goodExtra extra ≡ true
+pub request-short : (hash : Hash) (mask n t lt : ℕ) (extra aside head path body : List ℕ) → goodExtra extra ≡ true
     → length head ≤ 16384 → length aside ≤ 16384 → length path ≤ 2048 → length body ≤ 65536
-    → size (openingParts mask extra n t lt) + size (coveredValues mask extra aside head) + size (path ∷ body ∷ []) ≤ 2000000
+    → size (openingParts hash mask extra n t lt) + size (coveredValues mask extra aside head) + size (path ∷ body ∷ []) ≤ 2000000
 unfolding coveredValues coveredValue linesIn
-request-short mask n t lt extra aside head path body good hh ha hp hb =
+request-short hash mask n t lt extra aside head path body good hh ha hp hb =
     let found : (name : List ℕ) → length (coveredValue (linesIn aside) (linesIn head) name) ≤ 16384 =
     λ name. found-short (length aside) aside name _ ha (found-short (length head) head name [] hh (omega arith)) in
     let named = short-extra extra good in
     omega (
       arith,
-      opening-size mask n t lt extra,
-      mask-short hashMask,
+      opening-size hash mask n t lt extra,
+      mask-short (hashMask hash),
       mask-short mask,
       part-short extra (omega arith),
       nonce-short mask n,

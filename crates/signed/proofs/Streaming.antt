@@ -9,7 +9,9 @@ use Rattle.hmac.specs.declared.Hmac.{Hmac}
 use Rattle.hmac.specs.InnerKeyed.{TookIn}
 use Rattle.netstring.specs.Netstring.{netstring, netstrings}
 use Rattle.netstring.proofs.Determined.{netstrings-append}
-use Rattle.armor.specs.Numerals.{numberBytes, maskBytes, hashMask}
+use Rattle.hashes.specs.declared.Hash.{Hash}
+use Rattle.hashes.specs.Hashes.{hashMask}
+use Rattle.armor.specs.Numerals.{numberBytes, maskBytes}
 use Rattle.names.specs.Extra.{extraNames}
 use Rattle.names.specs.Covered.{chosen}
 use Rattle.names.specs.InnerWalk.{Known, namesFrom}
@@ -25,13 +27,13 @@ took-both {a = a} p q =
     record {
       inner-counted = simp length-append (omega (arith, p .inner-counted, q .inner-counted));
       outer-counted = q .outer-counted ∙ p .outer-counted;
-      appended = λ key text k. rw append-assoc at (q .appended key (text ++ a) (p .appended key text k));
+      appended = λ h key text k. rw append-assoc at (q .appended h key (text ++ a) (p .appended h key text k));
     }
 
 -- no parts
 pub took-none : (s : Hmac) → TookParts s [] s
 unfolding netstrings
-took-none s = record { inner-counted = omega arith; outer-counted = refl; appended = λ key text k. rw append-nil k }
+took-none s = record { inner-counted = omega arith; outer-counted = refl; appended = λ h key text k. rw append-nil k }
 
 -- some parts, and then others
 pub took-then : {s t r : Hmac} (xs ys : List (List ℕ)) → TookParts s xs t → TookParts t ys r → TookParts s (xs ++ ys) r
@@ -57,10 +59,10 @@ netstrings-one part = append-nil (netstring part)
 pub size-one : (part : List ℕ) → size (part ∷ []) ≡ length (netstring part)
 size-one part = ap length (netstrings-one part)
 
-pub opening-size : (mask n t lt : ℕ) (extra : List ℕ) → size (openingParts mask extra n t lt)
-    ≡ size (maskBytes hashMask ∷ []) + size (maskBytes mask ∷ []) + size (extra ∷ []) + size (carried (nonceOf mask n)) + size (numberBytes t ∷ []) + size (numberBytes lt ∷ [])
+pub opening-size : (hash : Hash) (mask n t lt : ℕ) (extra : List ℕ) → size (openingParts hash mask extra n t lt)
+    ≡ size (maskBytes (hashMask hash) ∷ []) + size (maskBytes mask ∷ []) + size (extra ∷ []) + size (carried (nonceOf mask n)) + size (numberBytes t ∷ []) + size (numberBytes lt ∷ [])
 unfolding netstrings
-opening-size mask n t lt extra = simp (netstrings-append, length-append) (omega arith)
+opening-size hash mask n t lt extra = simp (netstrings-append, length-append) (omega arith)
 
 abbrev pub extraValues : List ℕ → List ℕ → List ℕ → List (List ℕ)
 extraValues aside head extra = map (coveredValue (linesIn aside) (linesIn head)) (extraNames extra)
@@ -74,9 +76,9 @@ values-joined mask extra known aside head h =
     sym (map-append f (chosen (mask / 2) (namesFrom known 0)) (extraNames extra)) ∙ ap (map f) (sym (covered-names mask extra known h))
 
 -- all the parts in a row are the signed text
-pub parts-joined : (mask n t lt : ℕ) (extra aside head path body : List ℕ)
-    → netstrings (openingParts mask extra n t lt ++ (coveredValues mask extra aside head ++ (path ∷ body ∷ []))) ≡ requestText mask extra n t lt aside head path body
+pub parts-joined : (hash : Hash) (mask n t lt : ℕ) (extra aside head path body : List ℕ)
+    → netstrings (openingParts hash mask extra n t lt ++ (coveredValues mask extra aside head ++ (path ∷ body ∷ []))) ≡ requestText hash mask extra n t lt aside head path body
 unfolding requestText signedText signedParts signedOf
-parts-joined mask n t lt extra aside head path body =
-    ap (λ (l : List (List ℕ)). netstrings (maskBytes hashMask ∷ maskBytes mask ∷ extra ∷ l))
+parts-joined hash mask n t lt extra aside head path body =
+    ap (λ (l : List (List ℕ)). netstrings (maskBytes (hashMask hash) ∷ maskBytes mask ∷ extra ∷ l))
     (append-assoc (carried (nonceOf mask n)) (numberBytes t ∷ numberBytes lt ∷ []) (coveredValues mask extra aside head ++ (path ∷ body ∷ [])))

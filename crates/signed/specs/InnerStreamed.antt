@@ -6,7 +6,9 @@ use lib.ListN.{length}
 use Rattle.hmac.specs.InnerKeyed.{TookIn}
 use Rattle.hmac.specs.declared.Hmac.{Hmac}
 use Rattle.netstring.specs.Netstring.{netstrings}
-use Rattle.armor.specs.Numerals.{numberBytes, maskBytes, hashMask}
+use Rattle.hashes.specs.declared.Hash.{Hash}
+use Rattle.hashes.specs.Hashes.{hashMask}
+use Rattle.armor.specs.Numerals.{numberBytes, maskBytes}
 use Rattle.names.specs.Covered.{chosen}
 use Rattle.names.specs.InnerWalk.{namesFrom}
 use Rattle.lines.specs.Lines.{linesIn}
@@ -22,9 +24,9 @@ abbrev pub TookParts : Hmac → List (List ℕ) → Hmac → Type 0
 TookParts s parts r = TookIn s (netstrings parts) r
 
 -- h, ah, eah, n if carried, t and lt
-abbrev pub openingParts : ℕ → List ℕ → ℕ → ℕ → ℕ → List (List ℕ)
-openingParts mask extra n t lt =
-    maskBytes hashMask ∷ maskBytes mask ∷ extra ∷ (carried (nonceOf mask n) ++ (numberBytes t ∷ numberBytes lt ∷ []))
+abbrev pub openingParts : Hash → ℕ → List ℕ → ℕ → ℕ → ℕ → List (List ℕ)
+openingParts hash mask extra n t lt =
+    maskBytes (hashMask hash) ∷ maskBytes mask ∷ extra ∷ (carried (nonceOf mask n) ++ (numberBytes t ∷ numberBytes lt ∷ []))
 
 -- the values of the chosen names of a run from index at on
 abbrev pub valuesFrom : List ℕ → List ℕ → List ℕ → ℕ → ℕ → List (List ℕ)

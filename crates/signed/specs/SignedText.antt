@@ -6,7 +6,9 @@ use mathlib.Core.Bool.{Bool, cond}
 use mathlib.Core.Option.{Option, none, some}
 use lib.Dec.{eqb}
 use Rattle.netstring.specs.Netstring.{netstrings}
-use Rattle.armor.specs.Numerals.{numberBytes, maskBytes, hashMask}
+use Rattle.hashes.specs.declared.Hash.{Hash}
+use Rattle.hashes.specs.Hashes.{hashMask}
+use Rattle.armor.specs.Numerals.{numberBytes, maskBytes}
 use Rattle.names.specs.Covered.{coveredNames}
 use Rattle.lines.specs.Lines.{linesIn}
 use Rattle.lines.specs.Values.{coveredValue}
@@ -48,9 +50,9 @@ unfoldable pub coveredValues : ℕ → List ℕ → List ℕ → List ℕ → Li
 coveredValues mask extra aside head = map (coveredValue (linesIn aside) (linesIn head)) (coveredNames mask extra)
 
 -- what is signed of a request whose h, ah and eah are those of the orders; without extra names eah is absent, which is empty
-unfoldable pub signedOf : ℕ → List ℕ → ℕ → ℕ → ℕ → List ℕ → List ℕ → List ℕ → List ℕ → Signed
-signedOf mask extra n t lt aside head path body = record {
-  h = maskBytes hashMask;
+unfoldable pub signedOf : Hash → ℕ → List ℕ → ℕ → ℕ → ℕ → List ℕ → List ℕ → List ℕ → List ℕ → Signed
+signedOf hash mask extra n t lt aside head path body = record {
+  h = maskBytes (hashMask hash);
   ah = maskBytes mask;
   eah = extra;
   n = nonceOf mask n;
@@ -61,5 +63,5 @@ signedOf mask extra n t lt aside head path body = record {
   body = body;
 }
 
-unfoldable pub requestText : ℕ → List ℕ → ℕ → ℕ → ℕ → List ℕ → List ℕ → List ℕ → List ℕ → List ℕ
-requestText mask extra n t lt aside head path body = signedText (signedOf mask extra n t lt aside head path body)
+unfoldable pub requestText : Hash → ℕ → List ℕ → ℕ → ℕ → ℕ → List ℕ → List ℕ → List ℕ → List ℕ → List ℕ
+requestText hash mask extra n t lt aside head path body = signedText (signedOf hash mask extra n t lt aside head path body)

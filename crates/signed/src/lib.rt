@@ -1,26 +1,29 @@
-// The code of a request: HMAC-SHA-512 of its signed text, which is never gathered, and how two codes are compared.
+// The code of a request: the HMAC of its signed text, which is never gathered, and how two codes are compared.
 ghost use mathlib.Core.Path.{_≡_};
 ghost use mathlib.Core.Bool.{true};
 ghost use mathlib.Core.List.{[], _∷_};
 ghost use Prim.Native.Nat.{_^_, _<_, _≤_};
-ghost use lib.ListN.{length};
+ghost use lib.ListN.{length, take};
 ghost use Rattle.cells.specs.Runs.{same};
-ghost use Rattle.hmac.specs.Hmac.{hmacSha512};
+ghost use Rattle.hashes.specs.Hashes.{digestSize};
+ghost use Rattle.hmac.specs.Hmac.{hmacOf};
 ghost use Rattle.armor.specs.Numerals.{numberBytes, maskBytes};
 ghost use Rattle.names.specs.Extra.{goodExtra};
 ghost use Rattle.names.specs.InnerWalk.{Known};
 ghost use Rattle.signed.specs.SignedText.{carried, nonceOf, coveredValues, requestText};
 ghost use Rattle.signed.specs.InnerStreamed.{Room, TookParts, openingParts, valuesFrom};
+use hashes::Hash;
 use hmac::Hmac;
 use names::Next;
 use names::extra;
 use window::Nonce;
 use window::time::Time;
 
-// HMAC-SHA-512 under the session key of a request's signed text.
+// The HMAC under the session key of a request's signed text, at the front.
 pub fn code<'a>(
     known: &[u8],
     key: &[u8],
+    hash: Hash,
     mask: u64,
     extra: &[u8],
     n: Nonce,
@@ -32,22 +35,22 @@ pub fn code<'a>(
     body: &[u8],
 ) -> [u8; 64]
     requires { ⌜ Known (now known) × (length (now key) < 2 ^ 61) × (goodExtra (now extra) ≡ true) × (length (now head) ≤ 16384) × (length (now aside) ≤ 16384) × (length (now path) ≤ 2048) × (length (now body) ≤ 65536) ⌝ }
-    ensures { λ r. ⌜ r ≡ hmacSha512 (now (key .entry)) (requestText mask (now (extra .entry)) (n .0) (t .0) (lt .0) (now (aside .entry)) (now (head .entry)) (now (path .entry)) (now (body .entry))) ⌝ }
+    ensures { λ r. ⌜ take (digestSize hash) r ≡ hmacOf hash (now (key .entry)) (requestText hash mask (now (extra .entry)) (n .0) (t .0) (lt .0) (now (aside .entry)) (now (head .entry)) (now (path .entry)) (now (body .entry))) ⌝ }
 {
-    let fresh = Hmac::new(key);
-    let opened = opening(fresh, mask, extra, n, t, lt);
+    let fresh = Hmac::new(hash, key);
+    let opened = opening(fresh, hash, mask, extra, n, t, lt);
     let valued = values(opened, known, mask, extra, head, aside);
     let ended = ending(valued, path, body);
     ended.finish()
 }
 
 // h, ah, eah, n if carried, t and lt.
-fn opening(state: Hmac, mask: u64, extra: &[u8], n: Nonce, t: Time, lt: Time) -> Hmac
-    requires { ⌜ Room state (openingParts mask (now extra) (n .0) (t .0) (lt .0)) ⌝ }
-    ensures { λ r. ⌜ TookParts state (openingParts mask (now (extra .entry)) (n .0) (t .0) (lt .0)) r ⌝ }
+fn opening(state: Hmac, hash: Hash, mask: u64, extra: &[u8], n: Nonce, t: Time, lt: Time) -> Hmac
+    requires { ⌜ Room state (openingParts hash mask (now extra) (n .0) (t .0) (lt .0)) ⌝ }
+    ensures { λ r. ⌜ TookParts state (openingParts hash mask (now (extra .entry)) (n .0) (t .0) (lt .0)) r ⌝ }
 {
-    let hash = absorb_mask(state, armor::HASH_MASK);
-    let covered = absorb_mask(hash, mask);
+    let hashed = absorb_mask(state, hashes::mask(hash));
+    let covered = absorb_mask(hashed, mask);
     let named = absorb(covered, extra);
     let counted = absorb_nonce(named, mask, n);
     let timed = absorb_number(counted, t.0);
@@ -142,8 +145,8 @@ fn absorb(state: Hmac, part: &[u8]) -> Hmac
 }
 
 // Whether two codes are the same: every byte is looked at, whatever the others are.
-pub fn same_code(a: [u8; 64], b: [u8; 64]) -> bool
-    ensures { λ r. ⌜ r ≡ same a b ⌝ }
+pub fn same_code(a: &[u8], b: &[u8]) -> bool
+    ensures { λ r. ⌜ r ≡ same (now (a .entry)) (now (b .entry)) ⌝ }
 {
-    cells::same(&a, &b)
+    cells::same(a, b)
 }

@@ -9,7 +9,8 @@ use native.Mathlib.Omega.{arith}
 use borrow.Author.Tests.{le-leb, lt-leb}
 use lib.ListN.{take}
 use Rattle.cells.specs.Runs.{same}
-use Rattle.hmac.specs.Hmac.{hmacSha512}
+use Rattle.hashes.specs.declared.Hash.{Hash}
+use Rattle.hmac.specs.Hmac.{hmacOf}
 use Rattle.armor.specs.declared.Answer.{Answer}
 use Rattle.armor.specs.declared.Request.{Request as ArmorRequest}
 use Rattle.armor.specs.Value.{Field, grammar, carried}
@@ -34,7 +35,7 @@ use Rattle.stages.specs.declared.settling.Decision.{Decision}
 use Rattle.stages.specs.Request.{Request}
 use Rattle.stages.specs.Checks.{first, missing, nowhere}
 use Rattle.table.specs.Session.{placeOf, heldAt}
-use Rattle.stages.specs.Parts.{fieldsOf, ivOf, nonceOf, timeOf, lastTimeOf, signatureOf, openedOf, tokenOf, limits, textOf, codeOf, ordered, stepped, nextOf, tokenPart, signaturePart, vouchingPart, sessionPart, noncePart, admittingPart}
+use Rattle.stages.specs.Parts.{fieldsOf, ivOf, hashOf, nonceOf, timeOf, lastTimeOf, signatureOf, openedOf, tokenOf, limits, textOf, codeOf, ordered, keepsHash, stepped, nextOf, tokenPart, signaturePart, vouchingPart, sessionPart, noncePart, admittingPart}
 use Rattle.stages.specs.InnerStages.{tells, decisionOf, About, Vouches, StandsAt, Admits, Settles}
 use Rattle.stages.proofs.Checks.{passed-by, stopped-by}
 use Rattle.stages.proofs.Parts.{vouching-numbered}
@@ -103,17 +104,17 @@ module _ (q : Request) (r : ArmorRequest) (h : Holds (q .value) (carried (q .val
     lapsed late =
         record { is = simp (sym (opens .is) ∙ good, ← (held .expiry), le-leb (u .expiry .0) (q .clock) late); holds = λ z. held }
 
-    module _ (lasts : q .clock < u .expiry .0) (code : List ℕ)
-        (made : code ≡ hmacSha512 (u .key) (requestText (q .orders .numbers .mask) (q .orders .extra) (r .n .0) (r .t .0) (r .lt .0) (q .aside) (q .head) (q .path) (q .body))) where
-      compared : first (vouchingPart q) ≡ cond (not (same (r .c) code)) 11 0
+    module _ (lasts : q .clock < u .expiry .0) (hash : Hash) (named : hashOf q ≡ hash) (code : List ℕ)
+        (made : code ≡ hmacOf hash (u .key) (requestText hash (q .orders .numbers .mask) (q .orders .extra) (r .n .0) (r .t .0) (r .lt .0) (q .aside) (q .head) (q .path) (q .body))) where
+      compared : first (vouchingPart q) ≡ cond (not (same (take (r .«c_len») (r .c)) code)) 11 0
       unfolding tokenPart signaturePart signatureOf codeOf textOf nonceOf timeOf lastTimeOf fieldsOf
       compared =
-          simp (sym (opens .is) ∙ good, ← (held .expiry), lt-leb (u .expiry .0) (q .clock) lasts, ← (held .key), ← (h .signature), ← (h .nonce), ← (h .time), ← (h .last-time), ← made)
+          simp (sym (opens .is) ∙ good, ← (held .expiry), lt-leb (u .expiry .0) (q .clock) lasts, ← (held .key), named, ← (h .signature), ← (h .nonce), ← (h .time), ← (h .last-time), ← made)
 
-      pub unsigned : same (r .c) code ≡ false → Vouches q (record { number = 11; token = u })
+      pub unsigned : same (take (r .«c_len») (r .c)) code ≡ false → Vouches q (record { number = 11; token = u })
       unsigned z = record { is = sym (compared ∙ simp z); holds = λ n. held }
 
-      pub vouched : same (r .c) code ≡ true → Vouches q (record { number = 0; token = u })
+      pub vouched : same (take (r .«c_len») (r .c)) code ≡ true → Vouches q (record { number = 0; token = u })
       vouched z = record { is = sym (compared ∙ simp z); holds = λ n. held }
 
 module _ (q : Request) (table : List ℕ) where
@@ -130,9 +131,10 @@ module _ (q : Request) (table : List ℕ) where
     unfolding nextOf
     next-held answer w next a b c = rw (← a, ← b, ← held-there) c
 
-  -- a session that is there, neither idle nor asked too late
+  -- a session that is there and keeps the request's hash, neither idle nor asked too late
   pub record InTime : Type 0 where
     pub there : nowhere (placeOf table (ivOf q)) ≡ false
+    pub kept : keepsHash q table ≡ true
     pub active : exceeds (timeOf q) (lastTimeOf q) (limits q .idle) ≡ false
     pub young : exceeds (q .clock) (timeOf q) (limits q .«request_life») ≡ false
 
@@ -141,38 +143,39 @@ module _ (q : Request) (table : List ℕ) where
 
   pub window-first : InTime → ordered q ≡ true → (v : Verdict) → stepped q table .verdict ≡ v → first (admittingPart q table) ≡ numberOf v
   unfolding sessionPart noncePart
-  window-first i o Accepted e = simp (i .there, i .active, i .young, o, e)
-  window-first i o TooOld e = simp (i .there, i .active, i .young, o, e)
-  window-first i o Seen e = simp (i .there, i .active, i .young, o, e)
+  window-first i o Accepted e = simp (i .there, i .kept, i .active, i .young, o, e)
+  window-first i o TooOld e = simp (i .there, i .kept, i .active, i .young, o, e)
+  window-first i o Seen e = simp (i .there, i .kept, i .active, i .young, o, e)
 
   pub unordered-first : InTime → ordered q ≡ false → first (admittingPart q table) ≡ 0
   unfolding sessionPart noncePart
-  unordered-first i o = simp (i .there, i .active, i .young, o)
+  unordered-first i o = simp (i .there, i .kept, i .active, i .young, o)
 
 tells-nine : (n : ℕ) → tells n ≡ true → n ≡ 9 → ⊥
 tells-nine n t e = true≢false (sym t ∙ ap tells e)
 
-about-token : (token : Token) (u : Unsealed) (number : ℕ) (place : Place) (nonces : Bool) (next : Record) → IsToken token u
-    → About token (decisionOf number place u nonces next)
-about-token token u number place nonces next h = record { key = h .key; id = h .id; id-size = h .id-size; id-fits = h .id-fits }
+about-token : (token : Token) (u : Unsealed) (number : ℕ) (place : Place) (hash : Hash) (nonces : Bool) (next : Record) → IsToken token u
+    → About token hash (decisionOf number place u hash nonces next)
+about-token token u number place hash nonces next h =
+    record { key = h .key; id = h .id; id-size = h .id-size; id-fits = h .id-fits; hash = refl }
 
 module _ (q : Request) (table : List ℕ) (place : Place) (held : Record) (s : StandsAt q table place held) (v : Vouched) (h : Vouches q v) (d : Decision) where
   -- a request that the token or the signature does not vouch for
-  pub settled-away : (v .number ≡ 0 → ⊥) → d ≡ decisionOf (v .number) place (v .token) false held → Settles q table d
+  pub settled-away : (v .number ≡ 0 → ⊥) → d ≡ decisionOf (v .number) place (v .token) (hashOf q) false held → Settles q table d
   settled-away z e = subst (Settles q table) (sym e) (record {
     is = h .is ∙ sym (stopped-by (vouchingPart q) (admittingPart q table) (vouching-numbered q) (λ o. z (h .is ∙ o)));
-    knows = λ t. about-token _ (v .token) (v .number) place false held (h .holds (tells-nine (v .number) t));
+    knows = λ t. about-token _ (v .token) (v .number) place (hashOf q) false held (h .holds (tells-nine (v .number) t));
     at = sym (s .at);
     orders = λ n. absurd (z n);
     next = λ n o. absurd (z n);
   })
 
   -- one that they vouch for is as its session admits it
-  pub settled-here : (a : Admitted) → v .number ≡ 0 → Admits q table a → d ≡ decisionOf (a .number) place (v .token) (ordered q) (a .next)
+  pub settled-here : (a : Admitted) → v .number ≡ 0 → Admits q table a → d ≡ decisionOf (a .number) place (v .token) (hashOf q) (ordered q) (a .next)
       → Settles q table d
   settled-here a z g e = subst (Settles q table) (sym e) (record {
     is = g .is ∙ sym (passed-by (vouchingPart q) (admittingPart q table) (vouching-numbered q) (sym (h .is) ∙ z));
-    knows = λ t. about-token _ (v .token) (a .number) place (ordered q) (a .next) (h .holds (λ n. omega arith));
+    knows = λ t. about-token _ (v .token) (a .number) place (hashOf q) (ordered q) (a .next) (h .holds (λ n. omega arith));
     at = sym (s .at);
     orders = λ n. refl;
     next = g .next;

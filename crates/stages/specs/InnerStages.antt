@@ -7,6 +7,7 @@ use mathlib.Core.List.{List, _++_}
 use Prim.Native.Nat.{ℕ, _≤_}
 use lib.Dec.{eqb}
 use lib.ListN.{length, take}
+use Rattle.hashes.specs.declared.Hash.{Hash}
 use Rattle.armor.specs.Value.{carried}
 use Rattle.armor.specs.InnerAnswers.{Holds}
 use Rattle.armor.specs.declared.Request.{Request as ArmorRequest}
@@ -24,7 +25,7 @@ use Rattle.stages.specs.declared.settling.Decision.{Decision}
 use Rattle.stages.specs.Request.{Request, requestOf}
 use Rattle.stages.specs.Checks.{first, nowhere}
 use Rattle.table.specs.Session.{placeOf, heldAt}
-use Rattle.stages.specs.Parts.{ivOf, nonceOf, timeOf, lastTimeOf, tokenOf, limits, ordered, nextOf, coveringPart, readingPart, vouchingPart, admittingPart, invalidates}
+use Rattle.stages.specs.Parts.{ivOf, hashOf, nonceOf, timeOf, lastTimeOf, tokenOf, limits, ordered, nextOf, coveringPart, readingPart, vouchingPart, admittingPart, invalidates}
 
 -- 6 to 8
 abbrev pub CoversIs : Orders → List ℕ → List ℕ → List ℕ → ℕ → Type 0
@@ -45,9 +46,11 @@ pub record Vouches (q : Request) (r : Vouched) : Type 0 where
   pub is : r .number ≡ first (vouchingPart q)
   pub holds : (r .number ≡ 9 → ⊥) → IsToken (tokenOf q) (r .token)
 
-abbrev pub VouchIs : Orders → ℕ → List ℕ → ArmorRequest → List ℕ → List ℕ → List ℕ → List ℕ → Vouched → Type 0
-VouchIs o clock server-key request head aside path body r =
-    (value reply : List ℕ) → Holds value (carried value) request → Vouches (requestOf o clock server-key value head aside path body reply) r
+abbrev pub VouchIs : Orders → ℕ → List ℕ → ArmorRequest → Hash → List ℕ → List ℕ → List ℕ → List ℕ → Vouched → Type 0
+VouchIs o clock server-key request hash head aside path body r =
+    (value reply : List ℕ)
+    → let q = requestOf o clock server-key value head aside path body reply in
+    Holds value (carried value) request → hashOf q ≡ hash → Vouches q r
 
 -- 12 to 16: the number, and where it is 0 and nonces are ordered the next record
 pub record Admits (q : Request) (table : List ℕ) (r : Admitted) : Type 0 where
@@ -60,44 +63,47 @@ pub record StandsAt (q : Request) (table : List ℕ) (place : Place) (held : Rec
   pub holds : nowhere place ≡ false → heldAt table place ≡ held
 
 -- what admitting is asked, of any request that asks it
-pub record Asks (q : Request) (now' t' lt' : ℕ) (limits' : Limits) (nonces' : Bool) (n' : ℕ) : Type 0 where
+pub record Asks (q : Request) (now' t' lt' : ℕ) (limits' : Limits) (hash' : Hash) (nonces' : Bool) (n' : ℕ) : Type 0 where
   pub clock : q .clock ≡ now'
   pub t : timeOf q ≡ t'
   pub lt : lastTimeOf q ≡ lt'
   pub within : limits q ≡ limits'
+  pub hash : hashOf q ≡ hash'
   pub nonces : ordered q ≡ nonces'
   pub n : nonceOf q ≡ n'
 
-abbrev pub AdmitIs : Place → Record → ℕ → ℕ → ℕ → Limits → Bool → ℕ → Admitted → Type 0
-AdmitIs place held clock t lt within nonces n r =
-    (q : Request) (table : List ℕ) → StandsAt q table place held → Asks q clock t lt within nonces n → Admits q table r
+abbrev pub AdmitIs : Place → Record → ℕ → ℕ → ℕ → Limits → Hash → Bool → ℕ → Admitted → Type 0
+AdmitIs place held clock t lt within hash nonces n r =
+    (q : Request) (table : List ℕ) → StandsAt q table place held → Asks q clock t lt within hash nonces n → Admits q table r
 
 -- a number whose effect needs the session: 0, 10 and 13
 abbrev pub tells : ℕ → Bool
 tells n = eqb n 0 || invalidates n
 
-abbrev pub decisionOf : ℕ → Place → Unsealed → Bool → Record → Decision
-decisionOf number place token nonces next = record {
+abbrev pub decisionOf : ℕ → Place → Unsealed → Hash → Bool → Record → Decision
+decisionOf number place token hash nonces next = record {
   number = number;
   place = place;
   key = token .key;
   id = token .id;
   «id_len» = token .«id_len»;
+  hash = hash;
   nonces = nonces;
   next = next;
 }
 
--- the token that a decision is about
-pub record About (token : Token) (d : Decision) : Type 0 where
+-- the token and the hash that a decision is about
+pub record About (token : Token) (hash' : Hash) (d : Decision) : Type 0 where
   pub key : d .key ≡ token .key
   pub id : take (d .«id_len») (d .id) ≡ token .id
   pub id-size : d .«id_len» ≡ length (token .id)
   pub id-fits : d .«id_len» ≤ 64
+  pub hash : d .hash ≡ hash'
 
 -- 9 to 16: the number, and where its effect needs them the token, the place and the next record
 pub record Settles (q : Request) (table : List ℕ) (d : Decision) : Type 0 where
   pub is : d .number ≡ first (vouchingPart q ++ admittingPart q table)
-  pub knows : tells (d .number) ≡ true → About (tokenOf q) d
+  pub knows : tells (d .number) ≡ true → About (tokenOf q) (hashOf q) d
   pub at : d .place ≡ placeOf table (ivOf q)
   pub orders : d .number ≡ 0 → d .nonces ≡ ordered q
   pub next : d .number ≡ 0 → ordered q ≡ true → d .next ≡ nextOf q table

@@ -8,8 +8,11 @@ use Prim.Native.Nat.{ℕ}
 use lib.Dec.{eqb, leb}
 use Rattle.cells.specs.Runs.{same}
 use Rattle.cells.specs.Numbers.{number}
-use Rattle.hmac.specs.Hmac.{hmacSha512}
-use Rattle.armor.specs.Keys.{keyS, keyC, keyT, keyLt, keyN, keyIv, keyTag}
+use Rattle.hashes.specs.declared.Hash.{Hash}
+use Rattle.hashes.specs.Hashes.{hashMask, named}
+use Rattle.hmac.specs.Hmac.{hmacOf}
+use Rattle.armor.specs.Numerals.{maskOf}
+use Rattle.armor.specs.Keys.{keyS, keyC, keyT, keyLt, keyN, keyH, keyIv, keyTag}
 use Rattle.armor.specs.Value.{Field, grammar, carried}
 use Rattle.armor.specs.Fields.{the, requestFields}
 use Rattle.names.specs.Covered.{coveredNames}
@@ -45,6 +48,10 @@ timeOf q = number (the keyT (fieldsOf q))
 unfoldable pub lastTimeOf : Request → ℕ
 lastTimeOf q = number (the keyLt (fieldsOf q))
 
+-- the hash that its h names
+unfoldable pub hashOf : Request → Hash
+hashOf q = named (maskOf (the keyH (fieldsOf q)))
+
 unfoldable pub signatureOf : Request → List ℕ
 signatureOf q = the keyC (fieldsOf q)
 
@@ -60,11 +67,11 @@ limits q = limitsOf (q .orders)
 
 unfoldable pub textOf : Request → List ℕ
 textOf q =
-    requestText (q .orders .numbers .mask) (q .orders .extra) (nonceOf q) (timeOf q) (lastTimeOf q) (q .aside) (q .head) (q .path) (q .body)
+    requestText (hashOf q) (q .orders .numbers .mask) (q .orders .extra) (nonceOf q) (timeOf q) (lastTimeOf q) (q .aside) (q .head) (q .path) (q .body)
 
 -- what its signature must be
 unfoldable pub codeOf : Request → List ℕ
-codeOf q = hmacSha512 (tokenOf q .key) (textOf q)
+codeOf q = hmacOf (hashOf q) (tokenOf q .key) (textOf q)
 
 -- the names that the orders cover, and whether one stands twice in a block
 unfoldable pub twice : Request → List ℕ → Bool
@@ -87,7 +94,7 @@ unfoldable pub coveringPart : Request → List Check
 coveringPart q =
     check 6 (not (goodBlock (q .head) && goodBlock (q .aside)))
     ∷ check 7 (twice q (q .head) || twice q (q .aside))
-    ∷ check 8 (not (asOrdered (q .orders .numbers .mask) (q .orders .extra) (fieldsOf q)))
+    ∷ check 8 (not (asOrdered (q .orders .numbers .hashes) (q .orders .numbers .mask) (q .orders .extra) (fieldsOf q)))
     ∷ []
 
 -- 4 to 8: what the request says
@@ -112,10 +119,15 @@ signaturePart q = check 11 (not (same (signatureOf q) (codeOf q))) ∷ []
 abbrev pub vouchingPart : Request → List Check
 vouchingPart q = tokenPart q ++ signaturePart q
 
--- 12 to 14: the session
+-- whether the session's record keeps the request's hash
+abbrev pub keepsHash : Request → List ℕ → Bool
+keepsHash q table = eqb (heldAt table (placeOf table (ivOf q)) .hash) (hashMask (hashOf q))
+
+-- 12, 8 against the record, 13 and 14: the session
 unfoldable pub sessionPart : Request → List ℕ → List Check
 sessionPart q table =
     check 12 (nowhere (placeOf table (ivOf q)))
+    ∷ check 8 (not (keepsHash q table))
     ∷ check 13 (exceeds (timeOf q) (lastTimeOf q) (limits q .idle))
     ∷ check 14 (exceeds (q .clock) (timeOf q) (limits q .«request_life»))
     ∷ []

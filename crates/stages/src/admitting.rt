@@ -1,6 +1,7 @@
-// Whether the request's session admits it: checks 12 to 16, over the session's record.
+// Whether the request's session admits it: checks 12, 8 against the record, and 13 to 16.
 ghost use mathlib.Core.Path.{_≡_};
 ghost use Rattle.stages.specs.InnerStages.{AdmitIs};
+use hashes::Hash;
 use orders::Limits;
 use table::place::Place;
 use table::session::Record;
@@ -22,14 +23,18 @@ pub fn admit(
     t: Time,
     lt: Time,
     limits: Limits,
+    hash: Hash,
     ordered: bool,
     n: Nonce,
 ) -> Admitted
-    ensures { λ r. ⌜ AdmitIs place held (clock .0) (t .0) (lt .0) limits ordered (n .0) r ⌝ }
+    ensures { λ r. ⌜ AdmitIs place held (clock .0) (t .0) (lt .0) limits hash ordered (n .0) r ⌝ }
 {
     let Place::At(_) = place else {
         return as_it_was(12, held);
     };
+    if held.hash as u64 != hashes::mask(hash) {
+        return as_it_was(8, held);
+    }
     if time::idle(t, lt, limits.idle) {
         return as_it_was(13, held);
     }

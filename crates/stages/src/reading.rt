@@ -64,7 +64,7 @@ fn compare(
     if lines::repeats(known, mask, extra, head) | lines::repeats(known, mask, extra, aside) {
         return 7;
     }
-    if !coverage::as_ordered(value, request, mask, extra) {
+    if !coverage::as_ordered(value, request, numbers.hashes, mask, extra) {
         return 8;
     }
     0

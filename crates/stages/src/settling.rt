@@ -11,6 +11,7 @@ ghost use Rattle.stages.specs.InnerStages.{SettleIs, decisionOf};
 use super::admitting;
 use super::vouching;
 use armor::Request;
+use hashes::Hash;
 use orders::Limits;
 use orders::Numbers;
 use table::place::Place;
@@ -19,13 +20,14 @@ use table::session::Record;
 use token::Unsealed;
 use window::time::Time;
 
-// The number, and what its effect needs: the session's place, key and id, and where nonces are ordered its next record.
+// The number, and what its effect needs: the session's place, key, id and hash, and where nonces are ordered its next record.
 pub struct Decision {
     pub number: u32,
     pub place: Place,
     pub key: [u8; 32],
     pub id: [u8; 64],
     pub id_len: usize,
+    pub hash: Hash,
     pub nonces: bool,
     pub next: Record,
 }
@@ -45,9 +47,10 @@ pub fn settle<'a>(
     place: Place,
     held: Record,
 ) -> Decision
-    requires { ⌜ Known (now known) × (goodExtra (now extra) ≡ true) × (length (now «server_key») ≡ 32) × (request .«s_len» ≤ 118) × (length (now head) ≤ 16384) × (length (now aside) ≤ 16384) × (length (now path) ≤ 2048) × (length (now body) ≤ 65536) ⌝ }
+    requires { ⌜ Known (now known) × (goodExtra (now extra) ≡ true) × (length (now «server_key») ≡ 32) × (request .«s_len» ≤ 118) × (request .«c_len» ≤ 64) × (length (now head) ≤ 16384) × (length (now aside) ≤ 16384) × (length (now path) ≤ 2048) × (length (now body) ≤ 65536) ⌝ }
     ensures { λ r. ⌜ SettleIs (orders numbers (now (extra .entry))) (clock .0) (now («server_key» .entry)) request limits (now (head .entry)) (now (aside .entry)) (now (path .entry)) (now (body .entry)) place held r ⌝ }
 {
+    let hash = hashes::named(request.h);
     let vouched = vouching::vouch(
         known,
         numbers,
@@ -55,6 +58,7 @@ pub fn settle<'a>(
         clock,
         server_key,
         request,
+        hash,
         head,
         aside,
         path,
@@ -62,18 +66,25 @@ pub fn settle<'a>(
     );
     let token = vouched.token;
     if vouched.number != 0 {
-        return decided(vouched.number, place, token, false, held);
+        return decided(vouched.number, place, token, hash, false, held);
     }
     let t = request.t;
     let lt = request.lt;
     let n = request.n;
     let ordered = numbers.mask % 2 == 1;
-    let admitted = admitting::admit(place, held, clock, t, lt, limits, ordered, n);
-    decided(admitted.number, place, token, ordered, admitted.next)
+    let admitted = admitting::admit(place, held, clock, t, lt, limits, hash, ordered, n);
+    decided(admitted.number, place, token, hash, ordered, admitted.next)
 }
 
-fn decided(number: u32, place: Place, token: Unsealed, nonces: bool, next: Record) -> Decision
-    ensures { λ r. ⌜ r ≡ decisionOf number place token nonces next ⌝ }
+fn decided(
+    number: u32,
+    place: Place,
+    token: Unsealed,
+    hash: Hash,
+    nonces: bool,
+    next: Record,
+) -> Decision
+    ensures { λ r. ⌜ r ≡ decisionOf number place token hash nonces next ⌝ }
 {
     let key = token.key;
     let id = token.id;
@@ -83,6 +94,7 @@ fn decided(number: u32, place: Place, token: Unsealed, nonces: bool, next: Recor
         key,
         id,
         id_len: token.id_len,
+        hash,
         nonces,
         next,
     }
@@ -98,6 +110,7 @@ pub fn refused(number: u32) -> Decision
         key: [0u8; 32],
         id: [0u8; 64],
         id_len: 0,
+        hash: Hash::Sha512,
         nonces: false,
         next: session::freed(),
     }

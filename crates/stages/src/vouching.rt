@@ -8,6 +8,7 @@ ghost use Rattle.names.specs.InnerWalk.{Known};
 ghost use Rattle.orders.specs.Orders.{orders};
 ghost use Rattle.stages.specs.InnerStages.{VouchIs};
 use armor::Request;
+use hashes::Hash;
 use orders::Numbers;
 use token::Unsealed;
 use window::time::Time;
@@ -25,13 +26,14 @@ pub fn vouch<'a>(
     clock: Time,
     server_key: &[u8],
     request: Request,
+    hash: Hash,
     head: &'a [u8],
     aside: &'a [u8],
     path: &[u8],
     body: &[u8],
 ) -> Vouched
-    requires { ⌜ Known (now known) × (goodExtra (now extra) ≡ true) × (length (now «server_key») ≡ 32) × (request .«s_len» ≤ 118) × (length (now head) ≤ 16384) × (length (now aside) ≤ 16384) × (length (now path) ≤ 2048) × (length (now body) ≤ 65536) ⌝ }
-    ensures { λ r. ⌜ VouchIs (orders numbers (now (extra .entry))) (clock .0) (now («server_key» .entry)) request (now (head .entry)) (now (aside .entry)) (now (path .entry)) (now (body .entry)) r ⌝ }
+    requires { ⌜ Known (now known) × (goodExtra (now extra) ≡ true) × (length (now «server_key») ≡ 32) × (request .«s_len» ≤ 118) × (request .«c_len» ≤ 64) × (length (now head) ≤ 16384) × (length (now aside) ≤ 16384) × (length (now path) ≤ 2048) × (length (now body) ≤ 65536) ⌝ }
+    ensures { λ r. ⌜ VouchIs (orders numbers (now (extra .entry))) (clock .0) (now («server_key» .entry)) request hash (now (head .entry)) (now (aside .entry)) (now (path .entry)) (now (body .entry)) r ⌝ }
 {
     let iv = request.iv;
     let s = request.s;
@@ -52,6 +54,7 @@ pub fn vouch<'a>(
     let code = signed::code(
         known,
         &key,
+        hash,
         numbers.mask,
         extra,
         n,
@@ -63,7 +66,9 @@ pub fn vouch<'a>(
         body,
     );
     let c = request.c;
-    if !signed::same_code(c, code) {
+    let c_len = request.c_len;
+    let size = hashes::size(hash);
+    if !signed::same_code(&c[..c_len], &code[..size]) {
         return Vouched { number: 11, token };
     }
     Vouched { number: 0, token }

@@ -4,6 +4,7 @@ from faults import (  # noqa: F401  (each enters its faults as it is read)
     coverage,
     fields,
     grammar,
+    hashes,
     lines,
     orders,
     sealed,

@@ -5,6 +5,8 @@ Number 0 marks an edge: something odd that 01 nevertheless accepts.
 
 from typing import Callable, NamedTuple
 
+import hashing
+
 REQUEST = ("judge", "one")
 VALUED = ("judge", "one", "setup")
 TABLED = ("judge", "setup", "end")
@@ -20,17 +22,22 @@ class Fault(NamedTuple):
     needs: Callable
     alter: Callable
     long: bool  # its runs are so long that it isn't worth pairing
+    late: bool  # 8 against the record, which comes after 12
+
+    @property
+    def check(self):
+        return self.number, self.late
 
 
 def nothing(draft):
     """What most faults need."""
 
 
-def fault(name, number, at, on=REQUEST, needs=nothing, long=False):
+def fault(name, number, at, on=REQUEST, needs=nothing, long=False, late=False):
     """Enter the decorated function, which alters a draft by chance of the generator given, into the catalogue."""
 
     def enter(alter):
-        CATALOGUE.append(Fault(name, number, at, on, needs, alter, long))
+        CATALOGUE.append(Fault(name, number, at, on, needs, alter, long, late))
         return alter
 
     return enter
@@ -53,6 +60,21 @@ def extras(draft):
 
 def no_extras(draft):
     draft.order_extra(b"")
+
+
+def both_hashes(draft):
+    draft.order(hashes=hashing.BOTH)
+
+
+def sha_256(draft):
+    """A session of SHA-256, where both are allowed."""
+    both_hashes(draft)
+    draft.hashed(hashing.SHA_256)
+
+
+def sha_512(draft):
+    both_hashes(draft)
+    draft.hashed(hashing.SHA_512)
 
 
 def short_id(draft):

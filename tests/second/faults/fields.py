@@ -64,6 +64,7 @@ def further(name, key, contents, on=VALUED):
 further("kh of 32 bytes", b"kh", bytes(32))
 further("kh of one byte", b"kh", b"\0")
 further("i", b"i", bytes(64))
+further("c of 32 bytes", b"c", bytes(32))
 further("x", b"x", b"\1\2\3")
 further("r", b"r", b"\1\4")
 further("eah in a setup", b"eah", b"X-Farm", ("setup",))

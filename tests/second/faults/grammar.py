@@ -118,7 +118,7 @@ def padded_piece(draft, rng, pads):
 def padding_of_length(draft):
     """Let a setup's r too be four bytes, whose text ends in two pads."""
     if draft.kind == "setup":
-        draft.offer = b"\3\1\0\4"
+        draft.offer = b"\3\1\0\5"
 
 
 @fault("base64: padding left out of a field", 4, "pieces", VALUED)
@@ -246,7 +246,7 @@ def lengthened(run, length):
     return (run + bytes(length))[:length]
 
 
-BAD_LENGTHS = {b"c": (1, 32, 63, 65, 128), b"iv": (1, 8, 11, 13, 16), b"tag": (1, 4, 12, 15, 17), b"s": (119, 120, 374)}
+BAD_LENGTHS = {b"c": (1, 20, 31, 33, 48, 63, 65, 128), b"iv": (1, 8, 11, 13, 16), b"tag": (1, 4, 12, 15, 17), b"s": (119, 120, 374)}
 
 for sized_key, bad_lengths in BAD_LENGTHS.items():
     for bad_length in bad_lengths:
@@ -265,7 +265,7 @@ BAD_CONTENTS = {
     b"h": b"\2\0\4",
     b"ah": b"\0",
     b"r": b"\2\4",
-    b"c": bytes(63),
+    b"c": bytes(48),
     b"iv": bytes(13),
     b"tag": bytes(15),
     b"s": bytes(119),

@@ -1,5 +1,6 @@
 """Refusal 2 and its edges: orders. The request follows them, however bad, so that a lax gate would accept it."""
 
+import hashing
 import model
 from faults.catalogue import REQUEST, VALUED, each_32_but, fault
 
@@ -110,6 +111,21 @@ def mask_zero(draft, rng):
 @fault("mask of one bit", 0, "plan", VALUED)
 def mask_single_bit(draft, rng):
     draft.order(mask=1 << rng.randint(0, 55))
+
+
+for bad_hashes in (0, 2, 3, 6, 7, 8, 9, 12, 13, 255, 256, 260, 1 << 32, 1 << 32 | 5, 1 << 63, 1 << 63 | 4, (1 << 64) - 1):
+
+    @fault(f"hashes {bad_hashes}", 2, "plan", VALUED)
+    def hashes_bad(draft, rng, hashes=bad_hashes):
+        draft.order(hashes=hashes)
+
+
+for good_hashes in (hashing.SHA_256, hashing.SHA_512, hashing.BOTH):
+
+    @fault(f"hashes {good_hashes}", 0, "plan", VALUED)
+    def hashes_good(draft, rng, hashes=good_hashes):
+        draft.order(hashes=hashes)
+        draft.hashed(hashing.longest(hashes))
 
 
 @fault("longest setup reply, 459 bytes", 0, "plan", ("setup",))

@@ -1,6 +1,7 @@
 """Refusals 12 and 17 to 20 and their edges: records missing, taken, full or reused; a setup's offer and its expiry."""
 
 import client
+import hashing
 import model
 import record as rec
 from faults.catalogue import REQUEST, fault
@@ -59,29 +60,39 @@ def expired_to_end(draft, rng):
     draft.put(draft.place, draft.own()._replace(expiry=0))
 
 
-# 19: 'client's mask lacks SHA-512'
+# 19: 'no hash in common'. A client's mask, and those of the allowed ones with which it has one in common
 
+OFFERS = {
+    b"\1\0": (),
+    b"\1\1": (1, 5),
+    b"\1\2": (),
+    b"\1\3": (1, 5),
+    b"\1\4": (4, 5),
+    b"\1\5": (1, 4, 5),
+    b"\1\6": (4, 5),
+    b"\1\xfa": (),
+    b"\1\xfb": (1, 5),
+    b"\1\xfe": (4, 5),
+    b"\1\xff": (1, 4, 5),
+    b"\2\1\0": (),
+    b"\2\4\0": (),
+    b"\2\1\4": (4, 5),
+    b"\2\4\1": (1, 5),
+    b"\x08\5" + bytes(7): (),
+    b"\x08" + b"\xff" * 7 + b"\xfa": (),
+    b"\x08" + b"\xff" * 8: (1, 4, 5),
+    b"\x08\x80\0\0\0\0\0\0\1": (1, 5),
+    b"\x08\x80\0\0\0\0\0\0\4": (4, 5),
+}
 
-def offer(name, number, run):
-    @fault(f"offer {name}", number, "plan", ("setup",))
-    def alter(draft, rng):
-        draft.offer = run
+for offer_run, in_common in OFFERS.items():
+    for allowed_hashes in (hashing.SHA_256, hashing.SHA_512, hashing.BOTH):
+        offer_number = 0 if allowed_hashes in in_common else 19
 
-
-offer("0", 19, b"\1\0")
-offer("1", 19, b"\1\1")
-offer("3", 19, b"\1\3")
-offer("251", 19, b"\1\xfb")
-offer("1024, SHA-512 read from the wrong end", 19, b"\2\4\0")
-offer("all bits but SHA-512", 19, b"\x08" + b"\xff" * 7 + b"\xfb")
-offer("4 in the top byte of eight", 19, b"\x08\4" + bytes(7))
-offer("4", 0, b"\1\4")
-offer("5", 0, b"\1\5")
-offer("7", 0, b"\1\7")
-offer("255", 0, b"\1\xff")
-offer("260", 0, b"\2\1\4")
-offer("all 64 bits", 0, b"\x08" + b"\xff" * 8)
-offer("the top bit and SHA-512", 0, b"\x08\x80\0\0\0\0\0\0\4")
+        @fault(f"offer {offer_run.hex()} where {allowed_hashes} is allowed", offer_number, "plan", ("setup",))
+        def offer(draft, rng, run=offer_run, allowed=allowed_hashes):
+            draft.offer = run
+            draft.order(hashes=allowed)
 
 
 # 20: 'expiry would pass 4,294,967,295'
@@ -116,7 +127,7 @@ def used_iv(draft, rng):
 
 @fault("setup with the IV of an expired record", 17, "plan", ("setup",))
 def expired_iv(draft, rng):
-    draft.put(draft.spare(), rec.Record(1, draft.iv, 0, 1, 9, 5))
+    draft.put(draft.spare(), rec.Record(1, draft.iv, 0, 1, 9, 5, hashing.SHA_512))
 
 
 @fault("setup with a used IV in a full table", 17, "plan", ("setup",))
@@ -145,7 +156,8 @@ def near_iv(draft, rng):
 
 def full(draft, rng, expiries):
     """A table with no free record and these expiries."""
-    draft.table = rec.table_of([rec.Record(1, rng.randbytes(12), expiry, 1, 70, 3) for expiry in expiries])
+    known = list(hashing.FUNCTIONS)
+    draft.table = rec.table_of([rec.Record(1, rng.randbytes(12), expiry, 1, 70, 3, rng.choice(known)) for expiry in expiries])
 
 
 def full_table(name, number, expiries):
@@ -185,4 +197,4 @@ def last_free(draft, rng):
 
 @fault("offer in a value with a closing semicolon", 0, "value", ("setup",))
 def closing_semicolon(draft, rng):
-    draft.value = client.setup_value(rng.choice([4, 6, 0xFF04])) + b";"
+    draft.value = client.setup_value(rng.choice([5, 7, 0xFF05])) + b";"

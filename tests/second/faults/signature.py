@@ -4,8 +4,8 @@ import base64
 import hashlib
 import hmac
 
-import client
-from faults.catalogue import fault, no_extras, no_nonces, nonces
+import hashing
+from faults.catalogue import fault, no_extras, no_nonces, nonces, nothing, sha_256, sha_512
 
 # c itself
 
@@ -25,27 +25,39 @@ other_c("first byte altered", lambda c: inverted(c[:1]) + c[1:])
 other_c("last byte altered", lambda c: c[:-1] + inverted(c[-1:]))
 other_c("lowest bit of the last byte altered", lambda c: c[:-1] + bytes([c[-1] ^ 1]))
 other_c("top bit of byte 31 altered", lambda c: c[:31] + bytes([c[31] ^ 0x80]) + c[32:])
-other_c("only the first 32 bytes right", lambda c: c[:32] + inverted(c[32:]))
-other_c("only the last 32 bytes right", lambda c: inverted(c[:32]) + c[32:])
+other_c("only the first half right", lambda c: c[:len(c) // 2] + inverted(c[len(c) // 2:]))
+other_c("only the last half right", lambda c: inverted(c[:len(c) // 2]) + c[len(c) // 2:])
 other_c("only the first byte right", lambda c: c[:1] + inverted(c[1:]))
-other_c("zeros", lambda c: bytes(64))
+other_c("zeros", lambda c: bytes(len(c)))
 other_c("bytes turned round", lambda c: c[::-1])
 
 
-def other_signing(name, sign):
-    @fault(f"signed with {name}", 11, "signed")
+def in_longer_blocks(key, text):
+    """HMAC-SHA-256 with blocks of 128 bytes."""
+    block = key + bytes(128 - len(key))
+    inner, outer = (bytes(byte ^ pad for byte in block) for pad in (0x36, 0x5C))
+    return hashlib.sha256(outer + hashlib.sha256(inner + text).digest()).digest()
+
+
+def other_signing(name, sign, needs=nothing):
+    @fault(f"signed with {name}", 11, "signed", needs=needs)
     def alter(draft, rng):
         draft.set_field(b"c", sign(draft))
 
 
-other_signing("another key", lambda d: client.signature(bytes(32), d.text))
-other_signing("the server key", lambda d: client.signature(d.server_key, d.text))
-other_signing("the key's base64", lambda d: client.signature(base64.b64encode(d.key), d.text))
-other_signing("the session id", lambda d: client.signature(d.session_id, d.text))
-other_signing("the plain hash", lambda d: hashlib.sha512(d.key + d.text).digest())
-other_signing("SHA3-512", lambda d: hmac.digest(d.key, d.text, "sha3_512"))
-other_signing("BLAKE2b", lambda d: hmac.digest(d.key, d.text, "blake2b"))
-other_signing("SHA-256 twice over", lambda d: 2 * hmac.digest(d.key, d.text, "sha256"))
+other_signing("another key", lambda d: d.code(bytes(32), d.text))
+other_signing("the server key", lambda d: d.code(d.server_key, d.text))
+other_signing("the key's base64", lambda d: d.code(base64.b64encode(d.key), d.text))
+other_signing("the session id", lambda d: d.code(d.session_id, d.text))
+other_signing("the plain hash", lambda d: hashing.FUNCTIONS[d.hash](d.key + d.text).digest())
+other_signing("SHA3-512", lambda d: hmac.digest(d.key, d.text, "sha3_512"), sha_512)
+other_signing("BLAKE2b", lambda d: hmac.digest(d.key, d.text, "blake2b"), sha_512)
+other_signing("SHA-256 twice over", lambda d: 2 * hmac.digest(d.key, d.text, "sha256"), sha_512)
+other_signing("SHA-256 and zeros", lambda d: hmac.digest(d.key, d.text, "sha256") + bytes(32), sha_512)
+other_signing("SHA3-256", lambda d: hmac.digest(d.key, d.text, "sha3_256"), sha_256)
+other_signing("BLAKE2s", lambda d: hmac.digest(d.key, d.text, "blake2s"), sha_256)
+other_signing("the first half of SHA-512", lambda d: hmac.digest(d.key, d.text, "sha512")[:32], sha_256)
+other_signing("the key in a block of SHA-512's size", lambda d: in_longer_blocks(d.key, d.text), sha_256)
 
 
 # Altered on the way

@@ -1,5 +1,6 @@
 """Refusal 3 and its edges: tables that aren't well formed. All three calls look at every record."""
 
+import hashing
 import model
 import record as rec
 from faults.catalogue import TABLED, fault
@@ -20,7 +21,7 @@ def elsewhere(name, number, record):
         put_elsewhere(draft, record)
 
 
-USED = rec.Record(1, OTHER_IV, 2_000_000_000, 1, 100, 1)
+USED = rec.Record(1, OTHER_IV, 2_000_000_000, 1, 100, 1, hashing.SHA_512)
 
 elsewhere("used mark 2", 3, USED._replace(used=2))
 elsewhere("used mark 255", 3, USED._replace(used=255))
@@ -41,6 +42,14 @@ elsewhere("no nonce yet, but the top bit", 3, USED._replace(begun=0, highest=0, 
 elsewhere("a nonce, but no bits", 3, USED._replace(bits=0))
 elsewhere("a nonce, but the lowest bit clear", 3, USED._replace(bits=(1 << 64) - 2))
 
+NO_HASH = (0, 2, 3, 5, 6, 8, 65, 132, 255)
+
+for no_hash in NO_HASH:
+    elsewhere(f"used record with hash {no_hash}", 3, USED._replace(hash=no_hash))
+for stray_hash in (1, 4, 128):
+    elsewhere(f"free record with hash {stray_hash}", 3, rec.FREE._replace(hash=stray_hash))
+
+elsewhere("used record with SHA-256", 0, USED._replace(hash=hashing.SHA_256))
 elsewhere("used record with an IV of zeros", 0, USED._replace(iv=bytes(12)))
 elsewhere("used record with expiry 0", 0, USED._replace(expiry=0))
 elsewhere("used record with the last expiry", 0, USED._replace(expiry=model.HIGHEST))
@@ -108,6 +117,8 @@ own_record("nonce mark 2", 3, lambda own: own._replace(begun=2))
 own_record("no nonce yet, but bits", 3, lambda own: own._replace(begun=0, highest=0, bits=1))
 own_record("no nonce yet, but a highest", 3, lambda own: own._replace(begun=0, highest=9, bits=0))
 own_record("lowest bit clear", 3, lambda own: own._replace(begun=1, bits=1 << 63))
+for no_hash in NO_HASH:
+    own_record(f"hash {no_hash}", 3, lambda own, hash=no_hash: own._replace(hash=hash))
 own_record("expiry 0", 0, lambda own: own._replace(expiry=0))
 own_record("last expiry", 0, lambda own: own._replace(expiry=model.HIGHEST))
 

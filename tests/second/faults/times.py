@@ -1,5 +1,6 @@
 """Refusals 10, 13 and 14 and their edges: expiry, idleness and age."""
 
+import hashing
 import model
 import record as rec
 from faults.catalogue import fault
@@ -45,7 +46,7 @@ def expired(draft):
 
 @fault("token expired, wrong signature", 10, "signed", needs=expired)
 def expired_forged(draft, rng):
-    draft.set_field(b"c", bytes(64))
+    draft.set_field(b"c", bytes(hashing.size(draft.hash)))
 
 
 @fault("clock at its end", 10, "plan")

@@ -55,7 +55,7 @@ def cases():
     for key in (bytes(32), b"\xff" * 32):
         yield signed(key=key)
     yield "Sizes: head and set-aside lines 16,384 each; path 1 to 2,048; body 65,536"
-    for size in (2, 111, 112, 127, 128, 129, 2_047, 2_048):
+    for size in (2, 55, 56, 63, 64, 65, 111, 112, 127, 128, 129, 2_047, 2_048):
         yield signed(path=b"p" * size)
     for size in (1, 9, 10, 99, 100, 999, 1_000, 9_999, 10_000, 16_384, 65_535, 65_536):
         yield signed(body=b"\0" * size)

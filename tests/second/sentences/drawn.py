@@ -5,6 +5,7 @@ from itertools import islice
 
 import calls
 import encoding
+import hashing
 import histories
 import model
 from sentences import placing
@@ -37,7 +38,7 @@ def history():
 
 def arguments(asked, *names):
     for call in asked:
-        given = dict(zip(calls.ARGUMENTS[call.kind], call.arguments))
+        given = calls.named(call)
         if all(name in given for name in names):
             yield tuple(given[name] for name in names)
 
@@ -70,13 +71,13 @@ def some(place, cases, most):
 
 def signed(asked):
     """The codes of requests that are good up to their token."""
-    for mask, extra, value, *rest in arguments(asked, "mask", "extra", "value", "head", "aside", "path", "body"):
+    for mask, hashes, extra, value, *rest in arguments(asked, "mask", "hashes", "extra", "value", "head", "aside", "path", "body"):
         head, aside, _, _ = rest
-        if number(placing.names, (mask, extra, head, aside)) != 0 or number(placing.coverage, (mask, extra, value)) != 9:
+        if number(placing.names, (mask, extra, head, aside)) != 0 or number(placing.coverage, (mask, hashes, extra, value)) != 9:
             continue
         field = dict(model.fields_of(value))
         n, t, lt = (encoding.number(field.get(key, b"\0")) for key in (b"n", b"t", b"lt"))
-        key = model.hmac_sha_512(value, b"")[:32]
+        key = hashing.code(hashing.SHA_256, value, b"")
         yield mask, extra, n, t, lt, key, *rest
 
 
@@ -85,12 +86,11 @@ def cases():
     setups = [call for call in asked if call.kind == "setup"]
     judged = [call for call in asked if call.kind != "setup"]
     yield "drawn from the generator of histories"
-    settings = arguments(asked, "mask", "extra", "request_life", "idle", "session_life")
-    yield from some(placing.orders, settings, {0: 40, 2: 40})
+    yield from some(placing.orders, arguments(asked, *calls.ORDERS), {0: 40, 2: 40})
     yield from some(placing.request, arguments(judged, "value"), {4: 40, 5: 20, 8: 2, 9: 15})
     yield from some(placing.setup, arguments(setups, "value"), {0: 8, 4: 30, 5: 20, 19: 8})
     yield from some(placing.names, arguments(judged, "mask", "extra", "head", "aside"), {0: 15, 6: 30, 7: 30})
-    yield from some(placing.coverage, arguments(judged, "mask", "extra", "value"), {8: 30, 9: 12})
+    yield from some(placing.coverage, arguments(judged, "mask", "hashes", "extra", "value"), {8: 30, 9: 12})
     for case in islice(signed(judged), MOST_CODES):
         if is_short(case):
             yield placing.code, *case

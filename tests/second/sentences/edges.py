@@ -1,10 +1,12 @@
 """The edges and the worked example of docs/RULES.md, as calls."""
 
 import base64
+from typing import NamedTuple
 
 import calls
 import client
 import drafts
+import hashing
 import model
 import record as rec
 from sentences.placing import CLOCK, HIGHEST, at, ordered, replaced, request_call, setup_call
@@ -15,9 +17,9 @@ def cases():
     for asked, call, number in EDGES:
         yield given, asked, call, number
     yield "docs/RULES.md, the example"
-    setup, request, _ = example()
-    yield given, "a setup", setup, 0
-    yield given, "a request", request, 0
+    for whose, one in (("a dealer", DEALER), ("a scanner", SCANNER)):
+        yield given, f"a setup of {whose}", one.setup, 0
+        yield given, f"a request of {whose}", one.request, 0
 
 
 def given(asked, call, number):
@@ -46,7 +48,19 @@ def lasting(expiry):
 
 
 def set_up_at(clock):
-    return setup_call()._replace(arguments=(*setup_call().arguments[:5], clock, *setup_call().arguments[6:]))
+    return calls.altered(setup_call(), clock=clock)
+
+
+def with_code(size):
+    return request_call(at("signed", lambda draft: draft.set_field(b"c", bytes(size))))
+
+
+def talked_down(*alterations):
+    """Rightly signed under SHA-256, in a session of SHA-512."""
+    return request_call(replaced("plan", "hash", hashing.SHA_256), *alterations)
+
+
+ONLY_512 = ordered(3, hashes=hashing.SHA_512)
 
 
 HOST = b"Host:a\r\n"
@@ -62,6 +76,12 @@ EDGES = (
     ("`lt` after `t`", request_call(lt=CLOCK + 1), 0),
     ("a second before the token's expiry", lasting(CLOCK + 1), 0),
     ("at the token's expiry", lasting(CLOCK), 10),
+    ("a request under SHA-256 in a session of SHA-256", request_call(hash=hashing.SHA_256), 0),
+    ("a request under SHA-256 in a session of SHA-512", talked_down(), 8),
+    ("the same at the token's expiry", talked_down(replaced("plan", "expiry", CLOCK)), 10),
+    ("a request in a session of SHA-256 where the orders allow SHA-512 alone", request_call(hash=hashing.SHA_256, orders=ONLY_512), 8),
+    ("a code of 32 bytes under SHA-512", with_code(32), 8),
+    ("a code of 48 bytes", with_code(48), 4),
     ("a session's first nonce, 0", nonce(0), 0),
     ("a session's first nonce, 4,294,967,295", nonce(HIGHEST), 0),
     ("nonce 101 after 100", nonce(101, 100), 0),
@@ -80,9 +100,11 @@ EDGES = (
     ("a covered name twice in the head", request_call(head=HOST + HOST), 7),
     ("a head whose last line lacks CR LF", request_call(replaced("lent", "head", HOST[:-2])), 6),
     ("a body that was altered on the way", request_call(replaced("lent", "body", b"belts=12"), body=b"belts=11"), 11),
-    ("a setup with `r:AQQ=`", setup_call(), 0),
+    ("a setup with `r:AQQ=`, SHA-512", setup_call(value=b"r:AQQ="), 0),
     ("a setup with `r:AQQ=;`", setup_call(value=b"r:AQQ=;"), 0),
-    ("a setup with `r:AQE=`, SHA-512 lacking", setup_call(value=b"r:AQE="), 19),
+    ("a setup with `r:AQE=`, SHA-256", setup_call(value=b"r:AQE="), 0),
+    ("a setup with `r:AQE=` where the orders allow SHA-512 alone", setup_call(ONLY_512, b"r:AQE="), 19),
+    ("a setup with `r:AQI=`, neither of the two", setup_call(value=b"r:AQI="), 19),
     ("a setup with an empty value", setup_call(value=b""), 4),
     ("a setup whose session ends at 4,294,967,295", set_up_at(HIGHEST - model.DEFAULT_SESSION_LIFE), 0),
     ("a setup whose session would end a second later", set_up_at(HIGHEST - model.DEFAULT_SESSION_LIFE + 1), 20),
@@ -92,42 +114,68 @@ EDGES = (
 # The example
 
 
-def shown(run):
-    """Bytes as a reader can follow them: text where it is text, else hexadecimal."""
-    return f"`{run.decode()}`" if run and all(32 < byte < 127 for byte in run) else run.hex(" ") or "nothing"
+class Exchange(NamedTuple):
+    """A session set up and one of its requests: the calls, and what a client sees and makes."""
+
+    setup: drafts.Call
+    reply: bytes
+    parts: list
+    code: bytes
+    fields: list
+    request: drafts.Call
 
 
-def example():
-    """A session set up and one of its requests: setup call, its reply, the request's call, and the page's lines about them."""
+def exchange(offered):
+    """By a client that has these hashes."""
     server_key, key, iv = bytes(range(32)), bytes(range(32, 64)), bytes(range(64, 76))
-    orders = model.Orders(mask=1 | 2 | 256, extra=b"X-Dealer", request_life=0, idle=0, session_life=0)
+    orders = model.Orders(mask=1 | 2 | 256, hashes=hashing.BOTH, extra=b"X-Dealer", request_life=0, idle=0, session_life=0)
     setup = drafts.Setup(
         kind="setup", table=rec.to_bytes(rec.FREE), iv=iv, reply=(model.LEAST_REPLY, 0), orders=orders,
-        clock=1_505_773_123, server_key=server_key, session_key=key, session_id=b"brandt-1", value=b"r:AQQ=",
+        clock=1_505_773_123, server_key=server_key, session_key=key, session_id=b"brandt-1", value=client.setup_value(offered),
     ).call()
     outcome = calls.answered(setup, setup.table, bytes(model.LEAST_REPLY))
     reply = outcome.reply[:outcome.length]
     carried = client.parse_reply(reply)
     head = [client.line(b"Host", b"portal.example"), client.line(b"Cookie", b" seat=4 "), client.line(b"X-Dealer", b"Brandt")]
     path, body = b"/orders", b"belts=11"
-    fields = [
-        (b"s", carried[b"s"]), (b"iv", carried[b"iv"]), (b"tag", carried[b"tag"]),
-        (b"h", carried[b"h"]), (b"ah", carried[b"ah"]), (b"eah", carried[b"eah"]),
-        (b"n", client.encoded_number(7)), (b"t", client.encoded_number(1_505_773_183)), (b"lt", client.encoded_number(1_505_773_123)),
-    ]
+    fields = [(name, carried[name]) for name in (b"s", b"iv", b"tag", b"h", b"ah", b"eah")]
+    fields += [(b"n", client.encoded_number(7)), (b"t", client.encoded_number(1_505_773_183)), (b"lt", client.encoded_number(1_505_773_123))]
     parts = client.signed_parts(fields, head, [], path, body)
-    text = client.joined(parts)
-    fields.append((b"c", client.signature(key, text)))
-    value = client.header_value(fields)
+    code = hashing.code(client.decoded_mask(carried[b"h"]), key, client.joined(parts))
+    fields.append((b"c", code))
     request = drafts.Call(
         "judge",
-        (*orders, 1_505_773_190, server_key, value, b"".join(head), b"", path, body),
+        (*orders, 1_505_773_190, server_key, client.header_value(fields), b"".join(head), b"", path, body),
         outcome.table,
         (model.LEAST_REPLY, 0),
     )
-    lines = [f"    {reply.decode()}"]
-    lines += [f"| `{name.decode()}` | {shown(part)} | {shown(client.joined([(name, part)]))} |" for name, part in parts]
-    lines += [f"| `{name.decode()}` | {shown(contents)} | `{base64.b64encode(contents).decode()}` |" for name, contents in fields[3:9]]
-    lines += [f"    {client.signature(key, text).hex()}", f"    {value.decode()}"]
-    lines += [f"    {model.invalidation(key).decode()}"]
-    return setup, request, lines
+    return Exchange(setup, reply, parts, code, fields, request)
+
+
+DEALER, SCANNER = exchange(hashing.BOTH), exchange(hashing.SHA_256)
+
+
+def shown(run):
+    """Bytes as a reader can follow them: text where it is text, else hexadecimal."""
+    return f"`{run.decode()}`" if run and all(32 < byte < 127 for byte in run) else run.hex(" ") or "nothing"
+
+
+def part_row(name, part):
+    return f"| `{name.decode()}` | {shown(part)} | {shown(client.joined([(name, part)]))} |"
+
+
+def coded(contents):
+    return f"`{base64.b64encode(contents).decode()}`"
+
+
+def example_lines():
+    """The page's lines about the two."""
+    yield f"    {DEALER.reply.decode()}"
+    yield from (part_row(*part) for part in DEALER.parts)
+    yield from (f"| `{name.decode()}` | {shown(contents)} | {coded(contents)} |" for name, contents in DEALER.fields[3:9])
+    yield f"    {client.header_value(DEALER.fields).decode()}"
+    yield f"{part_row(*SCANNER.parts[0])} {coded(SCANNER.parts[0][1])} |"
+    for one in (DEALER, SCANNER):
+        key, known = calls.named(one.setup)["session_key"], client.decoded_mask(one.parts[0][1])
+        yield f"    {one.code.hex()}"
+        yield f"    {model.invalidation(known, key).decode()}"

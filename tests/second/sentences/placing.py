@@ -11,6 +11,7 @@ import calls
 import client
 import drafts
 import encoding
+import hashing
 import model
 import record as rec
 from encoding import netstring
@@ -25,16 +26,16 @@ SESSION_ID = b"brandt-1"
 CLOCK = 1_505_773_000
 NONCE = 5
 REPLY = (model.LEAST_REPLY, 170)
-OFFER = client.setup_value(model.SHA_512)
+OFFER = client.setup_value(hashing.BOTH)
 MOST_SEALED = 118  # bytes of s
 IV_LETTERS = 16  # of its base64
 
 
-def ordered(mask, extra=b"", request_life=0, idle=0, session_life=0):
-    return model.Orders(mask, extra, request_life, idle, session_life)
+def ordered(mask, extra=b"", request_life=0, idle=0, session_life=0, hashes=hashing.BOTH):
+    return model.Orders(mask, hashes, extra, request_life, idle, session_life)
 
 
-ORDERS = ordered(3)  # nonces and Host
+ORDERS = ordered(3)  # nonces and Host; both hashes
 
 
 # Calls
@@ -56,13 +57,14 @@ def setup_call(orders=ORDERS, value=OFFER, session_id=SESSION_ID):
     return draft.call()
 
 
-def request_call(*alterations, orders=ORDERS, iv=IV, head=b"", aside=b"", **planned):
+def request_call(*alterations, orders=ORDERS, iv=IV, hash=hashing.SHA_512, head=b"", aside=b"", **planned):
     """A request of the session that the table's one record is for, altered at some stages of its draft."""
     plan = {"clock": CLOCK, "key": KEY, "session_id": SESSION_ID, "t": CLOCK, "lt": CLOCK, "n": NONCE, **planned}
     draft = drafts.Request(
         kind="judge",
-        table=rec.to_bytes(rec.fresh(iv, HIGHEST)),
+        table=rec.to_bytes(rec.fresh(iv, HIGHEST, hash)),
         iv=iv,
+        hash=hash,
         place=0,
         reply=REPLY,
         orders=orders,
@@ -77,7 +79,7 @@ def request_call(*alterations, orders=ORDERS, iv=IV, head=b"", aside=b"", **plan
 
 def at(stage, alter):
     """An alteration of a draft at one of its stages."""
-    return Fault(name="", number=0, at=stage, on=(), needs=nothing, alter=lambda draft, rng: alter(draft), long=False)
+    return Fault(name="", number=0, at=stage, on=(), needs=nothing, alter=lambda draft, rng: alter(draft), long=False, late=False)
 
 
 def replaced(stage, name, contents):
@@ -98,6 +100,30 @@ def taken_out(*nonces):
         yield f"nonce {nonce} again, by gate_judge", call._replace(table=table), (16,)
 
 
+# The hash
+
+
+def not_allowed(h, other, number, stage):
+    """A request under h, where the other hash alone is allowed, and something else that is wrong with it."""
+    asked = ordered(3, hashes=h ^ hashing.BOTH)
+    yield f"h {h}, {other.__name__}", request_call(at(stage, other), hash=h, orders=asked), (number,)
+
+
+def otherwise(h, other, number, stage):
+    """A request under h, in a session of the other hash, and something else that is wrong with it."""
+    call = request_call(replaced("plan", "hash", h), at(stage, other), hash=h ^ hashing.BOTH)
+    yield f"h {h}, {other.__name__}", call, (number,)
+
+
+def kept(h, byte):
+    """A request under h, of a session whose record has this byte at its end."""
+    keep = at("lent", lambda draft: draft.put(draft.place, draft.own()._replace(hash=byte)))
+    call = request_call(keep, hash=h)
+    yield f"h {h}, byte {byte}, by gate_judge", call, (0, 3, 8)
+    yield f"h {h}, byte {byte}, by the thin entry", call._replace(kind="one"), (0, 3, 8)
+    yield f"h {h}, byte {byte}, at the token's expiry", request_call(keep, replaced("plan", "expiry", CLOCK), hash=h), (3, 10)
+
+
 # Orders
 
 
@@ -109,15 +135,19 @@ def orders(*settings):
         return
     yield "a setup", setup_call(asked), (0,)
     head = b"".join(client.line(name, b"v%d" % place) for place, name in enumerate(model.covered_names(asked)))
+    good = {"orders": asked, "head": head, "hash": hashing.longest(asked.hashes)}
+    for known in hashing.FUNCTIONS:
+        if known & asked.hashes == 0:
+            yield "a request under the other hash", request_call(**good | {"hash": known}), (8,)
     life, idle = model.request_life(asked), model.idle_limit(asked)
     for note, age, number in (("as old as can be", min(life, HIGHEST - 1), 0), ("a second too old", life + 1, 14)):
         t = max(0, CLOCK - age)
         if t + age < HIGHEST:  # no token outlives that
-            yield f"a request {note}", request_call(orders=asked, head=head, clock=t + age, t=t, lt=t), (number,)
+            yield f"a request {note}", request_call(**good, clock=t + age, t=t, lt=t), (number,)
     for note, gap, number in (("idle for the limit", idle, 0), ("idle for a second more", idle + 1, 13)):
         t = max(gap, CLOCK)
         if t <= HIGHEST:
-            yield f"a request {note}", request_call(orders=asked, head=head, t=t, lt=t - gap), (number,)
+            yield f"a request {note}", request_call(**good, t=t, lt=t - gap), (number,)
 
 
 # Values
@@ -145,8 +175,8 @@ def request(value):
         yield "vouched for, a second too idle", vouched(value, orders._replace(idle=t - lt - 1), last), (8, 13)
 
 
-def coverage(mask, extra, value):
-    orders = ordered(mask, extra, HIGHEST, HIGHEST)
+def coverage(mask, hashes, extra, value):
+    orders = ordered(mask, extra, HIGHEST, HIGHEST, hashes=hashes)
     yield "as the value of a request", valued(value, orders), (2, 4, 5, 8, 9)
     if request_fields(value):
         yield "vouched for", vouched(value, orders, CLOCK), (0, 2, 8)
@@ -163,7 +193,7 @@ def valued(value, orders):
 
 
 def vouched(value, orders, clock):
-    """A request with this value, but with s, iv and tag of the session and with c over what it carries."""
+    """A request with this value, but with s, iv and tag of a session of its hash and with c over what it carries."""
     carried = model.fields_of(value)
 
     def carry(draft):
@@ -173,7 +203,8 @@ def vouched(value, orders, clock):
     def close(draft):
         draft.value += b";" if value.endswith(b";") else b""
 
-    return request_call(at("fields", carry), at("value", close), orders=orders, clock=clock)
+    named = client.named_hash(carried, hashing.SHA_512)
+    return request_call(at("fields", carry), at("value", close), orders=orders, clock=clock, hash=named)
 
 
 # Lines
@@ -231,7 +262,7 @@ def written(part):
 
 
 def code(mask, extra, n, t, lt, key, head, aside, path, body):
-    """Within limits that nothing exceeds."""
+    """Under each hash, within limits that nothing exceeds."""
     request = {"orders": ordered(mask, extra, HIGHEST, HIGHEST), "n": n, "t": t, "lt": lt, "key": key}
     request |= {"head": head, "aside": aside, "path": path, "body": body}
 
@@ -239,8 +270,10 @@ def code(mask, extra, n, t, lt, key, head, aside, path, body):
         c = dict(draft.fields)[b"c"]
         draft.set_field(b"c", c[:-1] + bytes([c[-1] ^ 1]))
 
-    yield "signed", request_call(**request), (0, 2)
-    yield "the last byte of c altered", request_call(at("signed", alter), **request), (2, 11)
+    for known in hashing.FUNCTIONS:
+        signed = {**request, "hash": known}
+        yield f"signed under h {known}", request_call(**signed), (0, 2)
+        yield f"the last byte of c under h {known} altered", request_call(at("signed", alter), **signed), (2, 11)
 
 
 # Numbers, masks and base64
@@ -255,6 +288,8 @@ def mask(m):
     yield "as the mask of a request's orders", request_call(orders=ordered(m)), (0, 2)
     yield "as ah, under other orders", request_call(replaced("lent", "orders", ORDERS), orders=ordered(m)), (0, 8)
     yield "as r", setup_call(value=client.setup_value(m)), (0, 19)
+    yield "as the mask of allowed hashes", setup_call(ordered(3, hashes=m)), (0, 2)
+    yield "as h", request_call(at("fields", lambda draft: draft.set_field(b"h", client.encoded_mask(m)))), (0, 8)
 
 
 def decode(text):

@@ -140,10 +140,14 @@ def masks():
 
 
 def sizes():
-    yield "Lengths: c 64, iv 12, tag 16, s 1 to 118"
-    for key, lengths in (("c", (1, 63, 64, 65, 66)), ("iv", (1, 11, 12, 13)), ("tag", (1, 15, 16, 17)), ("s", (1, 2, 117, 118, 119, 120, 374))):
+    yield "Lengths: c 32 or 64 (document 02, K2), iv 12, tag 16, s 1 to 118"
+    for key, lengths in (("iv", (1, 11, 12, 13)), ("tag", (1, 15, 16, 17)), ("s", (1, 2, 117, 118, 119, 120, 374))):
         for length in lengths:
             yield request, having(GOOD, **{key: bytes([7]) * length})
+    for length in (1, 16, 20, 31, 32, 33, 48, 63, 64, 65, 66, 96, 128):
+        for h in (1, 4):
+            yield request, having(GOOD, h=encoded_mask(h), c=bytes([7]) * length)
+        yield setup, value([(b"r", encoded_mask(4)), (b"c", bytes([7]) * length)])
     yield "eah and every other key need only good base64"
     for length in (1, 2, 3, 128, 129, 300):
         yield request, having(GOOD, eah=b"q" * length)

@@ -3,6 +3,7 @@
 use mathlib.Core.Path.{_≡_, refl, sym, ap, subst, _∙_}
 use mathlib.Core.Bool.{Bool, true, false, cond, _&&_}
 use mathlib.Core.List.{List}
+use mathlib.Core.Option.{Option}
 use Prim.Native.Nat.{ℕ, _-_, _*_, _<_}
 use native.Mathlib.Omega.{arith}
 use borrow.Author.Tests.{eqb-true, eq-eqb}
@@ -11,6 +12,7 @@ use lib.ListN.{length, getD, drop, set, length-take, length-drop}
 use lib.Seq.{take-all}
 use Rattle.cells.specs.Runs.{spliced, same}
 use Rattle.cells.proofs.Runs.{spliced-front, fronted-whole}
+use Rattle.hashes.specs.declared.Hash.{Hash}
 use Rattle.window.specs.History.{keep}
 use Rattle.table.specs.declared.session.Record.{Record}
 use Rattle.table.specs.declared.place.Place.{Place}
@@ -37,7 +39,7 @@ use Rattle.demands.proofs.Shared.Others.{accepts-zero, passes-finds, pa
 use Rattle.demands.proofs.History.Sessions.{Sessions, freed-sessions, stepped-sessions}
 use Rattle.demands.proofs.History.Tables.{Standing, held, stored-standing}
 
-module _ (n : ℕ) (state : State) (ivs : List (List ℕ)) (nonces : List ℕ → List ℕ) (st : Standing n (state .table) ivs nonces) (place : ℕ) where
+module _ (n : ℕ) (state : State) (ivs : List (List ℕ)) (nonces : List ℕ → List ℕ) (hashes : List ℕ → Option Hash) (st : Standing n (state .table) ivs nonces hashes) (place : ℕ) where
   abbrev one : List ℕ
   one = takenOut place state .table
 
@@ -83,62 +85,62 @@ module _ (n : ℕ) (state : State) (ivs : List (List ℕ)) (nonces : List ℕ �
           let inside : place < length (records (state .table)) = rw length-records within in
           let zeroth : i ≡ 0 = omega (arith, long) in
           subst (λ (r : Record). Sound r)
-          (sym (records-at one i h ∙ ap (recordAt one) zeroth ∙ ap recordOf (take-all size one (omega arith)) ∙ held n (state .table) ivs nonces st place inside))
+          (sym (records-at one i h ∙ ap (recordAt one) zeroth ∙ ap recordOf (take-all size one (omega arith)) ∙ held n (state .table) ivs nonces hashes st place inside))
           (st .sessions .well .each place inside)
 
   -- another record laid over the one record, and that one put back
-  stored : (iv : List ℕ) (r : Record) {others : List (List ℕ)} {more : List ℕ → List ℕ} → Own iv → Fits r
-      → Sessions (set (records (state .table)) place r) others more
-      → Standing n (spliced (state .table) (size * place) (spliced one (size * 0) (recordBytes r))) others more
-  stored iv r {others} {more} o f t =
-      subst (λ (l : List ℕ). Standing n (spliced (state .table) (size * place) l) others more)
+  stored : (iv : List ℕ) (r : Record) {others : List (List ℕ)} {more : List ℕ → List ℕ} {kept : List ℕ → Option Hash} → Own iv → Fits r
+      → Sessions (set (records (state .table)) place r) others more kept
+      → Standing n (spliced (state .table) (size * place) (spliced one (size * 0) (recordBytes r))) others more kept
+  stored iv r {others} {more} {kept} o f t =
+      subst (λ (l : List ℕ). Standing n (spliced (state .table) (size * place) l) others more kept)
       (sym (spliced-front one (recordBytes r) ∙ fronted-whole (recordBytes r) one (length-recordBytes r (f .iv) ∙ sym (o .whole))))
-      (stored-standing n (state .table) ivs nonces st place r (rw length-records (o .within)) f t)
+      (stored-standing n (state .table) ivs nonces hashes st place r (rw length-records (o .within)) f t)
 
-  kept : Standing n (spliced (state .table) (size * place) one) ivs nonces
-  kept = subst (λ (l : List ℕ). Standing n l ivs nonces) (sym (respliced (state .table) (size * place) size)) st
+  kept : Standing n (spliced (state .table) (size * place) one) ivs nonces hashes
+  kept = subst (λ (l : List ℕ). Standing n l ivs nonces hashes) (sym (respliced (state .table) (size * place) size)) st
 
   -- the session's record freed, if it is this one
-  freed-one : (iv : List ℕ) → Standing n (spliced (state .table) (size * place) (without one iv)) ivs nonces
+  freed-one : (iv : List ℕ) → Standing n (spliced (state .table) (size * place) (without one iv)) ivs nonces hashes
   unfolding without
   freed-one iv = by (placeOf one iv) refl
     where
-      by : (p : Place) → placeOf one iv ≡ p → Standing n (spliced (state .table) (size * place) (with-record one p freed)) ivs nonces
+      by : (p : Place) → placeOf one iv ≡ p → Standing n (spliced (state .table) (size * place) (with-record one p freed)) ivs nonces hashes
       by (At j) e =
           let o = own iv j e in
-          subst (λ (p : Place). Standing n (spliced (state .table) (size * place) (with-record one p freed)) ivs nonces) (sym (o .here) ∙ e)
-          (stored iv freed o freed-fits (freed-sessions (records (state .table)) ivs nonces (st .sessions) place (rw length-records (o .within))))
+          subst (λ (p : Place). Standing n (spliced (state .table) (size * place) (with-record one p freed)) ivs nonces hashes) (sym (o .here) ∙ e)
+          (stored iv freed o freed-fits (freed-sessions (records (state .table)) ivs nonces hashes (st .sessions) place (rw length-records (o .within))))
       by Nowhere e = kept
 
   module _ (q : Request) where
     -- a nonce taken
     stepped-one : (o : Bool) → ordersNonce (q .orders .numbers .mask) ≡ o → first (requestChecks q (takenOut place state)) ≡ 0
-        → Standing n (spliced (state .table) (size * place) (steppedFor q one)) ivs (λ iv. keep (o && same (ivOf q) iv) (nonceOf q) (nonces iv))
+        → Standing n (spliced (state .table) (size * place) (steppedFor q one)) ivs (λ iv. keep (o && same (ivOf q) iv) (nonceOf q) (nonces iv)) hashes
     stepped-one true o e =
         let passes = accepted-passes q (takenOut place state) e in
         let f = passes-finds q (takenOut place state) passes in
         let mine = own (ivOf q) (f .place) (f .finds) in
         let inside : place < length (records (state .table)) = rw length-records (mine .within) in
-        let old : recordAt one 0 ≡ getD (records (state .table)) place freed = mine .same-record ∙ held n (state .table) ivs nonces st place inside in
+        let old : recordAt one 0 ≡ getD (records (state .table)) place freed = mine .same-record ∙ held n (state .table) ivs nonces hashes st place inside in
         let accepts = accepts-zero (stepped q one .verdict) ∙ eq-eqb _ 0 (sym (passes-window q (takenOut place state) passes o) ∙ e) in
         rw (ordered-table q one 0 (mine .here) o, old)
         (stored (ivOf q) (next (nonceOf q) (getD (records (state .table)) place freed)) mine
         (stepped-fits (getD (records (state .table)) place freed) (nonceOf q) (st .sessions .fit place inside) (f .small))
-        (stepped-sessions (records (state .table)) ivs nonces (st .sessions) place (ivOf q) (nonceOf q) (mine .there) (f .small)
+        (stepped-sessions (records (state .table)) ivs nonces hashes (st .sessions) place (ivOf q) (nonceOf q) (mine .there) (f .small)
         (rw (found-step q one 0 (mine .here), old) at accepts)))
     stepped-one false o e = rw (unordered-table q one o) kept
 
-    pub one-standing : Standing n (judgedAt place q state .state .table) ivs (λ iv. withNonce iv q (judgedAt place q state .number) (nonces iv))
+    pub one-standing : Standing n (judgedAt place q state .state .table) ivs (λ iv. withNonce iv q (judgedAt place q state .number) (nonces iv)) hashes
     one-standing =
-        subst (λ (k : ℕ). Standing n (spliced (state .table) (size * place) (judged q (takenOut place state) .state .table)) ivs (λ iv. withNonce iv q k (nonces iv))) (sym (judged-number q (takenOut place state)))
+        subst (λ (k : ℕ). Standing n (spliced (state .table) (size * place) (judged q (takenOut place state) .state .table)) ivs (λ iv. withNonce iv q k (nonces iv)) hashes) (sym (judged-number q (takenOut place state)))
         (rw (judged-table q (takenOut place state)) (by (eqb (first (requestChecks q (takenOut place state))) 0) refl))
       where
-        refused : (t : Bool) → Standing n (spliced (state .table) (size * place) (cond t (without one (ivOf q)) one)) ivs nonces
+        refused : (t : Bool) → Standing n (spliced (state .table) (size * place) (cond t (without one (ivOf q)) one)) ivs nonces hashes
         refused true = freed-one (ivOf q)
         refused false = kept
 
         by : (t : Bool) → eqb (first (requestChecks q (takenOut place state))) 0 ≡ t
             → Standing n (spliced (state .table) (size * place) (cond t (steppedFor q one) (cond (invalidates (first (requestChecks q (takenOut place state)))) (without one (ivOf q)) one))) ivs
-            (λ iv. keep (t && (ordersNonce (q .orders .numbers .mask) && same (ivOf q) iv)) (nonceOf q) (nonces iv))
+            (λ iv. keep (t && (ordersNonce (q .orders .numbers .mask) && same (ivOf q) iv)) (nonceOf q) (nonces iv)) hashes
         by true e = stepped-one (ordersNonce (q .orders .numbers .mask)) refl (eqb-true _ 0 e)
         by false e = refused (invalidates (first (requestChecks q (takenOut place state))))

@@ -9,6 +9,8 @@ use lib.Dec.{eqb}
 use lib.ListN.{length, drop}
 use lib.Seq.{take-append-seam, drop-append-seam}
 use Rattle.cells.specs.Runs.{spliced, fronted}
+use Rattle.hashes.specs.declared.Hash.{Hash}
+use Rattle.hashes.specs.Hashes.{hashMask}
 use Rattle.window.specs.Window.{stepOf}
 use Rattle.table.specs.declared.session.Record.{Record}
 use Rattle.table.specs.declared.place.Place.the-variants.{At}
@@ -20,7 +22,7 @@ use Rattle.stages.specs.Request.{Request}
 use Rattle.gate.specs.State.{State, Outcome, untouched, replied}
 use Rattle.stages.specs.Checks.{first}
 use Rattle.table.specs.Session.{placeOf, with-record, without}
-use Rattle.gate.specs.Setup.{expiryOf, setupChecks, withSession, setUp}
+use Rattle.gate.specs.Setup.{chosenOf, expiryOf, setupChecks, withSession, setUp}
 use Rattle.stages.specs.Parts.{ivOf, nonceOf, ordered, stepped, nextOf, invalidates}
 use Rattle.gate.specs.Judge.{requestChecks, tableAfter, answered, judged}
 use Rattle.gate.specs.End.{endChecks, ended}
@@ -47,7 +49,7 @@ module _ (s : Setup) (state : State) where
 
 -- with the place that is taken
 pub begun-table : (s : Setup) (table : List ℕ) (place : ℕ) → taken (records table) (s .clock) ≡ At place
-    → withSession s table ≡ spliced table (size * place) (recordBytes (begun (s .iv) (expiryOf s)))
+    → withSession s table ≡ spliced table (size * place) (recordBytes (begun (s .iv) (expiryOf s) (hashMask (chosenOf s))))
 unfolding withSession
 begun-table s table place e = rw e
 
@@ -68,23 +70,23 @@ next nonce r = withWindow r (stepOf (windowOf r) nonce .window)
 abbrev pub steppedFor : Request → List ℕ → List ℕ
 steppedFor q table = cond (ordered q) (with-record table (placeOf table (ivOf q)) (nextOf q table)) table
 
-module _ (n : ℕ) (id key reply : List ℕ) (after : State) where
-  answered-number : answered n id key reply after .number ≡ n
+module _ (n : ℕ) (id key : List ℕ) (hash : Hash) (reply : List ℕ) (after : State) where
+  answered-number : answered n id key hash reply after .number ≡ n
   unfolding answered
   answered-number = by (eqb n 0) refl (invalidates n)
     where
       by : (t : Bool) → eqb n 0 ≡ t → (u : Bool)
-          → cond t (replied 0 id reply after) (cond u (replied n (invalidation key) reply after) (untouched n reply after)) .number ≡ n
+          → cond t (replied 0 id reply after) (cond u (replied n (invalidation hash key) reply after) (untouched n reply after)) .number ≡ n
       by true e u = sym (eqb-true n 0 e)
       by false e true = refl
       by false e false = refl
 
-  answered-state : answered n id key reply after .state ≡ after
+  answered-state : answered n id key hash reply after .state ≡ after
   unfolding answered
   answered-state = by (eqb n 0) (invalidates n)
     where
       by : (t u : Bool)
-          → cond t (replied 0 id reply after) (cond u (replied n (invalidation key) reply after) (untouched n reply after)) .state ≡ after
+          → cond t (replied 0 id reply after) (cond u (replied n (invalidation hash key) reply after) (untouched n reply after)) .state ≡ after
       by true u = refl
       by false true = refl
       by false false = refl
@@ -92,13 +94,13 @@ module _ (n : ℕ) (id key reply : List ℕ) (after : State) where
 module _ (q : Request) (state : State) where
   pub judged-number : judged q state .number ≡ first (requestChecks q state)
   unfolding judged
-  judged-number = answered-number (first (requestChecks q state)) _ _ _ _
+  judged-number = answered-number (first (requestChecks q state)) _ _ _ _ _
 
   pub judged-table : judged q state .state .table
       ≡ cond (eqb (first (requestChecks q state)) 0) (steppedFor q (state .table))
       (cond (invalidates (first (requestChecks q state))) (without (state .table) (ivOf q)) (state .table))
   unfolding judged tableAfter without
-  judged-table = ap (λ (s : State). s .table) (answered-state (first (requestChecks q state)) _ _ _ _)
+  judged-table = ap (λ (s : State). s .table) (answered-state (first (requestChecks q state)) _ _ _ _ _)
 
 -- with the place of the session
 module _ (q : Request) (table : List ℕ) (place : ℕ) (e : placeOf table (ivOf q) ≡ At place) where

@@ -5,27 +5,29 @@ use mathlib.Core.Bool.{true}
 use mathlib.Core.List.{List, [], _∷_}
 use Prim.Native.Nat.{ℕ, _%_, _≤_, _<_, _^_}
 use native.Mathlib.Omega.{arith}
-use borrow.Author.Tests.{eqb-true, ltb-true}
+use borrow.Author.Tests.{eqb-true}
 use lib.Dec.{eqb}
 use lib.ListN.{length}
 use Rattle.cells.specs.Runs.{same}
 use Rattle.cells.specs.Numbers.{number}
 use Rattle.cells.proofs.Equality.{same-equal}
 use Rattle.armor.specs.declared.Answer.{Answer}
-use Rattle.armor.specs.Numerals.{maskBytes, maskOf, hashMask}
-use Rattle.armor.specs.Keys.{keyT, keyLt, keyN, keyH, keyAh, keyEah}
+use Rattle.hashes.specs.Hashes.{hashMask, digestSize, named, namesOne, allowedOne}
+use Rattle.hashes.proofs.Hashes.{named-mask, allowed-names}
+use Rattle.armor.specs.Numerals.{maskBytes, maskOf}
+use Rattle.armor.specs.Keys.{keyT, keyLt, keyN, keyH, keyAh, keyC, keyEah}
 use Rattle.armor.specs.Value.{Field, carried}
 use Rattle.armor.specs.Fields.{times, the, nonceBit}
 use Rattle.armor.specs.InnerAnswers.{requestAnswer}
 use Rattle.armor.proofs.Numerals.{number-small, maskOf-maskBytes}
 use Rattle.armor.proofs.Fields.{none-held}
 use Rattle.armor.proofs.Carried.{carried-bytes, request-given, request-sizes, nonce-times}
-use Rattle.orders.specs.Orders.{ordersGood}
+use Rattle.orders.proofs.Orders.{good-mask}
 use Rattle.cells.proofs.Tests.{both}
-use Rattle.coverage.specs.Coverage.{asOrdered, extraAsOrdered}
+use Rattle.coverage.specs.Coverage.{asOrdered, hashAsOrdered, extraAsOrdered}
 use Rattle.gate.specs.State.{State}
 use Rattle.stages.specs.Request.{Request}
-use Rattle.stages.specs.Parts.{fieldsOf, nonceOf, timeOf, lastTimeOf}
+use Rattle.stages.specs.Parts.{fieldsOf, hashOf, nonceOf, timeOf, lastTimeOf}
 use Rattle.demands.proofs.Shared.Passed.{Passed}
 
 -- the numbers that a good value carries have 32 bits
@@ -46,15 +48,30 @@ extra-times [] fs e = eqb-true (times keyEah fs) 0 e
 extra-times (b ∷ bs) fs e = eqb-true (times keyEah fs) 1 (both (eqb (times keyEah fs) 1) (same (the keyEah fs) (b ∷ bs)) e .0)
 
 module _ (q : Request) (state : State) (p : Passed q state) where
-  covered : (same (the keyH (fieldsOf q)) (maskBytes hashMask) ≡ true) × (same (the keyAh (fieldsOf q)) (maskBytes (q .orders .numbers .mask)) ≡ true) × (extraAsOrdered (q .orders .extra) (fieldsOf q) ≡ true)
+  covered : (hashAsOrdered (q .orders .numbers .hashes) (fieldsOf q) ≡ true) × (same (the keyAh (fieldsOf q)) (maskBytes (q .orders .numbers .mask)) ≡ true) × (extraAsOrdered (q .orders .extra) (fieldsOf q) ≡ true)
   unfolding asOrdered
   covered =
-      let hash = both (same (the keyH (fieldsOf q)) (maskBytes hashMask)) _ (p .covers) in
+      let hash = both (hashAsOrdered (q .orders .numbers .hashes) (fieldsOf q)) _ (p .covers) in
       let rest = both (same (the keyAh (fieldsOf q)) (maskBytes (q .orders .numbers .mask))) (extraAsOrdered (q .orders .extra) (fieldsOf q)) (hash .1) in
       (hash .0, rest .0, rest .1)
 
-  pub hash-ordered : the keyH (fieldsOf q) ≡ maskBytes hashMask
-  hash-ordered = same-equal _ _ (covered .0)
+  hash-covered : (allowedOne (q .orders .numbers .hashes) (maskOf (the keyH (fieldsOf q))) ≡ true) × (length (the keyC (fieldsOf q)) ≡ digestSize (hashOf q))
+  unfolding hashOf
+  hash-covered =
+      let both-hold = both (allowedOne (q .orders .numbers .hashes) (maskOf (the keyH (fieldsOf q)))) _ (covered .0) in
+      (both-hold .0, eqb-true _ _ (both-hold .1))
+
+  -- h is the mask of the hash that it names, which the orders allow, and c is of its length
+  pub hash-allowed : allowedOne (q .orders .numbers .hashes) (hashMask (hashOf q)) ≡ true
+  unfolding hashOf
+  hash-allowed = rw (named-mask _ (allowed-names _ _ (hash-covered .0))) (hash-covered .0)
+
+  pub hash-ordered : the keyH (fieldsOf q) ≡ maskBytes (hashMask (hashOf q))
+  unfolding hashOf fieldsOf
+  hash-ordered = sym (hash-bytes (q .value) (p .value)) ∙ ap maskBytes (sym (named-mask _ (allowed-names _ _ (hash-covered .0))))
+
+  pub signature-sized : length (the keyC (fieldsOf q)) ≡ digestSize (hashOf q)
+  signature-sized = hash-covered .1
 
   pub mask-ordered : the keyAh (fieldsOf q) ≡ maskBytes (q .orders .numbers .mask)
   mask-ordered = same-equal _ _ (covered .1)
@@ -67,8 +84,7 @@ module _ (q : Request) (state : State) (p : Passed q state) where
   names-times = extra-times (q .orders .extra) (fieldsOf q) (covered .2)
 
   pub mask-fits : q .orders .numbers .mask < 2 ^ 56
-  unfolding ordersGood
-  mask-fits = ltb-true (q .orders .numbers .mask) (2 ^ 56) (both _ _ (both _ _ (p .orders) .0) .0)
+  mask-fits = good-mask (q .orders) (p .orders)
 
   -- n is carried exactly if the orders ask for nonces
   pub nonce-ordered : times keyN (fieldsOf q) ≡ q .orders .numbers .mask % 2

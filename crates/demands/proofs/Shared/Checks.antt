@@ -13,7 +13,7 @@ use Rattle.stages.specs.Request.{Request}
 use Rattle.stages.specs.Checks.{Check, check, first, nowhere}
 use Rattle.gate.specs.Entry.{stateChecks, entryChecks}
 use Rattle.table.specs.Session.{placeOf}
-use Rattle.stages.specs.Parts.{ivOf, timeOf, lastTimeOf, openedOf, tokenOf, limits, readingPart, coveringPart, tokenPart, signaturePart, vouchingPart, sessionPart, noncePart, admittingPart}
+use Rattle.stages.specs.Parts.{ivOf, timeOf, lastTimeOf, openedOf, tokenOf, limits, keepsHash, readingPart, coveringPart, tokenPart, signaturePart, vouchingPart, sessionPart, noncePart, admittingPart}
 use Rattle.gate.specs.Judge.{entryPart, requestChecks}
 use Rattle.stages.proofs.Checks.{numbered, lacks, comes-later, none-holds, passed-by}
 use Rattle.stages.proofs.Parts.{reading-numbered, vouching-numbered}
@@ -97,11 +97,11 @@ pub finds : (q : Request) (state : State) (later : List Check) (n : ℕ) → fir
     → nowhere (placeOf (state .table) (ivOf q)) ≡ false
 unfolding sessionPart
 finds q state later n e twelve =
-    not-first (check 12 (nowhere (placeOf (state .table) (ivOf q)))) (timed ++ later) n e twelve
+    not-first (check 12 (nowhere (placeOf (state .table) (ivOf q)))) (rest ++ later) n e twelve
   where
-    timed : List Check
-    timed =
-        check 13 (exceeds (timeOf q) (lastTimeOf q) (limits q .idle)) ∷ check 14 (exceeds (q .clock) (timeOf q) (limits q .«request_life»)) ∷ []
+    rest : List Check
+    rest =
+        check 8 (not (keepsHash q (state .table))) ∷ check 13 (exceeds (timeOf q) (lastTimeOf q) (limits q .idle)) ∷ check 14 (exceeds (q .clock) (timeOf q) (limits q .«request_life»)) ∷ []
 
 -- whether a check for this number holds
 abbrev pub holdsFor : ℕ → List Check → Bool

@@ -50,7 +50,7 @@ pub record Passed (q : Request) (state : State) : Type 0 where
   pub value : requestAnswer (q .value) ≡ Answer.Good
   pub lines : (goodBlock (q .head) && goodBlock (q .aside)) ≡ true
   pub once : (twice q (q .head) || twice q (q .aside)) ≡ false
-  pub covers : asOrdered (q .orders .numbers .mask) (q .orders .extra) (fieldsOf q) ≡ true
+  pub covers : asOrdered (q .orders .numbers .hashes) (q .orders .numbers .mask) (q .orders .extra) (fieldsOf q) ≡ true
   pub opened : hasToken (openedOf q) ≡ true
 
 value-good : (v : List ℕ) (o : Option (List Field)) → grammar v ≡ o → missing o ≡ false → requestFields (carried v) ≡ true

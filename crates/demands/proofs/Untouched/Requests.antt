@@ -19,7 +19,7 @@ use Rattle.gate.specs.State.{State, holding, untouched, replied}
 use Rattle.stages.specs.Checks.{first, nowhere}
 use Rattle.gate.specs.Entry.{stateChecks, entryChecks}
 use Rattle.table.specs.Session.{placeOf, without}
-use Rattle.stages.specs.Parts.{ivOf, nonceOf, tokenOf, ordered, readingPart, coveringPart, tokenPart, signaturePart, vouchingPart, sessionPart, noncePart, admittingPart, invalidates}
+use Rattle.stages.specs.Parts.{ivOf, hashOf, nonceOf, tokenOf, ordered, readingPart, coveringPart, tokenPart, signaturePart, vouchingPart, sessionPart, noncePart, admittingPart, invalidates}
 use Rattle.gate.specs.Judge.{entryPart, requestChecks, tableAfter, answered, outcomeAt, judged}
 use Rattle.demands.specs.Order.{Exactly}
 use Rattle.stages.proofs.Checks.{comes-later}
@@ -36,10 +36,10 @@ use Rattle.demands.proofs.Shared.Carried.{nonce-small}
 use Rattle.demands.specs.Effects.{judgeNumbers, TenOrThirteen, Invalidated, Moved, Accepted, JudgeEffects}
 
 -- at 10 and 13 the record is freed, and the reply is the invalidation
-freed-by : (q : Request) (n : ℕ) (state : State) → Passed q state → Invalidated q state (replied n (invalidation (tokenOf q .key)) (q .reply) (holding (without (state .table) (ivOf q))))
+freed-by : (q : Request) (n : ℕ) (state : State) → Passed q state → Invalidated q state (replied n (invalidation (hashOf q) (tokenOf q .key)) (q .reply) (holding (without (state .table) (ivOf q))))
 freed-by q n state p = record {
-  long = length-invalidation (tokenOf q .key);
-  reply = fronted-replied n (invalidation (tokenOf q .key)) (q .reply) (holding (without (state .table) (ivOf q)));
+  long = length-invalidation (hashOf q) (tokenOf q .key);
+  reply = fronted-replied n (invalidation (hashOf q) (tokenOf q .key)) (q .reply) (holding (without (state .table) (ivOf q)));
   freed = λ place s. freed-there (state .table) (ivOf q) place (p .well) s;
   kept = λ none. ap holding (freed-nowhere (state .table) (ivOf q) none);
 }
@@ -57,6 +57,7 @@ stepped-there q state place p s b o =
       used = ap (λ (x : Record). x .used) (all .here);
       iv = ap (λ (x : Record). x .iv) (all .here);
       expiry = ap (λ (x : Record). x .expiry) (all .here);
+      hash = ap (λ (x : Record). x .hash) (all .here);
     }
 
 accepts : (q : Request) (state : State) → first (requestChecks q state) ≡ 0 → Accepted q state (replied 0 (tokenOf q .id) (q .reply) (holding (steppedFor q (state .table))))
@@ -107,7 +108,7 @@ judge-zero q state e = record {
 }
 
 judge-freed : (q : Request) (state : State) (n : ℕ) → first (requestChecks q state) ≡ n → List·Memᴰ n judgeNumbers → invalidates n ≡ true
-    → JudgeEffects q state (replied n (invalidation (tokenOf q .key)) (q .reply) (holding (without (state .table) (ivOf q))))
+    → JudgeEffects q state (replied n (invalidation (hashOf q) (tokenOf q .key)) (q .reply) (holding (without (state .table) (ivOf q))))
 judge-freed q state n e m u =
     let two = ten-or-thirteen n u in
     let p = two-passed q state n two e in
@@ -140,7 +141,7 @@ judge-by q state n e m = by (eqb n 0) refl (invalidates n) refl
     left t u = holding (cond t (steppedFor q (state .table)) (cond u (without (state .table) (ivOf q)) (state .table)))
 
     by : (t : Bool) → eqb n 0 ≡ t → (u : Bool) → invalidates n ≡ u
-        → JudgeEffects q state (cond t (replied 0 (tokenOf q .id) (q .reply) (left t u)) (cond u (replied n (invalidation (tokenOf q .key)) (q .reply) (left t u)) (untouched n (q .reply) (left t u))))
+        → JudgeEffects q state (cond t (replied 0 (tokenOf q .id) (q .reply) (left t u)) (cond u (replied n (invalidation (hashOf q) (tokenOf q .key)) (q .reply) (left t u)) (untouched n (q .reply) (left t u))))
     by true z u v = judge-zero q state (e ∙ eqb-true n 0 z)
     by false z true v = judge-freed q state n e m v
     by false z false v = judge-kept q state n e m z v

@@ -8,6 +8,7 @@ use native.Mathlib.Omega.{arith}
 use borrow.Author.Tests.{eqb-true, eqb-false}
 use lib.Dec.{eqb}
 use lib.ListN.{length}
+use Rattle.hashes.specs.Hashes.{hashMask}
 use Rattle.gcm.specs.Gcm.{sealed}
 use Rattle.gcm.proofs.Opening.{length-crypted, length-tag}
 use Rattle.names.proofs.Sizes.{short-extra}
@@ -38,7 +39,7 @@ begins s state t = record {
   lowest = t .takes;
   session =
       rw (begun-table s (state .table) (t .place) (t .takes))
-      (replaced (state .table) (t .place) (begun (s .iv) (expiryOf s)) (taken-within (state .table) (s .clock) (t .place) (t .takes)) (begun-fits (s .iv) (expiryOf s) (t .long) (t .small)));
+      (replaced (state .table) (t .place) (begun (s .iv) (expiryOf s) (hashMask (S.chosenOf s))) (taken-within (state .table) (s .clock) (t .place) (t .takes)) (begun-fits (s .iv) (expiryOf s) (S.chosenOf s) (t .long) (t .small)));
   reply = fronted-replied 0 (replyOf s) (s .reply) (holding (S.withSession s (state .table)));
 }
 
@@ -79,7 +80,7 @@ reply-within s state e =
     let entered = opened s state e in
     let size = lent s state (entered .sizes) in
     let text = length-text (S.newToken s) (token-sized s state size (setup-takes s state e .small)) in
-    setup-short _ (s .iv) _ (s .session-key) _ _
+    setup-short _ (s .iv) _ (s .session-key) _ _ _
     (omega (arith, length-crypted (s .server-key) (s .iv) (tokenText (S.newToken s)), text .1))
     (size .iv) (length-tag (s .server-key) (s .iv) [] _) (size .session-key) (short-extra _ (good-extra _ (entered .orders)))
 

@@ -16,7 +16,7 @@ returns c =
     let token = c .before .before .before .before .before .before .put-token in
     let orders = c .before .before .put-orders in
     let laid =
-    laid-setup (a .s .now) (a .iv .now) (a .tag .now) (a .key .now) (a .mask) (a .extra .now) (token .ensures .1) (orders .ensures .1)
+    laid-setup (a .s .now) (a .iv .now) (a .tag .now) (a .key .now) (a .hash) (a .mask) (a .extra .now) (token .ensures .1) (orders .ensures .1)
     (omega (arith, start .pre, token .ensures .0, orders .ensures .0)) in
     (laid .ends ∙ zero-add _, laid .is ∙ spliced-front (a .out .now) _)
 

@@ -14,7 +14,7 @@ use Rattle.signed.proofs.code.Statement.{statement}
 use Rattle.signed.proofs.code.Tie as tie
 
 abbrev opens : tie.Start → List (List ℕ)
-opens s = openingParts (s .args .mask) (s .args .extra .now) (s .args .n .0) (s .args .t .0) (s .args .lt .0)
+opens s = openingParts (s .args .hash) (s .args .mask) (s .args .extra .now) (s .args .n .0) (s .args .t .0) (s .args .lt .0)
 
 abbrev held : tie.Start → List (List ℕ)
 held s = coveredValues (s .args .mask) (s .args .extra .now) (s .args .aside .now) (s .args .head .now)
@@ -23,7 +23,8 @@ abbrev ends : tie.Start → List (List ℕ)
 ends s = s .args .path .now ∷ s .args .body .now ∷ []
 
 short : (s : tie.Start) → size (opens s) + size (held s) + size (ends s) ≤ 2000000
-short s = request-short _ _ _ _ _ _ _ _ _ (s .pre .2) (s .pre .3) (s .pre .4) (s .pre .5) (s .pre .6)
+short s = let a = s .args in
+    request-short (a .hash) (a .mask) (a .n .0) (a .t .0) (a .lt .0) (a .extra .now) (a .aside .now) (a .head .now) (a .path .now) (a .body .now) (s .pre .2) (s .pre .3) (s .pre .4) (s .pre .5) (s .pre .6)
 
 returns : tie.Need-returns
 returns c =
@@ -32,11 +33,11 @@ returns c =
     let took =
     took-then (opens s) (held s ++ ends s) (c .before .before .before .opening .ensures)
     (took-then (held s) (ends s) (c .before .before .values .ensures) (c .before .ending .ensures)) in
-    c .finish .ensures (s .args .key .now) _
-    (subst (λ (text : List ℕ). Keyed (c .before .ending .result) (s .args .key .now) text)
-    (parts-joined (s .args .mask) (s .args .n .0) (s .args .t .0) (s .args .lt .0) (s .args .extra .now) (s .args .aside .now) (s .args .head .now) (s .args .path .now)
+    c .finish .ensures (s .args .hash) (s .args .key .now) _
+    (subst (λ (text : List ℕ). Keyed (s .args .hash) (c .before .ending .result) (s .args .key .now) text)
+    (parts-joined (s .args .hash) (s .args .mask) (s .args .n .0) (s .args .t .0) (s .args .lt .0) (s .args .extra .now) (s .args .aside .now) (s .args .head .now) (s .args .path .now)
     (s .args .body .now))
-    (took .appended (s .args .key .now) [] (made .keyed)))
+    (took .appended (s .args .hash) (s .args .key .now) [] (made .keyed)))
 
 pub code-spec : {M : Type 1} → statement M
 code-spec =

@@ -2,7 +2,7 @@
 -- Assumes nothing.
 use borrow.Author.Needs.{needs}
 use mathlib.Core.Path.{refl}
-use Rattle.sha2.specs.Hash.{sha512}
+use Rattle.sha2.specs.Hash.{blockSize, sha2}
 use Rattle.sha2.specs.InnerTaken.{Taken}
 use Rattle.hmac.proofs.Streaming.{more-text}
 use Rattle.hmac.proofs.Hmac.absorb.Statement.{statement}
@@ -15,8 +15,8 @@ returns c =
     record {
       inner-counted = c .absorb .ensures .counted;
       outer-counted = refl;
-      appended = λ key text p.
-          more-text Taken sha512 128 (self .inner) (c .absorb .result) (self .outer) (start .args .part .now) key text (c .absorb .ensures .appended) p;
+      appended = λ h key text p.
+          more-text (Taken h) (sha2 h) (blockSize h) (self .inner) (c .absorb .result) (self .outer) (start .args .part .now) key text (c .absorb .ensures .appended h) p;
     }
 
 pub absorb-spec : {M : Type 1} → statement M
