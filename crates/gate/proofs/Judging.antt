@@ -8,6 +8,7 @@ use native.Mathlib.Omega.{arith}
 use borrow.Author.Tests.{ne-eqb, eqb-true, leb-true}
 use lib.Dec.{eqb, leb}
 use lib.ListN.{length}
+use Rattle.hashes.specs.declared.Hash.{Hash}
 use Rattle.reply.specs.Replies.{invalidation}
 use Rattle.cells.proofs.Tests.{both}
 use Rattle.table.proofs.Records.{length-recordBytes}
@@ -180,16 +181,16 @@ module _ (n : ℕ) (nonces : Bool) (place : Place) (next : Record) (table : List
       by true false z = refl
       by false t z = rw u
 
-module _ (n : ℕ) (id key reply : List ℕ) (state : State) where
-  pub answered-zero : n ≡ 0 → answered n id key reply state ≡ replied 0 id reply state
+module _ (n : ℕ) (id key : List ℕ) (hash : Hash) (reply : List ℕ) (state : State) where
+  pub answered-zero : n ≡ 0 → answered n id key hash reply state ≡ replied 0 id reply state
   unfolding answered
   answered-zero e = rw e
 
-  pub answered-freed : invalidates n ≡ true → answered n id key reply state ≡ replied n (invalidation key) reply state
+  pub answered-freed : invalidates n ≡ true → answered n id key hash reply state ≡ replied n (invalidation hash key) reply state
   unfolding answered
   answered-freed e = rw (not-zero n e, e)
 
-  pub answered-kept : (n ≡ 0 → ⊥) → invalidates n ≡ false → answered n id key reply state ≡ untouched n reply state
+  pub answered-kept : (n ≡ 0 → ⊥) → invalidates n ≡ false → answered n id key hash reply state ≡ untouched n reply state
   unfolding answered
   answered-kept z u = rw (ne-eqb n 0 z, u)
 
@@ -224,6 +225,6 @@ module _ (q : Request) (state : State) (d : Decision) (h : Decides q state d) wh
   applied-judged =
       by-number (d .number) _ _ _ _ _ _
       (λ z. rw (h .knows (ap tells z) .id, left-same))
-      (λ t. rw (h .knows t .key, left-same))
+      (λ t. rw (h .knows t .key, h .knows t .hash, left-same))
       (rw left-same)
       ∙ ap (λ (n : ℕ). outcomeAt n q state) (h .is)

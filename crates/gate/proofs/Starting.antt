@@ -10,6 +10,7 @@ use borrow.Author.Tests.{leb-true, eqb-true, ne-eqb}
 use lib.Dec.{leb}
 use lib.ListN.{length}
 use Rattle.cells.specs.Runs.{fronted}
+use Rattle.hashes.specs.declared.Hash.{Hash}
 use Rattle.armor.specs.declared.SetupRead.{SetupRead}
 use Rattle.armor.specs.InnerAnswers.{setupFrom, setupAnswer}
 use Rattle.armor.specs.Fields.{the, setupFields}
@@ -27,7 +28,7 @@ use Rattle.gate.specs.declared.setup.Start.the-variants as S
 use Rattle.gate.specs.State.{State, outcome, replied}
 use Rattle.gate.specs.Calls.{Setup}
 use Rattle.gate.specs.Sizes.{tableFits, setupFits}
-use Rattle.gate.specs.Setup.{offered, expiryOf, entryPart, offerPart, lastingPart, roomPart, setupChecks, newToken, sealedOf, replyOf, withSession, setUp}
+use Rattle.gate.specs.Setup.{offered, chosenOf, expiryOf, entryPart, offerPart, lastingPart, roomPart, setupChecks, newToken, sealedOf, replyOf, withSession, setUp}
 use Rattle.gate.specs.InnerStarts.{RefusedBy, LastsUntil, Lasts, Room, Starts, StartIs, startAt}
 use Rattle.gate.proofs.Numbers.{Entered, entry-numbered, entry-passed, setup-small, offer-numbered, answer-is}
 
@@ -56,9 +57,10 @@ pub tells : (s : Setup) (value : List ℕ) (r : SetupRead) → s .value ≡ valu
 unfolding setupAnswer offerPart offered carried
 tells s value r v e = rw (e, ← v) (told-of (grammar (s .value)) (lastingPart s))
 
-pub offer-lasts : (s : Setup) (end : ℕ) (r : Offer) → first (offerPart s) ≡ first (lastingPart s) → Lasts (lastingPart s) end r → Lasts (offerPart s) end r
-offer-lasts s end (O.Until expiry) t u = record { none = t ∙ u .none; is = u .is }
-offer-lasts s end (O.Refused number) t u = record { is = t ∙ u .is; some = u .some }
+pub offer-lasts : (s : Setup) (hash : Hash) (end : ℕ) (r : Offer) → first (offerPart s) ≡ first (lastingPart s) → Lasts (lastingPart s) hash end r
+    → Lasts (offerPart s) hash end r
+offer-lasts s hash end (O.Until by expiry) t u = record { none = t ∙ u .none; is = u .is; by = u .by }
+offer-lasts s hash end (O.Refused number) t u = record { is = t ∙ u .is; some = u .some }
 
 -- what the sizes of a setup say
 pub record Lent (s : Setup) (state : State) : Type 0 where
@@ -120,23 +122,24 @@ module _ (s : Setup) (state : State) where
       some = r .some;
     }
 
-    pub room-decides : (expiry : ℕ) (r : Start) → LastsUntil (offerPart s) (expiryOf s) expiry
-        → Room (roomPart s (state .table)) (state .table) (s .clock) expiry r → StartIs s state r
-    room-decides expiry (S.At place until) l h = record {
+    pub room-decides : (hash : Hash) (expiry : ℕ) (r : Start) → LastsUntil (offerPart s) (chosenOf s) hash (expiryOf s) expiry
+        → Room (roomPart s (state .table)) (state .table) (s .clock) hash expiry r → StartIs s state r
+    room-decides hash expiry (S.At place by until) l h = record {
       none = later ∙ passed-by (offerPart s) _ (offer-numbered s) (l .none) ∙ h .none;
       is = h .is;
       within = h .within;
+      by = h .by ∙ l .by;
       until = h .until ∙ l .is;
     }
-    room-decides expiry (S.Refused n) l h =
+    room-decides hash expiry (S.Refused n) l h =
         record { is = later ∙ passed-by (offerPart s) _ (offer-numbered s) (l .none) ∙ h .is; some = h .some }
 
   -- the outcome of each decision
-  pub starts : (place expiry : ℕ) → Starts s state place expiry
-      → startAt (s .orders .numbers .mask) (s .orders .extra) (s .server-key) (s .session-key) (s .iv) (s .session-id) place expiry (state .table) (s .reply)
+  pub starts : (place : ℕ) (hash : Hash) (expiry : ℕ) → Starts s state place hash expiry
+      → startAt (s .orders .numbers .mask) (s .orders .extra) (s .server-key) (s .session-key) (s .iv) (s .session-id) place hash expiry (state .table) (s .reply)
       ≡ setUp s state
   unfolding startAt setUp withSession replyOf sealedOf newToken
-  starts place expiry h = simp (h .until, h .none, h .is)
+  starts place hash expiry h = simp (h .by, h .until, h .none, h .is)
 
   pub refuses : (n : ℕ) → RefusedBy (setupChecks s state) n → outcome n (s .reply) state ≡ setUp s state
   unfolding setUp
@@ -146,10 +149,11 @@ module _ (s : Setup) (state : State) where
 
 -- two answers that `setup::decide` may give are one
 pub start-determined : (s : Setup) (state : State) (a b : Start) → StartIs s state a → StartIs s state b → a ≡ b
-start-determined s state (S.At i m) (S.At j n) p q =
+start-determined s state (S.At i g m) (S.At j h n) p q =
     let there : Place.At i ≡ Place.At j = sym (p .is) ∙ q .is in
     let until : m ≡ n = ap (λ (t : ℕ). record { 0 = t }) (p .until ∙ sym (q .until)) in
+    let by : g ≡ h = p .by ∙ sym (q .by) in
     cc
-start-determined s state (S.At i m) (S.Refused n) p q = absurd (omega (arith, p .none, q .is, q .some))
-start-determined s state (S.Refused m) (S.At j n) p q = absurd (omega (arith, q .none, p .is, p .some))
+start-determined s state (S.At i g m) (S.Refused n) p q = absurd (omega (arith, p .none, q .is, q .some))
+start-determined s state (S.Refused m) (S.At j h n) p q = absurd (omega (arith, q .none, p .is, p .some))
 start-determined s state (S.Refused m) (S.Refused n) p q = ap S.Refused (sym (p .is) ∙ q .is)

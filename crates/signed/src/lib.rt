@@ -144,9 +144,11 @@ fn absorb(state: Hmac, part: &[u8]) -> Hmac
     held.absorb(b",")
 }
 
-// Whether two codes are the same: every byte is looked at, whatever the others are.
-pub fn same_code(a: &[u8], b: &[u8]) -> bool
-    ensures { λ r. ⌜ r ≡ same (now (a .entry)) (now (b .entry)) ⌝ }
+// Whether the first bytes of c are a code under the hash: every byte is looked at, whatever the others are.
+pub fn same_code(c: [u8; 64], len: usize, code: [u8; 64], hash: Hash) -> bool
+    requires { ⌜ len ≤ 64 ⌝ }
+    ensures { λ r. ⌜ r ≡ same (take len c) (take (digestSize hash) code) ⌝ }
 {
-    cells::same(a, b)
+    let size = hashes::size(hash);
+    cells::same(&c[..len], &code[..size])
 }

@@ -7,9 +7,11 @@ use mathlib.Core.Option.{Option, none, some, Option·getD}
 use Prim.Native.Nat.{ℕ, _≤_, _<_}
 use native.Mathlib.Omega.{arith}
 use borrow.Author.Tests.{le-leb, lt-leb}
+use lib.Dec.{eqb}
 use lib.ListN.{take}
 use Rattle.cells.specs.Runs.{same}
 use Rattle.hashes.specs.declared.Hash.{Hash}
+use Rattle.hashes.specs.Hashes.{hashMask}
 use Rattle.hmac.specs.Hmac.{hmacOf}
 use Rattle.armor.specs.declared.Answer.{Answer}
 use Rattle.armor.specs.declared.Request.{Request as ArmorRequest}
@@ -122,6 +124,11 @@ module _ (q : Request) (table : List ℕ) where
   module _ (place : Place) (held : Record) (s : StandsAt q table place held) (there : nowhere place ≡ false) where
     held-there : held ≡ heldAt table (placeOf table (ivOf q))
     held-there = sym (s .holds there) ∙ ap (heldAt table) (sym (s .at))
+
+    -- whether its record keeps the request's hash, as the code compares them
+    pub hash-told : (hash : Hash) (mask : ℕ) → hashOf q ≡ hash → mask ≡ hashMask hash → keepsHash q table ≡ eqb (held .hash) mask
+    unfolding keepsHash
+    hash-told hash mask e f = rw (← held-there, e, f)
 
     pub stepped-held : (n : ℕ) (w : Window) (answer : Stepped) → nonceOf q ≡ n → w ≡ windowOf held → answer ≡ stepOf w n → answer ≡ stepped q table
     unfolding stepped

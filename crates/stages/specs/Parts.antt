@@ -120,7 +120,7 @@ abbrev pub vouchingPart : Request → List Check
 vouchingPart q = tokenPart q ++ signaturePart q
 
 -- whether the session's record keeps the request's hash
-abbrev pub keepsHash : Request → List ℕ → Bool
+unfoldable pub keepsHash : Request → List ℕ → Bool
 keepsHash q table = eqb (heldAt table (placeOf table (ivOf q)) .hash) (hashMask (hashOf q))
 
 -- 12, 8 against the record, 13 and 14: the session

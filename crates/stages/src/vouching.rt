@@ -66,9 +66,7 @@ pub fn vouch<'a>(
         body,
     );
     let c = request.c;
-    let c_len = request.c_len;
-    let size = hashes::size(hash);
-    if !signed::same_code(&c[..c_len], &code[..size]) {
+    if !signed::same_code(c, request.c_len, code, hash) {
         return Vouched { number: 11, token };
     }
     Vouched { number: 0, token }

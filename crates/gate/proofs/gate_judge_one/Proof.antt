@@ -67,7 +67,7 @@ use Rattle.gate.proofs.gate_judge_one.Proof.Steps.{_▸_, sval, Shared,
 
 abbrev stayed : Stays (self.ended .signature .params) (self.ended .kept)
 stayed =
-    stay-none (λ _. u64) yes ▸ stay-none-slice (0 ∷ []) tt (plain (λ _. u8)) yes ▸ stay-none (λ _. u32) yes ▸ stay-none (λ _. u32) yes ▸
+    stay-none (λ _. u64) yes ▸ stay-none (λ _. u64) yes ▸ stay-none-slice (0 ∷ []) tt (plain (λ _. u8)) yes ▸ stay-none (λ _. u32) yes ▸ stay-none (λ _. u32) yes ▸
     stay-none (λ _. u32) yes ▸ stay-none (λ _. u32) yes ▸ stay-none-slice (1 ∷ []) tt (plain (λ _. u8)) yes ▸
     stay-none-slice (2 ∷ []) tt (plain (λ _. u8)) yes ▸ stay-none-slice (3 ∷ []) tt (plain (λ _. u8)) yes ▸
     stay-none-slice (3 ∷ []) tt (plain (λ _. u8)) yes ▸ stay-none-slice (4 ∷ []) tt (plain (λ _. u8)) yes ▸
@@ -82,7 +82,7 @@ Callee 𝓤 H A at-mem run = tripleOf 𝓤 H A callee.signature (callee.spec �
 
 module _ {M : Type 1} (𝓤 : URA M) (H : Heap 𝓤) (A : Atoms 𝓤) (W : Given 𝓤 H A) (at-mem : Memory → SProp 𝓤) (run : Routine → Fun 𝓤)
     (κ₀ κ₁ κ₂ κ₃ κ₄ κ₅ κ₆ κ₇ : Lft) (q₀ q₁ q₂ q₃ q₄ q₅ q₆ q₇ : Share)
-    (mask life idle session clock : ℕ) (extra key value head aside path body reply : RefT (List ℕ)) (b o : ℕ) (γ : GName) (h : Record) where
+    (mask hashes life idle session clock : ℕ) (extra key value head aside path body reply : RefT (List ℕ)) (b o : ℕ) (γ : GName) (h : Record) where
   abbrev κs : Lfts 8
   κs = κ₀ ▸ κ₁ ▸ κ₂ ▸ κ₃ ▸ κ₄ ▸ κ₅ ▸ κ₆ ▸ κ₇ ▸ tt
 
@@ -93,11 +93,11 @@ module _ {M : Type 1} (𝓤 : URA M) (H : Heap 𝓤) (A : Atoms 𝓤) (W : Given
   r = record { ptr = (b, o); name = γ; now = h }
 
   abbrev x : Args self.signature κs
-  x = mask ▸ extra ▸ life ▸ idle ▸ session ▸ clock ▸ key ▸ value ▸ head ▸ aside ▸ path ▸ body ▸ r ▸ reply ▸ tt
+  x = mask ▸ hashes ▸ extra ▸ life ▸ idle ▸ session ▸ clock ▸ key ▸ value ▸ head ▸ aside ▸ path ▸ body ▸ r ▸ reply ▸ tt
 
   abbrev at : Vals self.signature κs
   at =
-      vint w64 mask ∷ [] ▸ sval extra ∷ [] ▸ vint w32 life ∷ [] ▸ vint w32 idle ∷ [] ▸ vint w32 session ∷ [] ▸ vint w32 clock ∷ [] ▸ sval key ∷ [] ▸
+      vint w64 mask ∷ [] ▸ vint w64 hashes ∷ [] ▸ sval extra ∷ [] ▸ vint w32 life ∷ [] ▸ vint w32 idle ∷ [] ▸ vint w32 session ∷ [] ▸ vint w32 clock ∷ [] ▸ sval key ∷ [] ▸
       sval value ∷ [] ▸ sval head ∷ [] ▸ sval aside ∷ [] ▸ sval path ∷ [] ▸ sval body ∷ [] ▸ vptr b o ∷ [] ▸ sval reply ∷ [] ▸ tt
 
   abbrev Post : Val → SProp 𝓤
@@ -111,11 +111,11 @@ module _ {M : Type 1} (𝓤 : URA M) (H : Heap 𝓤) (A : Atoms 𝓤) (W : Given
   qs′ = q₀ ▸ q₁ ▸ q₂ ▸ q₃ ▸ q₄ ▸ q₅ ▸ q₇ ▸ tt
 
   abbrev x′ : Args callee.signature κs′
-  x′ = mask ▸ extra ▸ life ▸ idle ▸ session ▸ clock ▸ key ▸ value ▸ head ▸ aside ▸ path ▸ body ▸ h ▸ reply ▸ tt
+  x′ = mask ▸ hashes ▸ extra ▸ life ▸ idle ▸ session ▸ clock ▸ key ▸ value ▸ head ▸ aside ▸ path ▸ body ▸ h ▸ reply ▸ tt
 
   abbrev at′ : Vals callee.signature κs′
   at′ =
-      vint w64 mask ∷ [] ▸ sval extra ∷ [] ▸ vint w32 life ∷ [] ▸ vint w32 idle ∷ [] ▸ vint w32 session ∷ [] ▸ vint w32 clock ∷ [] ▸ sval key ∷ [] ▸
+      vint w64 mask ∷ [] ▸ vint w64 hashes ∷ [] ▸ sval extra ∷ [] ▸ vint w32 life ∷ [] ▸ vint w32 idle ∷ [] ▸ vint w32 session ∷ [] ▸ vint w32 clock ∷ [] ▸ sval key ∷ [] ▸
       sval value ∷ [] ▸ sval head ∷ [] ▸ sval aside ∷ [] ▸ sval path ∷ [] ▸ sval body ∷ [] ▸ tval h ∷ [] ▸ sval reply ∷ [] ▸ tt
 
   abbrev to : Callee 𝓤 H A at-mem run .Ghost
@@ -123,14 +123,14 @@ module _ {M : Type 1} (𝓤 : URA M) (H : Heap 𝓤) (A : Atoms 𝓤) (W : Given
 
   -- what the callee leaves in the reply
   abbrev left : Lasts callee.ended κs′ x′ → List ℕ
-  left zs = zs .1 .1 .1 .1 .1 .1 .1 .1 .1 .1 .1 .1 .1 .0
+  left zs = zs .1 .1 .1 .1 .1 .1 .1 .1 .1 .1 .1 .1 .1 .1 .0
 
   -- what is known of the result j and of the reply's last list zs
   abbrev Said : Judged → List ℕ → Type 0
   Said j zs =
       outcome (j .answer) zs (holding (recordBytes (j .next)))
       ≡ judged
-      (requestOf (ordersOf mask (extra .now) life idle session) clock (key .now) (value .now) (head .now) (aside .now) (path .now) (body .now) (reply .now))
+      (requestOf (ordersOf mask hashes (extra .now) life idle session) clock (key .now) (value .now) (head .now) (aside .now) (path .now) (body .now) (reply .now))
       (holding (recordBytes h))
 
   -- the tokens of all lifetimes, and of those other than the record's
@@ -148,7 +148,8 @@ module _ {M : Type 1} (𝓤 : URA M) (H : Heap 𝓤) (A : Atoms 𝓤) (W : Given
   Passed =
       Others ⊛ ‵ (fsep (MutSlice (named 7) κ₇ u8 .own reply (sval reply ∷ [])) ftrue) ⊛ Shared κ₅ body ⊛ Shared κ₄ path ⊛ Shared κ₃ aside ⊛
       Shared κ₃ head ⊛ Shared κ₂ value ⊛ Shared κ₁ key ⊛ ‵ (u32 .own clock (vint w32 clock ∷ [])) ⊛ ‵ (u32 .own session (vint w32 session ∷ [])) ⊛
-      ‵ (u32 .own idle (vint w32 idle ∷ [])) ⊛ ‵ (u32 .own life (vint w32 life ∷ [])) ⊛ Shared κ₀ extra ⊛ ‵ (u64 .own mask (vint w64 mask ∷ []))
+      ‵ (u32 .own idle (vint w32 idle ∷ [])) ⊛ ‵ (u32 .own life (vint w32 life ∷ [])) ⊛ Shared κ₀ extra ⊛
+      ‵ (u64 .own hashes (vint w64 hashes ∷ [])) ⊛ ‵ (u64 .own mask (vint w64 mask ∷ []))
 
   -- what the function has at its entry: the record's borrow and its token, what is kept, and what is passed
   abbrev Begun : Item 𝓤
@@ -159,25 +160,25 @@ module _ {M : Type 1} (𝓤 : URA M) (H : Heap 𝓤) (A : Atoms 𝓤) (W : Given
       qed W
       (All ∷ ‵
       (owns
-      (u64 ∷ ShrSlice (named 0) κ₀ u8 ∷ u32 ∷ u32 ∷ u32 ∷ u32 ∷ ShrSlice (named 1) κ₁ u8 ∷ ShrSlice (named 2) κ₂ u8 ∷ ShrSlice (named 3) κ₃ u8 ∷
+      (u64 ∷ u64 ∷ ShrSlice (named 0) κ₀ u8 ∷ u32 ∷ u32 ∷ u32 ∷ u32 ∷ ShrSlice (named 1) κ₁ u8 ∷ ShrSlice (named 2) κ₂ u8 ∷ ShrSlice (named 3) κ₃ u8 ∷
       ShrSlice (named 3) κ₃ u8 ∷ ShrSlice (named 4) κ₄ u8 ∷ ShrSlice (named 5) κ₅ u8 ∷ MutRef (named 6) κ₆ T.the-row ∷ MutSlice (named 7) κ₇ u8 ∷ [])
       x at) ∷ [])
       ∵ past ! $ past ! $ past ! $ past ! $ past ! $ past ! $ split ! $ move ! (7 ∷ 6 ∷ 5 ∷ 4 ∷ 3 ∷ 2 ∷ 1 ∷ []) $ group ! 7 $ move ! (2 ∷ []) $
-      fpast ! $ fpast ! $ fpast ! $ fpast ! $ fpast ! $ fpast ! $ fpast ! $ fpast ! $ fpast ! $ fpast ! $ fpast ! $ fpast ! $ fpast ! $ fsplit ! $
-      -- [reply; true; the record; body; path; aside; head; value; key; clock; session; idle; life; extra; mask; the other tokens; the record's]
+      fpast ! $ fpast ! $ fpast ! $ fpast ! $ fpast ! $ fpast ! $ fpast ! $ fpast ! $ fpast ! $ fpast ! $ fpast ! $ fpast ! $ fpast ! $ fpast ! $ fsplit ! $
+      -- [reply; true; the record; body; path; aside; head; value; key; clock; session; idle; life; extra; hashes; mask; the other tokens; the record's]
       nothing ! $ move ! (14 ∷ []) $ keeps ! κ₀ extra $
       move ! (10 ∷ []) $ keeps ! κ₁ key $ move ! (10 ∷ []) $ keeps ! κ₂ value $ move ! (10 ∷ []) $ keeps ! κ₃ head $
       move ! (10 ∷ []) $ keeps ! κ₃ aside $ move ! (10 ∷ []) $ keeps ! κ₄ path $ move ! (10 ∷ []) $ keeps ! κ₅ body $
-      -- [what is kept; body; path; aside; head; value; key; extra; reply; true; the record; clock; session; idle; life; mask; the other tokens; the record's]
-      move ! (8 ∷ 9 ∷ []) $ fjoin ! $ move ! (9 ∷ 16 ∷ 1 ∷ 15 ∷ 0 ∷ 2 ∷ 3 ∷ 4 ∷ 5 ∷ 6 ∷ 7 ∷ 10 ∷ 11 ∷ 12 ∷ 13 ∷ 8 ∷ []) $ done !
+      -- [what is kept; body; path; aside; head; value; key; extra; reply; true; the record; clock; session; idle; life; hashes; mask; the other tokens; the record's]
+      move ! (8 ∷ 9 ∷ []) $ fjoin ! $ move ! (9 ∷ 17 ∷ 1 ∷ 16 ∷ 0 ∷ 2 ∷ 3 ∷ 4 ∷ 5 ∷ 6 ∷ 7 ∷ 10 ∷ 11 ∷ 12 ∷ 13 ∷ 8 ∷ []) $ done !
 
   goes-in : ent 𝓤 (sep 𝓤 (mean 𝓤 H A Passed) (mean 𝓤 H A (‵ (T.the-row .own h (tval h ∷ []))))) (Callee 𝓤 H A at-mem run .pre to)
   goes-in =
       qed W (Passed ∷ ‵ (T.the-row .own h (tval h ∷ [])) ∷ [])
       ∵ past ! $ split ! $ move ! (3 ∷ 0 ∷ []) $ fjoin ! $ over ! $ over ! $ over ! $ over ! $ over ! $ over ! $ over ! $ over ! $ over ! $ over ! $ over ! $
-      move ! (1 ∷ 0 ∷ []) $ fjoin ! $ move ! (1 ∷ 0 ∷ []) $ join ! $ frame ! $ done !
+      over ! $ move ! (1 ∷ 0 ∷ []) $ fjoin ! $ move ! (1 ∷ 0 ∷ []) $ join ! $ frame ! $ done !
 
-  module _ (is-mask : Is u64 mask (vint w64 mask ∷ [])) (is-life : Is u32 life (vint w32 life ∷ [])) (is-idle : Is u32 idle (vint w32 idle ∷ []))
+  module _ (is-mask : Is u64 mask (vint w64 mask ∷ [])) (is-hashes : Is u64 hashes (vint w64 hashes ∷ [])) (is-life : Is u32 life (vint w32 life ∷ [])) (is-idle : Is u32 idle (vint w32 idle ∷ []))
       (is-session : Is u32 session (vint w32 session ∷ [])) (is-clock : Is u32 clock (vint w32 clock ∷ [])) where
     -- what is left when the body has run
     abbrev Ended : Judged → List ℕ → List (Item 𝓤)
@@ -191,8 +192,8 @@ module _ {M : Type 1} (𝓤 : URA M) (H : Heap 𝓤) (A : Atoms 𝓤) (W : Given
         qed W (Ended j zs)
         ∵ suffices ! _
         (ends-at 𝓤 H A self.ended stayed (self.clauses 𝓤 H A at-mem run) W ((κs, qs, tt, x, at), tt) (vint w32 (j .answer)) (j .answer)
-        (tt ▸ tt ▸ tt ▸ tt ▸ tt ▸ tt ▸ tt ▸ tt ▸ tt ▸ tt ▸ tt ▸ tt ▸ j .next ▸ zs ▸ tt)
-        (tt ▸ tt ▸ tt ▸ tt ▸ tt ▸ tt ▸ tt ▸ tt ▸ tt ▸ tt ▸ tt ▸ tt ▸ tt ▸ l ▸ tt)) $ says ! e $
+        (tt ▸ tt ▸ tt ▸ tt ▸ tt ▸ tt ▸ tt ▸ tt ▸ tt ▸ tt ▸ tt ▸ tt ▸ tt ▸ j .next ▸ zs ▸ tt)
+        (tt ▸ tt ▸ tt ▸ tt ▸ tt ▸ tt ▸ tt ▸ tt ▸ tt ▸ tt ▸ tt ▸ tt ▸ tt ▸ tt ▸ l ▸ tt)) $ says ! e $
         move ! (3 ∷ []) $ past ! $ past ! $ past ! $ past ! $ past ! $ past ! $ move ! (6 ∷ 5 ∷ 4 ∷ 3 ∷ 2 ∷ 1 ∷ 9 ∷ 0 ∷ []) $ group ! 8 $ frame ! $
         -- [obs; the borrow; the reply's last list; what was kept]
         nothing ! $ move ! (3 ∷ 0 ∷ []) $ fjoin ! $ move ! (1 ∷ 2 ∷ []) $ feqI ! (List Val) (vptr b o ∷ []) (vptr b o ∷ []) refl $ fjoin3 ! $ fjoin ! $
@@ -201,7 +202,8 @@ module _ {M : Type 1} (𝓤 : URA M) (H : Heap 𝓤) (A : Atoms 𝓤) (W : Given
         owned ! u32 (Is u32) (uint-makes 𝓤 H A W w32) session _ is-session $ fjoin ! $
         owned ! u32 (Is u32) (uint-makes 𝓤 H A W w32) idle _ is-idle $ fjoin ! $
         owned ! u32 (Is u32) (uint-makes 𝓤 H A W w32) life _ is-life $ fjoin ! $
-        over ! $ owned ! u64 (Is u64) (uint-makes 𝓤 H A W w64) mask _ is-mask $ fjoin ! $
+        over ! $ owned ! u64 (Is u64) (uint-makes 𝓤 H A W w64) hashes _ is-hashes $ fjoin ! $
+        owned ! u64 (Is u64) (uint-makes 𝓤 H A W w64) mask _ is-mask $ fjoin ! $
         move ! (1 ∷ []) $ drop ! $ owned ! u32 (Is u32) (uint-makes 𝓤 H A W w32) (j .answer) _ (refl, fits) $ move ! (1 ∷ 0 ∷ []) $ done !
 
     module _ (C : Calls 𝓤 H) (Λ : Loops 𝓤 H) (fm : FmC 𝓤 H (W .laws) C) (known : Triple 𝓤 (C #gate·one·judge) (Callee 𝓤 H A at-mem run))
@@ -211,7 +213,7 @@ module _ {M : Type 1} (𝓤 : URA M) (H : Heap 𝓤) (A : Atoms 𝓤) (W : Given
         (is-body : Is (ShrSlice (named 5) κ₅ u8) body (sval body ∷ [])) (is-reply : Is (MutSlice (named 7) κ₇ u8) reply (sval reply ∷ [])) where
       abbrev passed : List Val
       passed =
-          vint w64 mask ∷ sval extra ∷ vint w32 life ∷ vint w32 idle ∷ vint w32 session ∷ vint w32 clock ∷ sval key ∷ sval value ∷ sval head ∷
+          vint w64 mask ∷ vint w64 hashes ∷ sval extra ∷ vint w32 life ∷ vint w32 idle ∷ vint w32 session ∷ vint w32 clock ∷ sval key ∷ sval value ∷ sval head ∷
           sval aside ∷ sval path ∷ sval body ∷ vptr b o ∷ sval reply ∷ []
 
       walk : ent 𝓤 (onEntry 𝓤 H A self.signature κs qs x at) (WpFn 𝓤 H C Λ code.function passed Post)
@@ -222,8 +224,9 @@ module _ {M : Type 1} (𝓤 : URA M) (H : Heap 𝓤) (A : Atoms 𝓤) (W : Given
           enter ! C Λ code.function passed _ $
           alloc1 ! (λ l₀. alloc1 ! (λ l₁. alloc1 ! (λ l₂. alloc1 ! (λ l₃. alloc1 ! (λ l₄. alloc1 ! (λ l₅. alloc1 ! (λ l₆. alloc1 ! (λ l₇.
           alloc1 ! (λ l₈. alloc1 ! (λ l₉. alloc1 ! (λ l₁₀. alloc1 ! (λ l₁₁. alloc1 ! (λ l₁₂. alloc1 ! (λ l₁₃. alloc1 ! (λ l₁₄. alloc1 ! (λ l₁₅.
-          alloc1 ! (λ l₁₆. alloc1 ! (λ l₁₇. alloc1 ! (λ l₁₈. alloc0 ! $ params1 ! $
-          pass1 ! (init ! 34 refl (tt, record { fits = is-mask .1 })) $
+          alloc1 ! (λ l₁₆. alloc1 ! (λ l₁₇. alloc1 ! (λ l₁₈. alloc1 ! (λ l₁₉. alloc0 ! $ params1 ! $
+          pass1 ! (init ! 36 refl (tt, record { fits = is-mask .1 })) $
+          pass1 ! (init ! 34 refl (tt, record { fits = is-hashes .1 })) $
           pass1 ! (init ! 32 refl (shr-slice-lawful 𝓤 H A W (named 0) κ₀ u8 .typed extra _ is-extra .0)) $
           pass1 ! (init ! 30 refl (tt, record { fits = is-life .1 })) $
           pass1 ! (init ! 28 refl (tt, record { fits = is-idle .1 })) $
@@ -237,10 +240,10 @@ module _ {M : Type 1} (𝓤 : URA M) (H : Heap 𝓤) (A : Atoms 𝓤) (W : Given
           pass1 ! (init ! 12 refl (shr-slice-lawful 𝓤 H A W (named 5) κ₅ u8 .typed body _ is-body .0)) $
           pass1 ! (init ! 10 refl (tt, tt)) $
           pass1 ! (init ! 8 refl (mut-slice-lawful 𝓤 H A W (named 7) κ₇ u8 .typed reply _ is-reply .0)) $
-          pass0 ! $ move ! (38 ∷ 39 ∷ 40 ∷ []) $ opens ! tt T.the-row {h = h} b o (λ vs.
+          pass0 ! $ move ! (40 ∷ 41 ∷ 42 ∷ []) $ opens ! tt T.the-row {h = h} b o (λ vs.
           spelt ! T.the-row (Is T.the-row) (shows 𝓤 H A T.the-row) (LL.vals T.the-type T′.the-laws) (LL.tells T.the-type T′.the-laws) fullShare h vs b o $
           move ! (1 ∷ []) $ peeks ! T.the-row (Is T.the-row) (shows 𝓤 H A T.the-row) h (tval h ∷ []) (λ was. move ! (1 ∷ 0 ∷ []) $
-          -- [the record's cell; what it owns; the open borrow; obs; auth; _18 5; _17 7; …; _0 41; what is passed 43; what is kept]
+          -- [the record's cell; what it owns; the open borrow; obs; auth; _19 5; _18 7; …; _0 43; what is passed 45; what is kept]
           assigns ! (of-opd ! (load ! (from ! (hop ! (look ! 15 refl) (stop !))) (look-raw ! 0 refl))) (from ! (stop !))
           (init ! 11 refl (LL.lawful T.the-type T′.the-laws 𝓤 H A W .typed h _ was .0)) $
           assigns ! (addr ! (from ! (fld ! refl (hop ! (look-in ! 13 (sub ! 0 refl (whole !))) (stop !))))) (from ! (stop !)) (init ! 7 refl (tt, tt)) $
@@ -248,10 +251,11 @@ module _ {M : Type 1} (𝓤 : URA M) (H : Heap 𝓤) (A : Atoms 𝓤) (W : Given
           (agg !
           (and-then ! (load ! (from ! (stop !)) (look ! 7 refl)) (and-then ! (load ! (from ! (fld ! refl (stop !))) (look-in ! 13 (sub ! 1 refl (whole !)))) (no-more !))))
           (from ! (stop !)) (init ! 5 refl (tt, (tt, (record { fits = is-reply .0 .1 .0 }, tt)))) $
-          owned ! T.the-row (Is T.the-row) (LL.makes T.the-type T′.the-plain 𝓤 H A) h _ was $ move ! (44 ∷ 0 ∷ []) $
+          owned ! T.the-row (Is T.the-row) (LL.makes T.the-type T′.the-plain 𝓤 H A) h _ was $ move ! (46 ∷ 0 ∷ []) $
           use2 W (raw (Callee 𝓤 H A at-mem run .pre to)) goes-in $
-          -- [pre; the record's cell; what it owns; the open borrow; obs; auth; _18 6; _17 8; …; _0 42; what is kept]
+          -- [pre; the record's cell; what it owns; the open borrow; obs; auth; _19 6; _18 8; …; _0 44; what is kept]
           calls-at ! fm (Callee 𝓤 H A at-mem run) known to
+          (and-then ! (load ! (from ! (stop !)) (look ! 42 refl))
           (and-then ! (load ! (from ! (stop !)) (look ! 40 refl))
           (and-then ! (load ! (from ! (stop !)) (look ! 38 refl))
           (and-then ! (load ! (from ! (stop !)) (look ! 36 refl))
@@ -266,35 +270,35 @@ module _ {M : Type 1} (𝓤 : URA M) (H : Heap 𝓤) (A : Atoms 𝓤) (W : Given
           (and-then ! (load ! (from ! (stop !)) (look ! 18 refl))
           (and-then ! (load ! (from ! (stop !)) (look ! 12 refl))
           (and-then ! (load ! (from ! (stop !)) (look ! 6 refl))
-          (no-more !))))))))))))))) (λ u.
+          (no-more !)))))))))))))))) (λ u.
           use1 W
           (later (some (λ (j : Judged). (Others ⊛ ‵ (J.the-row .own j (u ∷ []))) ⊛ raw (ensured 𝓤 H A callee.ended (callee.clauses 𝓤 H A at-mem run) κs′ x′ tt j))))
           (id⊢ 𝓤 _) $ await ! tt $ pick ! (λ j. past ! $
           use1 W (some (λ (zs : Lasts callee.ended κs′ x′). ‵ (lasts callee.ended κs′ x′ zs) ⊛ raw (fact 𝓤 (Said j (left zs))))) (id⊢ 𝓤 _) $
           pick ! (λ zs. past ! $ heard ! (Said j (left zs)) (λ e.
-          flose ! $ flose ! $ flose ! $ flose ! $ flose ! $ flose ! $ flose ! $ flose ! $ flose ! $ flose ! $ flose ! $ flose ! $ flose ! $
+          flose ! $ flose ! $ flose ! $ flose ! $ flose ! $ flose ! $ flose ! $ flose ! $ flose ! $ flose ! $ flose ! $ flose ! $ flose ! $ flose ! $
           fsplit ! $ fpast ! $ feqL ! (λ l. move ! (1 ∷ []) $ drop ! $ move ! (1 ∷ []) $ past ! $
           peeks ! J.the-row (Is J.the-row) (shows 𝓤 H A J.the-row) j (u ∷ []) (λ is.
-          -- [the result; the other tokens; the last list; the record's cell; what it owns; the open borrow; obs; auth; _18 8; _17 10; …; _0 44; what is kept]
+          -- [the result; the other tokens; the last list; the record's cell; what it owns; the open borrow; obs; auth; _19 8; _18 10; …; _0 46; what is kept]
           land ! (from ! (stop !)) (init ! 12 refl (LL.lawful J.the-type J′.the-laws 𝓤 H A W .typed j _ is .0)) $
-          rewrite ! 12 (λ (w : Val). ‵ (fat fullShare J′.mir l₁₆ 0 w)) (ap only (LL.tells J.the-type J′.the-laws j _ is)) refl $
+          rewrite ! 12 (λ (w : Val). ‵ (fat fullShare J′.mir l₁₇ 0 w)) (ap only (LL.tells J.the-type J′.the-laws j _ is)) refl $
           assigns ! (of-opd ! (load ! (from ! (fld ! refl (stop !))) (look-in ! 12 (sub ! 1 refl (whole !))))) (from ! (hop ! (look ! 18 refl) (stop !)))
           (store-raw ! 3 refl (LL.lawful T.the-type T′.the-laws 𝓤 H A W .typed (j .next) _ (LL.owed J.the-type J′.the-laws j _ is .1 .0) .0)) $
           assigns ! (of-opd ! (load ! (from ! (fld ! refl (stop !))) (look-in ! 12 (sub ! 0 refl (whole !))))) (from ! (stop !))
-          (init ! 44 refl (tt, record { fits = LL.owed J.the-type J′.the-laws j _ is .0 .1 })) $
+          (init ! 46 refl (tt, record { fits = LL.owed J.the-type J′.the-laws j _ is .0 .1 })) $
           -- the borrow is closed at the next record
           owned ! T.the-row (Is T.the-row) (LL.makes T.the-type T′.the-plain 𝓤 H A) (j .next) _ (LL.owed J.the-type J′.the-laws j _ is .1 .0) $
           move ! (4 ∷ 0 ∷ 6 ∷ 7 ∷ 8 ∷ []) $ closes ! tt T.the-row (j .next) (tval (j .next) ∷ []) b o $
-          -- [obs; the borrow; the record's token; the result; the other tokens; the last list; what the old record owned; _18 7; _17 9; …; _0 43; what is kept]
-          returns ! (look ! 43 refl) $ forget ! 7 refl $ forget ! 9 refl $ forget ! 11 refl $ forget ! 13 refl $ forget ! 15 refl $ forget ! 17 refl $
+          -- [obs; the borrow; the record's token; the result; the other tokens; the last list; what the old record owned; _19 7; _18 9; …; _0 45; what is kept]
+          returns ! (look ! 45 refl) $ forget ! 7 refl $ forget ! 9 refl $ forget ! 11 refl $ forget ! 13 refl $ forget ! 15 refl $ forget ! 17 refl $
           forget ! 19 refl $ forget ! 21 refl $ forget ! 23 refl $ forget ! 25 refl $ forget ! 27 refl $ forget ! 29 refl $ forget ! 31 refl $
-          forget ! 33 refl $ forget ! 35 refl $ forget ! 37 refl $ forget ! 39 refl $ forget ! 41 refl $ forget ! 43 refl $
-          move ! (43 ∷ 44 ∷ []) $ free1 ! $ move ! (41 ∷ 42 ∷ []) $ free1 ! $ move ! (39 ∷ 40 ∷ []) $ free1 ! $ move ! (37 ∷ 38 ∷ []) $ free1 ! $
+          forget ! 33 refl $ forget ! 35 refl $ forget ! 37 refl $ forget ! 39 refl $ forget ! 41 refl $ forget ! 43 refl $ forget ! 45 refl $
+          move ! (45 ∷ 46 ∷ []) $ free1 ! $ move ! (43 ∷ 44 ∷ []) $ free1 ! $ move ! (41 ∷ 42 ∷ []) $ free1 ! $ move ! (39 ∷ 40 ∷ []) $ free1 ! $ move ! (37 ∷ 38 ∷ []) $ free1 ! $
           move ! (35 ∷ 36 ∷ []) $ free1 ! $ move ! (33 ∷ 34 ∷ []) $ free1 ! $ move ! (31 ∷ 32 ∷ []) $ free1 ! $ move ! (29 ∷ 30 ∷ []) $ free1 ! $
           move ! (27 ∷ 28 ∷ []) $ free1 ! $ move ! (25 ∷ 26 ∷ []) $ free1 ! $ move ! (23 ∷ 24 ∷ []) $ free1 ! $ move ! (21 ∷ 22 ∷ []) $ free1 ! $
           move ! (19 ∷ 20 ∷ []) $ free1 ! $ move ! (17 ∷ 18 ∷ []) $ free1 ! $ move ! (15 ∷ 16 ∷ []) $ free1 ! $ move ! (13 ∷ 14 ∷ []) $ free1 ! $
           move ! (11 ∷ 12 ∷ []) $ free1 ! $ move ! (9 ∷ 10 ∷ []) $ free1 ! $ move ! (7 ∷ 8 ∷ []) $ free1 ! $ free0 ! $
-          keep ! (0 ∷ 1 ∷ 2 ∷ 4 ∷ 5 ∷ 7 ∷ []) $ by ! (exits j (LL.owed J.the-type J′.the-laws j _ is .0 .1) (left zs) e l))))))))))))))))))))))))))))
+          keep ! (0 ∷ 1 ∷ 2 ∷ 4 ∷ 5 ∷ 7 ∷ []) $ by ! (exits j (LL.owed J.the-type J′.the-laws j _ is .0 .1) (left zs) e l)))))))))))))))))))))))))))))
 
 module _ {M : Type 1} (𝓤 : URA M) (H : Heap 𝓤) (A : Atoms 𝓤) (W : Given 𝓤 H A) (at-mem : Memory → SProp 𝓤) (run : Routine → Fun 𝓤) where
   self-walks : (C : Calls 𝓤 H) (Λ : Loops 𝓤 H) → FmC 𝓤 H (W .laws) C → Triple 𝓤 (C #gate·one·judge) (Callee 𝓤 H A at-mem run)
@@ -302,10 +306,10 @@ module _ {M : Type 1} (𝓤 : URA M) (H : Heap 𝓤) (A : Atoms 𝓤) (W : Given
   self-walks C Λ fm known =
       walked 𝓤 H A self.ended stayed (self.clauses 𝓤 H A at-mem run) (WpFn 𝓤 H C Λ code.function)
       (λ κs.
-      uint-vals w64 ▸ slice-vals ▸ uint-vals w32 ▸ uint-vals w32 ▸ uint-vals w32 ▸ uint-vals w32 ▸ slice-vals ▸ slice-vals ▸ slice-vals ▸ slice-vals ▸
+      uint-vals w64 ▸ uint-vals w64 ▸ slice-vals ▸ uint-vals w32 ▸ uint-vals w32 ▸ uint-vals w32 ▸ uint-vals w32 ▸ slice-vals ▸ slice-vals ▸ slice-vals ▸ slice-vals ▸
       slice-vals ▸ slice-vals ▸ ptr-vals ▸ slice-vals ▸ tt)
       (λ κs.
-      uint-tells w64 ▸ shr-slice-tells (named 0) (κs .0) u8 ▸ uint-tells w32 ▸ uint-tells w32 ▸ uint-tells w32 ▸ uint-tells w32 ▸
+      uint-tells w64 ▸ uint-tells w64 ▸ shr-slice-tells (named 0) (κs .0) u8 ▸ uint-tells w32 ▸ uint-tells w32 ▸ uint-tells w32 ▸ uint-tells w32 ▸
       shr-slice-tells (named 1) (κs .1 .0) u8 ▸ shr-slice-tells (named 2) (κs .1 .1 .0) u8 ▸ shr-slice-tells (named 3) (κs .1 .1 .1 .0) u8 ▸
       shr-slice-tells (named 3) (κs .1 .1 .1 .0) u8 ▸ shr-slice-tells (named 4) (κs .1 .1 .1 .1 .0) u8 ▸
       shr-slice-tells (named 5) (κs .1 .1 .1 .1 .1 .0) u8 ▸ mut-tells (named 6) (κs .1 .1 .1 .1 .1 .1 .0) T.the-row ▸
@@ -316,18 +320,19 @@ module _ {M : Type 1} (𝓤 : URA M) (H : Heap 𝓤) (A : Atoms 𝓤) (W : Given
       (κs .1 .1 .1 .1 .1 .1 .1 .0)
       (qs .0) (qs .1 .0) (qs .1 .1 .0) (qs .1 .1 .1 .0) (qs .1 .1 .1 .1 .0) (qs .1 .1 .1 .1 .1 .0) (qs .1 .1 .1 .1 .1 .1 .0)
       (qs .1 .1 .1 .1 .1 .1 .1 .0)
-      (a .0) (a .1 .1 .0) (a .1 .1 .1 .0) (a .1 .1 .1 .1 .0) (a .1 .1 .1 .1 .1 .0) (a .1 .0) (a .1 .1 .1 .1 .1 .1 .0) (a .1 .1 .1 .1 .1 .1 .1 .0)
-      (a .1 .1 .1 .1 .1 .1 .1 .1 .0) (a .1 .1 .1 .1 .1 .1 .1 .1 .1 .0) (a .1 .1 .1 .1 .1 .1 .1 .1 .1 .1 .0) (a .1 .1 .1 .1 .1 .1 .1 .1 .1 .1 .1 .0)
-      (a .1 .1 .1 .1 .1 .1 .1 .1 .1 .1 .1 .1 .1 .0) (a .1 .1 .1 .1 .1 .1 .1 .1 .1 .1 .1 .1 .0 .ptr .0)
-      (a .1 .1 .1 .1 .1 .1 .1 .1 .1 .1 .1 .1 .0 .ptr .1) (a .1 .1 .1 .1 .1 .1 .1 .1 .1 .1 .1 .1 .0 .name)
-      (a .1 .1 .1 .1 .1 .1 .1 .1 .1 .1 .1 .1 .0 .now)
-      (are .0) (are .1 .1 .0) (are .1 .1 .1 .0) (are .1 .1 .1 .1 .0) (are .1 .1 .1 .1 .1 .0) C Λ fm known (are .1 .0) (are .1 .1 .1 .1 .1 .1 .0)
-      (are .1 .1 .1 .1 .1 .1 .1 .0) (are .1 .1 .1 .1 .1 .1 .1 .1 .0) (are .1 .1 .1 .1 .1 .1 .1 .1 .1 .0) (are .1 .1 .1 .1 .1 .1 .1 .1 .1 .1 .0)
-      (are .1 .1 .1 .1 .1 .1 .1 .1 .1 .1 .1 .0) (are .1 .1 .1 .1 .1 .1 .1 .1 .1 .1 .1 .1 .1 .0)))
+      (a .0) (a .1 .0) (a .1 .1 .1 .0) (a .1 .1 .1 .1 .0) (a .1 .1 .1 .1 .1 .0) (a .1 .1 .1 .1 .1 .1 .0) (a .1 .1 .0) (a .1 .1 .1 .1 .1 .1 .1 .0) (a .1 .1 .1 .1 .1 .1 .1 .1 .0)
+      (a .1 .1 .1 .1 .1 .1 .1 .1 .1 .0) (a .1 .1 .1 .1 .1 .1 .1 .1 .1 .1 .0) (a .1 .1 .1 .1 .1 .1 .1 .1 .1 .1 .1 .0) (a .1 .1 .1 .1 .1 .1 .1 .1 .1 .1 .1 .1 .0)
+      (a .1 .1 .1 .1 .1 .1 .1 .1 .1 .1 .1 .1 .1 .1 .0) (a .1 .1 .1 .1 .1 .1 .1 .1 .1 .1 .1 .1 .1 .0 .ptr .0)
+      (a .1 .1 .1 .1 .1 .1 .1 .1 .1 .1 .1 .1 .1 .0 .ptr .1) (a .1 .1 .1 .1 .1 .1 .1 .1 .1 .1 .1 .1 .1 .0 .name)
+      (a .1 .1 .1 .1 .1 .1 .1 .1 .1 .1 .1 .1 .1 .0 .now)
+      (are .0) (are .1 .0) (are .1 .1 .1 .0) (are .1 .1 .1 .1 .0) (are .1 .1 .1 .1 .1 .0) (are .1 .1 .1 .1 .1 .1 .0) C Λ fm known (are .1 .1 .0) (are .1 .1 .1 .1 .1 .1 .1 .0)
+      (are .1 .1 .1 .1 .1 .1 .1 .1 .0) (are .1 .1 .1 .1 .1 .1 .1 .1 .1 .0) (are .1 .1 .1 .1 .1 .1 .1 .1 .1 .1 .0) (are .1 .1 .1 .1 .1 .1 .1 .1 .1 .1 .1 .0)
+      (are .1 .1 .1 .1 .1 .1 .1 .1 .1 .1 .1 .1 .0) (are .1 .1 .1 .1 .1 .1 .1 .1 .1 .1 .1 .1 .1 .1 .0)))
 
   goes : AllGo 𝓤 H A W 8 (self.signature .params) (self.ended .kept) stayed
   goes =
-      goes-none 𝓤 H A W 8 (λ _. u64) yes (λ κs x f. refl) ▸ goes-none-slice 𝓤 H A W 8 (0 ∷ []) tt (plain (λ _. u8)) yes ▸
+      goes-none 𝓤 H A W 8 (λ _. u64) yes (λ κs x f. refl) ▸ goes-none 𝓤 H A W 8 (λ _. u64) yes (λ κs x f. refl) ▸
+      goes-none-slice 𝓤 H A W 8 (0 ∷ []) tt (plain (λ _. u8)) yes ▸
       goes-none 𝓤 H A W 8 (λ _. u32) yes (λ κs x f. refl) ▸ goes-none 𝓤 H A W 8 (λ _. u32) yes (λ κs x f. refl) ▸
       goes-none 𝓤 H A W 8 (λ _. u32) yes (λ κs x f. refl) ▸ goes-none 𝓤 H A W 8 (λ _. u32) yes (λ κs x f. refl) ▸
       goes-none-slice 𝓤 H A W 8 (1 ∷ []) tt (plain (λ _. u8)) yes ▸ goes-none-slice 𝓤 H A W 8 (2 ∷ []) tt (plain (λ _. u8)) yes ▸

@@ -15,12 +15,12 @@ use Rattle.gate.proofs.gate_setup.Tie as tie
 abbrev asked : tie.Start → Setup
 asked b =
     let a = b .args in
-    setupOf (ordersOf (a .mask) (a .extra .now) (a .request-life) (a .idle) (a .session-life)) (a .clock) (a .server-key .now) (a .session-key .now) (a .iv .now) (a .session-id .now) (a .value .now) (a .reply .now)
+    setupOf (ordersOf (a .mask) (a .hashes) (a .extra .now) (a .request-life) (a .idle) (a .session-life)) (a .clock) (a .server-key .now) (a .session-key .now) (a .iv .now) (a .session-id .now) (a .value .now) (a .reply .now)
 
 abbrev entry : tie.After-known-told → tie.Start
 entry c = c .before .before .before .before .before .before .before .before .before .before .before .before .before .before .before .before
 
-chosen : (c : tie.After-known-told) → Starts (asked (entry c)) (holding (entry c .args .table .now)) (c .before .start .given .0 .0) (c .before .start .given .0 .1 .0 .0)
+chosen : (c : tie.After-known-told) → Starts (asked (entry c)) (holding (entry c .args .table .now)) (c .before .start .given .0 .0) (c .before .start .given .0 .1 .0) (c .before .start .given .0 .1 .1 .0 .0)
 chosen c = rw (c .before .start .given .1) at (c .before .before .before .decide .ensures)
 
 apply-requires : tie.Need-apply-requires
@@ -43,7 +43,7 @@ apply-requires c κs =
 returns : tie.Need-returns
 returns c =
     let known = c .before .before .before .before .before .before .before in
-    c .before .before .before .before .apply .ensures ∙ starts _ _ _ _ (chosen known)
+    c .before .before .before .before .apply .ensures ∙ starts _ _ _ _ _ (chosen known)
 
 returns-2 : tie.Need-returns-2
 returns-2 c = refuses _ _ _ (rw (c .before .start2 .given .1) at (c .before .before .before .decide .ensures))

@@ -4,7 +4,10 @@ use mathlib.Core.Path.{_≡_, sym, ap, _∙_}
 use native.Mathlib.Omega.{arith}
 use borrow.Author.Needs.{needs}
 use lib.ListN.{length, take, length-take}
-use Rattle.reply.specs.Replies.{invalidation}
+use Prim.Native.Nat.{_≤_}
+use Rattle.hashes.specs.declared.Hash.{Hash}
+use Rattle.hashes.specs.declared.Hash.the-variants.{Sha256, Sha512}
+use Rattle.reply.specs.Replies.{invalidation, invalidationSize}
 use Rattle.reply.proofs.Lengths.{length-invalidation}
 use Rattle.stages.specs.InnerStages.{tells}
 use Rattle.gate.proofs.Numbers.{answer-is}
@@ -45,7 +48,7 @@ returns c table =
     let then = c .before .before .before .before .before .before in
     let d = start then .args .decision in
     answer-is _ 0 (length (take (d .«id_len») (d .id))) _ table (omega (arith, id-within then)) (omega arith)
-    ∙ sym (answered-zero (d .number) _ _ _ table (then .if1 .taken) ∙ simp (sym (c .before .before .put-front .ensures)))
+    ∙ sym (answered-zero (d .number) _ _ _ _ table (then .if1 .taken) ∙ simp (sym (c .before .before .put-front .ensures)))
 
 invalidate-requires : tie.Need-invalidate-requires
 invalidate-requires c κs =
@@ -53,20 +56,30 @@ invalidate-requires c κs =
     let room = c .before .before .before .before .before .before .before .before .pre .1 (told (d .number) (sym (c .before .before .before .before .invalidates .ensures) ∙ c .before .before .before .if2 .taken)) .1 in
     search needs
 
+-- so that 256 times its length fits 32 bits
+short : (c : tie.After-invalidate) → c .invalidate .result ≤ 90
+short c =
+    let d = c .before .before .before .before .before .before .before .before .before .args .decision in
+    rw (c .invalidate .ensures .0, length-invalidation) (sizes (d .hash))
+  where
+    sizes : (h : Hash) → invalidationSize h ≤ 90
+    sizes Sha256 = omega arith
+    sizes Sha512 = omega arith
+
 returns-2 : tie.Need-returns-2
 returns-2 c table =
     let d = c .before .before .before .before .before .before .before .before .before .before .before .before .args .decision in
-    answer-is _ (d .number) (length (invalidation (d .key))) _ table (omega (arith, length-invalidation (d .key))) (c .before .before .before .before .before .before .before .before .before .before .before .before .pre .0)
-    ∙ sym (answered-freed (d .number) _ _ _ table (sym (c .before .before .before .before .before .before .before .before .invalidates .ensures) ∙ c .before .before .before .before .before .before .before .if2 .taken) ∙ simp (sym (c .before .before .before .invalidate .ensures)))
+    answer-is _ (d .number) (length (invalidation (d .hash) (d .key))) _ table (omega (arith, c .before .before .before .invalidate .ensures .0)) (c .before .before .before .before .before .before .before .before .before .before .before .before .pre .0)
+    ∙ sym (answered-freed (d .number) _ _ _ _ table (sym (c .before .before .before .before .before .before .before .before .invalidates .ensures) ∙ c .before .before .before .before .before .before .before .if2 .taken) ∙ simp (sym (c .before .before .before .invalidate .ensures .1)))
 
 returns-3 : tie.Need-returns-3
 returns-3 c table =
     let d = c .before .before .before .before .before .args .decision in
     answer-is _ (d .number) 0 _ table (omega arith) (c .before .before .before .before .before .pre .0)
-    ∙ sym (answered-kept (d .number) _ _ _ table (c .before .before .if1 .left) (sym (c .before .invalidates .ensures) ∙ c .if2 .left))
+    ∙ sym (answered-kept (d .number) _ _ _ _ table (c .before .before .if1 .left) (sym (c .before .invalidates .ensures) ∙ c .if2 .left))
 
 pub answer-spec : {M : Type 1} → statement M
 answer-spec =
     tie.close (tie.spec array-share-prefix-id (λ c. id-within (c .before .before .before)) put-front-requires small-id mul-result (λ c. search needs)
-    returns (λ c κs. search needs) (λ c. search needs) invalidate-requires (λ c. search needs) (λ c. search needs) (λ c. search needs) returns-2
-    returns-3)
+    returns (λ c κs. search needs) (λ c. search needs) invalidate-requires (λ c. omega (arith, short (c .before .before))) (λ c. omega (arith, short (c .before .before)))
+    (λ c. omega (arith, short (c .before .before .before), c .before .before .before .before .before .before .before .before .before .before .before .before .pre .0)) (λ c. search needs) returns-2 returns-3)

@@ -69,7 +69,7 @@ settle-requires : tie.Need-settle-requires
 settle-requires c κs =
     let size = sized (asked (begun (c .before .before .before .before .before .before .before .before))) _ (entered (c .before .before .before .before .before .before) .sizes) in
     let held = c .before .before .before .before .before .read .ensures 0 [] [] [] [] .holds (c .before .before .before .if2 .left) in
-    (c .before .before .before .before .before .before .before .before .before .before .before .before .before .before .before .before .before .before .before .before .before .pre, good-extra _ (entered (c .before .before .before .before .before .before) .orders), size .key, held .token-fits, size .head, size .aside, size .path, size .body)
+    (c .before .before .before .before .before .before .before .before .before .before .before .before .before .before .before .before .before .before .before .before .before .pre, good-extra _ (entered (c .before .before .before .before .before .before) .orders), size .key, held .token-fits, held .signature-fits, size .head, size .aside, size .path, size .body)
 
 returns-3 : tie.Need-returns-3
 unfolding ivOf fieldsOf

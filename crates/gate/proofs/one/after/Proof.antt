@@ -24,22 +24,24 @@ stored (At zero) r next w there f g = sym (one-stored r next f g)
 stored (At (suc k)) r next w there f g = absurd (omega arith)
 stored Nowhere r next w there f g = absurd (true≢false there)
 
+-- the record's IV is whole
+whole : (s : tie.Start) → length (s .args .«record» .iv) ≡ 12
+whole s = search needs
+
 returns : tie.Need-returns
 returns c = sym (rw (c .enum-told2 .given .1) (table-nowhere _ _ _ _))
 
 returns-2 : tie.Need-returns-2
 returns-2 c =
     let s = c .before .before .before in
-    let f : length (s .args .«record» .iv) ≡ 12 = search needs in
     let g : length (s .args .next .iv) ≡ 12 = search needs in
-    stored (s .args .place) (s .args .«record») (s .args .next) (s .pre) (ap nowhere (c .before .enum-told .given .1)) f g ∙ sym (table-stepped _ _ _ _ _ (c .if1 .taken))
+    stored (s .args .place) (s .args .«record») (s .args .next) (s .pre) (ap nowhere (c .before .enum-told .given .1)) (whole s) g ∙ sym (table-stepped _ _ _ _ _ (c .if1 .taken))
 
 returns-3 : tie.Need-returns-3
 returns-3 c =
     let s = c .before .before .before .before .before .before in
-    let f : length (s .args .«record» .iv) ≡ 12 = search needs in
     ap recordBytes (c .freed .ensures)
-    ∙ stored (s .args .place) (s .args .«record») freed (s .pre) (ap nowhere (c .before .before .before .before .enum-told .given .1)) f refl
+    ∙ stored (s .args .place) (s .args .«record») freed (s .pre) (ap nowhere (c .before .before .before .before .enum-told .given .1)) (whole s) refl
     ∙ sym (table-freed _ _ _ _ _ (sym (c .before .before .invalidates .ensures) ∙ c .before .if2 .taken))
 
 returns-4 : tie.Need-returns-4

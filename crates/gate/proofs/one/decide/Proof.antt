@@ -30,7 +30,7 @@ lent c = holding (recordBytes (c .args .«record»))
 
 fits : (c : tie.Start) → Fits (c .args .«record»)
 fits c =
-    record { used = search needs; iv = search needs; expiry = search needs; any = search needs; highest = search needs; bits = search needs }
+    record { used = search needs; iv = search needs; expiry = search needs; any = search needs; highest = search needs; bits = search needs; hash = search needs }
 
 abbrev begun : tie.After-enter → tie.Start
 begun c = c .before .before .before .before .before .before .before .before .before .before .before .before
@@ -74,7 +74,7 @@ settle-requires : tie.Need-settle-requires
 settle-requires c κs =
     let size = sized (asked (begun (c .before .before .before .before .before .before .before))) _ (entered (c .before .before .before .before .before) .sizes) in
     let held = c .before .before .before .before .read .ensures 0 [] [] [] [] .holds (c .before .before .if2 .left) in
-    (c .before .before .before .before .before .before .before .before .before .before .before .before .before .before .before .before .before .before .before .pre, good-extra _ (entered (c .before .before .before .before .before) .orders), size .key, held .token-fits, size .head, size .aside, size .path, size .body)
+    (c .before .before .before .before .before .before .before .before .before .before .before .before .before .before .before .before .before .before .before .pre, good-extra _ (entered (c .before .before .before .before .before) .orders), size .key, held .token-fits, held .signature-fits, size .head, size .aside, size .path, size .body)
 
 returns-3 : tie.Need-returns-3
 unfolding ivOf fieldsOf

@@ -13,11 +13,11 @@ use Rattle.gate.proofs.one.judge.Tie as tie
 abbrev asked : tie.Start → Request
 asked c =
     let a = c .args in
-    requestOf (ordersOf (a .mask) (a .extra .now) (a .request-life) (a .idle) (a .session-life)) (a .clock) (a .server-key .now) (a .value .now) (a .head .now) (a .aside .now) (a .path .now) (a .body .now) (a .reply .now)
+    requestOf (ordersOf (a .mask) (a .hashes) (a .extra .now) (a .request-life) (a .idle) (a .session-life)) (a .clock) (a .server-key .now) (a .value .now) (a .head .now) (a .aside .now) (a .path .now) (a .body .now) (a .reply .now)
 
 fits : (c : tie.Start) → Fits (c .args .«record»)
 fits c =
-    record { used = search needs; iv = search needs; expiry = search needs; any = search needs; highest = search needs; bits = search needs }
+    record { used = search needs; iv = search needs; expiry = search needs; any = search needs; highest = search needs; bits = search needs; hash = search needs }
 
 after-requires : tie.Need-after-requires
 after-requires c κs = rw (one-place _ (fits (c .before .before .before .before .before .before .before .before .before .before .before .before .before))) at (c .before .decide .ensures .within)

@@ -8,7 +8,7 @@ use Rattle.gate.proofs.one.place_of.Tie as tie
 
 fits : (c : tie.Start) → Fits (c .args .«record»)
 fits c =
-    record { used = search needs; iv = search needs; expiry = search needs; any = search needs; highest = search needs; bits = search needs }
+    record { used = search needs; iv = search needs; expiry = search needs; any = search needs; highest = search needs; bits = search needs; hash = search needs }
 
 returns : tie.Need-returns
 returns c = rw (one-found _ (fits (c .before .before .before .before)) _, ← (c .before .is-of .ensures), c .if1 .taken)

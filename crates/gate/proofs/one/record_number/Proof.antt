@@ -9,7 +9,7 @@ use Rattle.gate.proofs.one.record_number.Tie as tie
 
 fits : (c : tie.Start) → Fits (c .args .«record»)
 fits c =
-    record { used = search needs; iv = search needs; expiry = search needs; any = search needs; highest = search needs; bits = search needs }
+    record { used = search needs; iv = search needs; expiry = search needs; any = search needs; highest = search needs; bits = search needs; hash = search needs }
 
 returns : tie.Need-returns
 unfolding stateChecks

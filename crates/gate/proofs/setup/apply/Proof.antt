@@ -7,6 +7,7 @@ use borrow.Author.Needs.{needs}
 use lib.ListN.{length, take, length-take}
 use lib.Seq.{length-take-le}
 use Rattle.reply.proofs.Lengths.{setup-short}
+use Rattle.table.proofs.Sessions.{mask-fits}
 use Rattle.gate.specs.InnerStarts.{startAt}
 use Rattle.gate.proofs.Starting.{writes}
 use Rattle.gate.proofs.setup.apply.Statement.{statement}
@@ -25,32 +26,35 @@ setup-requires c κs =
     let fits = few (c .before .before .before .before .before) in
     search needs
 
+cast-begin : tie.Need-cast-begin
+cast-begin c = omega (arith, c .mask .ensures, mask-fits (c .before .before .before .before .before .before .before .before .before .before .before .before .before .before .before .before .before .before .args .hash))
+
 store-requires : tie.Need-store-requires
-store-requires c κs = c .before .before .before .before .before .before .before .before .before .before .before .before .before .before .before .before .before .before .pre .7
+store-requires c κs = c .before .before .before .before .before .before .before .before .before .before .before .before .before .before .before .before .before .before .before .pre .7
 
 -- so that 256 times the reply's length fits 32 bits
 short : (c : tie.After-setup) → c .setup .result ≤ 459
 short c =
     let sealed = c .before .before .before .before .before .before in
     let tag : length (sealed .seal .result .tag) ≡ 16 = search needs in
-    rw (c .setup .ensures .0) (setup-short _ _ _ _ _ _ (few sealed) (search needs) tag (search needs) (search needs))
+    rw (c .setup .ensures .0) (setup-short _ _ _ _ _ _ _ (few sealed) (search needs) tag (search needs) (search needs))
 
 cast-result : tie.Need-cast-result
-cast-result c = omega (arith, short (c .before .before .before .before .before .before .before))
+cast-result c = omega (arith, short (c .before .before .before .before .before .before .before .before))
 
 mul-result : tie.Need-mul-result
-mul-result c = omega (arith, short (c .before .before .before .before .before .before .before))
+mul-result c = omega (arith, short (c .before .before .before .before .before .before .before .before))
 
 returns : tie.Need-returns
 unfolding startAt
 returns c =
-    let written = c .before .before .before .before .before .before .before in
+    let written = c .before .before .before .before .before .before .before .before in
     let sealed = written .before .before .before .before .before .before .seal .ensures in
-    simp (← (sealed .text), ← (sealed .tag), c .before .before .store .ensures, c .before .before .before .begin .ensures)
+    simp (← (sealed .text), ← (sealed .tag), c .before .before .store .ensures, c .before .before .before .begin .ensures, c .before .before .before .before .mask .ensures)
     (writes _ _ _ _ _ (written .setup .ensures .0) (written .setup .ensures .1))
 
 pub apply-spec : {M : Type 1} → statement M
 apply-spec =
     tie.close (tie.spec (λ c κs. search needs) (λ c. within (c .before .before .before))
-    (λ c. sym (length-take-le _ _ (within (c .before .before .before .before)))) (λ c. search needs) setup-requires (λ c κs. search needs)
+    (λ c. sym (length-take-le _ _ (within (c .before .before .before .before)))) (λ c. search needs) setup-requires (λ c κs. search needs) cast-begin (λ c κs. search needs)
     store-requires cast-result mul-result (λ c. search needs) (λ c. search needs) returns)

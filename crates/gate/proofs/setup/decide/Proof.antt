@@ -55,12 +55,12 @@ ends c = ap (λ (l : Limits). begun (c .before .before) .args .clock .0 + l .«s
 returns-2 : tie.Need-returns-2
 returns-2 c =
     offer-refuses _ _ (passed (c .before .before .before .before .before)) _
-    (rw (c .before .number .given .1) at (c .before .before .before .offered .ensures (asked (begun (c .before .before .before .before .before .before .before))) refl (ends (c .before .before .before .before .before))))
+    (rw (c .before .number .given .1) at (c .before .before .before .offered .ensures (asked (begun (c .before .before .before .before .before .before .before))) refl refl (ends (c .before .before .before .before .before))))
 
 returns-3 : tie.Need-returns-3
 returns-3 c =
-    room-decides _ _ (passed (c .before .before .before .before .before .before)) _ (c .room .result)
-    (rw (c .before .before .expiry .given .1, ← ends (c .before .before .before .before .before .before)) at (c .before .before .before .before .offered .ensures (asked (begun (c .before .before .before .before .before .before .before .before))) refl (ends (c .before .before .before .before .before .before))))
+    room-decides _ _ (passed (c .before .before .before .before .before .before)) _ _ (c .room .result)
+    (rw (c .before .before .hash .given .1, ← ends (c .before .before .before .before .before .before)) at (c .before .before .before .before .offered .ensures (asked (begun (c .before .before .before .before .before .before .before .before))) refl refl (ends (c .before .before .before .before .before .before))))
     (c .room .ensures _ refl refl)
 
 pub decide-spec : {M : Type 1} → statement M

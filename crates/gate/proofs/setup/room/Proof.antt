@@ -22,6 +22,7 @@ returns-2 c s v t =
       none = simp (v, t, ← (free .before .before .find .ensures .is), free .enum-told2 .given .1, ← (taken .is), c .before .place .given .1);
       is = sym (taken .is) ∙ c .before .place .given .1;
       within = rw (c .before .place .given .1) at (taken .within);
+      by = refl;
       until = refl;
     }
 

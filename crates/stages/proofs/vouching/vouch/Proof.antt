@@ -20,6 +20,9 @@ slice-aggregate-unseal-2 c =
     let request = c .before .before .before .before .before .before .before .before .before .before .before .before .args .request in
     omega (arith, c .before .before .before .before .before .before .before .before .before .before .before .before .pre .3, sizes (c .before .before .before .before .before .before .before .before .before .before .before .before) .0, length-take (request .«s_len») (request .s))
 
+slice-aggregate-unseal-3 : tie.Need-slice-aggregate-unseal-3
+slice-aggregate-unseal-3 c = sym (sizes (c .before .before .before .before .before .before .before .before .before .before .before .before .before) .2)
+
 unseal-requires : tie.Need-unseal-requires
 unseal-requires c κs =
     let request = c .before .before .before .before .before .before .before .before .before .before .before .before .before .args .request in
@@ -30,33 +33,33 @@ code-requires : tie.Need-code-requires
 code-requires c κs =
     let pre = c .before .before .before .before .before .before .before .before .before .before .before .before .before .before .before .before .before .before .before .before .before .before .before .before .before .pre in
     let key : length (c .before .before .before .before .before .before .before .before .before .before .before .unseal .result .key) ≡ 32 = search needs in
-    (pre .0, omega arith, pre .1, pre .4, pre .5, pre .6, pre .7)
+    (pre .0, omega arith, pre .1, pre .5, pre .6, pre .7, pre .8)
 
 returns : tie.Need-returns
-returns c value reply h =
+returns c value reply h named =
     let u = c .before .before .unseal in
     unopened _ _ h (u .result) (u .ensures) (not-true (u .result .good) (c .if1 .taken))
 
 returns-2 : tie.Need-returns-2
-returns-2 c value reply h =
+returns-2 c value reply h named =
     let u = c .before .before .before .before .before .before .unseal in
     lapsed _ _ h (u .result) (u .ensures) (not-false (u .result .good) (c .before .before .before .before .if1 .left)) (c .if2 .taken)
 
 returns-3 : tie.Need-returns-3
-returns-3 c value reply h =
+returns-3 c value reply h named =
     let u = c .before .before .before .before .before .before .before .before .before .before .before .before .before .before .before .unseal in
     let good = not-false (u .result .good) (c .before .before .before .before .before .before .before .before .before .before .before .before .before .if1 .left) in
-    unsigned _ _ h (u .result) (u .ensures) good (c .before .before .before .before .before .before .before .before .before .if2 .left) _ (c .before .before .before .code .ensures)
+    unsigned _ _ h (u .result) (u .ensures) good (c .before .before .before .before .before .before .before .before .before .if2 .left) _ named _ (c .before .before .before .code .ensures)
     (sym (c .before .same-code .ensures) ∙ not-true (c .before .same-code .result) (c .if3 .taken))
 
 returns-4 : tie.Need-returns-4
-returns-4 c value reply h =
+returns-4 c value reply h named =
     let u = c .before .before .before .before .before .before .before .before .before .before .before .before .before .before .before .unseal in
     let good = not-false (u .result .good) (c .before .before .before .before .before .before .before .before .before .before .before .before .before .if1 .left) in
-    vouched _ _ h (u .result) (u .ensures) good (c .before .before .before .before .before .before .before .before .before .if2 .left) _ (c .before .before .before .code .ensures)
+    vouched _ _ h (u .result) (u .ensures) good (c .before .before .before .before .before .before .before .before .before .if2 .left) _ named _ (c .before .before .before .code .ensures)
     (sym (c .before .same-code .ensures) ∙ not-false (c .before .same-code .result) (c .if3 .left))
 
 pub vouch-spec : {M : Type 1} → statement M
 vouch-spec =
-    tie.close (tie.spec (λ c. search needs) array-share-prefix-s slice-aggregate-unseal-2 (λ c. search needs) unseal-requires returns returns-2
-    (λ c. search needs) code-requires (λ c κs. search needs) returns-3 returns-4)
+    tie.close (tie.spec (λ c. search needs) array-share-prefix-s slice-aggregate-unseal-2 slice-aggregate-unseal-3 unseal-requires returns returns-2
+    (λ c. search needs) code-requires (λ c κs. c .before .before .before .before .before .before .before .before .before .before .before .before .before .before .before .before .before .before .before .before .before .before .before .before .before .before .before .pre .4) returns-3 returns-4)
