@@ -6,32 +6,58 @@
 
 The expected output comes from the published answers alone: this program copies them and computes nothing.
 A line of the input is a kind and byte runs in hexadecimal, each after a comma; crates/vectors/src says which runs a kind
-takes. The answer stands in the same line of the expected output. A line that begins with `#` names the source; its answer
-is empty.
+takes. A digest's kind begins with a capital for SHA-256. The answer stands in the same line of the expected output. A line
+that begins with `#` names the source; its answer is empty.
 """
+import itertools
 import pathlib
+from typing import NamedTuple
 
 import cryptography_vectors
 
 NIST = pathlib.Path(cryptography_vectors.__file__).parent
 CRATE = pathlib.Path(__file__).resolve().parents[2] / "crates" / "vectors"
 
-# FIPS 180-4 publishes its examples apart (the NIST page "Cryptographic Standards and Guidelines, example values");
-# the million letters stand in FIPS 180-2, C.3. Each: message, or the first part of it, and digest.
-FIPS_180_4 = [
-    (b"abc",
-     "ddaf35a193617abacc417349ae20413112e6fa4e89a97ea20a9eeee64b55d39a"
-     "2192992a274fc1a836ba3c23a3feebbd454d4423643ce80e2a9ac94fa54ca49f"),
-    (b"abcdefghbcdefghicdefghijdefghijkefghijklfghijklmghijklmn"
-     b"hijklmnoijklmnopjklmnopqklmnopqrlmnopqrsmnopqrstnopqrstu",
-     "8e959b75dae313da8cf4f72814fc143f8f7779c6eb9f7fa17299aeadb6889018"
-     "501d289e4900f7e4331b99dec4b5433ac7d329eeb6dd26545e96e55b874be909"),
-]
-FIPS_180_2_MILLION = (b"a" * 999,
-                      "e718483d0ce769644e2e42c7bc15b4638e1f98b13b2044285632a803afa973eb"
-                      "de0ff244877ea60a4cb0432ce577c31beb009c5c2c49aa2e4eadb217ad8cc09b")
-# RFC 4231, 4.6: case 5, whose digest is cut to 128 bits. Debian's file leaves it out.
-RFC_4231_CASE_5 = (b"\x0c" * 20, b"Test With Truncation", "415fad6271580a531d4179bc891d87a6")
+
+class Hash(NamedTuple):
+    """What is asked of a hash: its name, the bytes of a block, and published answers that no file has."""
+    name: str
+    block: int
+    examples: list
+    million: tuple
+    case_5: str
+
+    @property
+    def file(self):
+        return self.name.replace("-", "")
+
+    def kind(self, kind):
+        return kind.capitalize() if self.name == "SHA-256" else kind
+
+
+# FIPS 180-4 publishes its examples apart (the NIST page "Cryptographic Standards and Guidelines, example values"): message and
+# digest. The million letters stand in FIPS 180-2: section and digest. RFC 4231, 4.6, is case 5, whose digest is cut to 128 bits;
+# Debian's files leave it out.
+SHA_512 = Hash(
+    "SHA-512", 128,
+    [(b"abc",
+      "ddaf35a193617abacc417349ae20413112e6fa4e89a97ea20a9eeee64b55d39a"
+      "2192992a274fc1a836ba3c23a3feebbd454d4423643ce80e2a9ac94fa54ca49f"),
+     (b"abcdefghbcdefghicdefghijdefghijkefghijklfghijklmghijklmn"
+      b"hijklmnoijklmnopjklmnopqklmnopqrlmnopqrsmnopqrstnopqrstu",
+      "8e959b75dae313da8cf4f72814fc143f8f7779c6eb9f7fa17299aeadb6889018"
+      "501d289e4900f7e4331b99dec4b5433ac7d329eeb6dd26545e96e55b874be909")],
+    ("C.3",
+     "e718483d0ce769644e2e42c7bc15b4638e1f98b13b2044285632a803afa973eb"
+     "de0ff244877ea60a4cb0432ce577c31beb009c5c2c49aa2e4eadb217ad8cc09b"),
+    "415fad6271580a531d4179bc891d87a6")
+SHA_256 = Hash(
+    "SHA-256", 64,
+    [(b"abc", "ba7816bf8f01cfea414140de5dae2223b00361a396177a9cb410ff61f20015ad"),
+     (b"abcdbcdecdefdefgefghfghighijhijkijkljklmklmnlmnomnopnopq",
+      "248d6a61d20638b8e5c026930c3e6039a33ce45964ff2167f6ecedd419db06c1")],
+    ("B.3", "cdc76e5c9914fb9281a1c7e284d73e67f1809a48a497200e046d39ccc7112cd0"),
+    "a3b6167473100ee06e0c796c2955552b")
 # FIPS 197, C.3, and SP 800-38A, F.1.5. Each: key, and pairs of block and answer.
 FIPS_197_C_3 = ("000102030405060708090a0b0c0d0e0f101112131415161718191a1b1c1d1e1f",
                 [("00112233445566778899aabbccddeeff", "8ea2b7ca516745bfeafc49904b496089")])
@@ -86,37 +112,37 @@ def records(path):
             record = {}
 
 
-def sha512():
-    yield "FIPS 180-4, examples: each whole, then a byte at a time"
-    for message, digest in FIPS_180_4:
-        yield ("whole", message.hex()), digest
-        yield ("parts", message[:1].hex(), message.hex()), digest
-    yield "FIPS 180-2, C.3: a million letters a, in parts of 999 bytes"
-    first, digest = FIPS_180_2_MILLION
-    yield ("letters", first.hex()), digest
-    for name in ("SHA512ShortMsg.rsp", "SHA512LongMsg.rsp"):
+def messages(h):
+    yield f"FIPS 180-4, examples for {h.name}: each whole, then a byte at a time"
+    for message, digest in h.examples:
+        yield (h.kind("whole"), message.hex()), digest
+        yield (h.kind("parts"), message[:1].hex(), message.hex()), digest
+    section, digest = h.million
+    yield f"FIPS 180-2, {section}: a million letters a, in parts of 999 bytes"
+    yield (h.kind("letters"), (b"a" * 999).hex()), digest
+    for name in (f"{h.file}ShortMsg.rsp", f"{h.file}LongMsg.rsp"):
         yield f"NIST CAVS 11.0, {name}, all of it; the sizes of the parts are ours"
         for n, r in enumerate(records(NIST / "hashes" / "SHA2" / name)):
             message = r["Msg"][:int(r["Len"]) // 4]
-            size = (None, 1, 127, 128, 129, 63)[n % 6]
-            yield ("parts", message[:2 * size], message) if size else ("whole", message), r["MD"]
+            size = (None, 1, h.block - 1, h.block, h.block + 1, h.block // 2 - 1)[n % 6]
+            yield (h.kind("parts"), message[:2 * size], message) if size else (h.kind("whole"), message), r["MD"]
 
 
-def monte():
-    yield "NIST CAVS 11.1, SHA512Monte.rsp, its first ten rounds; the seed of each but the first is the digest before it"
-    rows = list(records(NIST / "hashes" / "SHA2" / "SHA512Monte.rsp"))
+def monte(h):
+    yield f"NIST CAVS 11.1, {h.file}Monte.rsp, its first ten rounds; the seed of each but the first is the digest before it"
+    rows = list(records(NIST / "hashes" / "SHA2" / f"{h.file}Monte.rsp"))
     digests = [r["MD"] for r in rows if "COUNT" in r][:10]
     seeds = [r["Seed"] for r in rows if "Seed" in r] + digests
     for seed, digest in zip(seeds, digests):
-        yield ("monte", 3 * seed), digest
+        yield (h.kind("monte"), 3 * seed), digest
 
 
-def hmac():
-    yield "RFC 4231, cases 1 to 7 for SHA-512; the fifth is published truncated to 128 bits"
-    cases = [(bytes.fromhex(r["Key"]), bytes.fromhex(r["Msg"]), r["MD"])
-             for r in records(NIST / "HMAC" / "rfc-4231-sha512.txt")]
-    for key, text, digest in cases[:4] + [RFC_4231_CASE_5] + cases[4:]:
-        yield ("hmac" if len(digest) == 128 else "truncated", key.hex(), text.hex()), digest
+def hmac(h):
+    yield f"RFC 4231, cases 1 to 7 for {h.name}; the fifth is published truncated to 128 bits"
+    cases = [("hmac", r["Key"], r["Msg"], r["MD"]) for r in records(NIST / "HMAC" / f"rfc-4231-{h.file.lower()}.txt")]
+    fifth = ("truncated", (b"\x0c" * 20).hex(), b"Test With Truncation".hex(), h.case_5)
+    for kind, key, text, code in cases[:4] + [fifth] + cases[4:]:
+        yield (h.kind(kind), key, text), code
 
 
 def aes():
@@ -170,11 +196,11 @@ def base64():
 
 def main():
     given, answers = [], []
-    for source in (sha512, monte, hmac, aes, seal, unseal, base64):
-        for item in source():
-            words, answer = (["# " + item], "") if isinstance(item, str) else item
-            given.append(",".join(words))
-            answers.append(answer)
+    digests = [source(h) for h in (SHA_512, SHA_256) for source in (messages, monte, hmac)]
+    for item in itertools.chain(*digests, aes(), seal(), unseal(), base64()):
+        words, answer = (["# " + item], "") if isinstance(item, str) else item
+        given.append(",".join(words))
+        answers.append(answer)
     (CRATE / "stdin").write_text("\n".join(given) + "\n")
     (CRATE / "stdout").write_text("\n".join(answers) + "\n")
 

@@ -15,7 +15,7 @@ use Rattle.gate.specs.State.{State}
 use Rattle.gate.specs.Sizes.{lentFits, requestFits}
 use Rattle.stages.specs.Request.{Request}
 use Rattle.stages.specs.Checks.{Check, first}
-use Rattle.stages.specs.Parts.{fieldsOf, ivOf, nonceOf, timeOf, lastTimeOf, signatureOf, openedOf, tokenOf, limits, textOf, codeOf, twice, readingPart, coveringPart, tokenPart, signaturePart, vouchingPart, sessionPart, noncePart, admittingPart}
+use Rattle.stages.specs.Parts.{hashOf, keepsHash, fieldsOf, ivOf, nonceOf, timeOf, lastTimeOf, signatureOf, openedOf, tokenOf, limits, textOf, codeOf, twice, readingPart, coveringPart, tokenPart, signaturePart, vouchingPart, sessionPart, noncePart, admittingPart}
 use Rattle.stages.proofs.Checks.{passed-at}
 use Rattle.stages.proofs.Parts.{vouching-numbered, session-numbered}
 use Rattle.gate.specs.Judge.{entryPart, requestChecks}
@@ -30,7 +30,7 @@ module _ (q : Request) (state : State) (others : PassesOthers q state) (clock : 
   later = arriving clock q
 
   vouched : first (vouchingPart later) ≡ 0
-  unfolding tokenPart signaturePart signatureOf codeOf textOf nonceOf timeOf lastTimeOf tokenOf openedOf ivOf fieldsOf
+  unfolding tokenPart signaturePart signatureOf codeOf textOf nonceOf timeOf lastTimeOf hashOf tokenOf openedOf ivOf fieldsOf
   vouched =
       let past = passed-at (vouchingPart q) (vouching-numbered q) (parts q state others .vouching) in
       rw (past 9, lt-leb (tokenOf q .expiry) clock lasts, past 11) refl
@@ -42,10 +42,10 @@ module _ (q : Request) (state : State) (others : PassesOthers q state) (clock : 
   -- what the session says, by whether the request is too old
   aged : (t : Bool) (rest : List Check) → exceeds clock (timeOf q) (limits q .«request_life») ≡ t
       → first (sessionPart later (state .table) ++ rest) ≡ cond t 14 (first rest)
-  unfolding sessionPart timeOf lastTimeOf limits ivOf fieldsOf
+  unfolding sessionPart keepsHash hashOf timeOf lastTimeOf limits ivOf fieldsOf
   aged t rest e =
       let past = passed-at (sessionPart q (state .table)) (session-numbered q (state .table)) (parts q state others .session) in
-      rw (past 12, past 13, e) refl
+      rw (past 12, past 8, past 13, e) refl
 
 pub by-life : (q : Request) (state : State) → PassesOthers q state → Ages q state (limits q .«request_life»)
 unfolding requestChecks sessionPart

@@ -5,19 +5,22 @@
 pub mod SignedText
 pub mod Reading
 use mathlib.Core.Path.{_≡_, sym, ap, _∙_}
-use mathlib.Core.List.{[], _++_, append-nil}
+use mathlib.Core.List.{List, [], _++_, append-nil}
 use Prim.Native.Nat.{ℕ, zero, suc, _%_, _<_}
 use native.Mathlib.Omega.{arith}
 use borrow.Author.Tests.{eq-eqb}
+use Rattle.hashes.specs.declared.Hash.{Hash}
+use Rattle.hashes.specs.Hashes as Hashes
+use Rattle.hashes.specs.Hashes.{hashMask}
 use Rattle.cells.specs.Numbers.{number}
-use Rattle.armor.specs.Numerals.{numberBytes, maskBytes}
+use Rattle.armor.specs.Numerals.{numberBytes, maskBytes, maskOf}
 use Rattle.armor.specs.Keys.{keyN}
 use Rattle.armor.proofs.Fields.{none-held}
 use Rattle.signed.specs.SignedText.{signedText}
 use Rattle.signed.proofs.SameText as Text
 use Rattle.gate.specs.State.{State}
 use Rattle.stages.specs.Request.{Request}
-use Rattle.stages.specs.Parts.{fieldsOf, nonceOf, timeOf, lastTimeOf, openedOf, tokenOf, textOf, readingPart, tokenPart}
+use Rattle.stages.specs.Parts.{hashOf, fieldsOf, nonceOf, timeOf, lastTimeOf, openedOf, tokenOf, textOf, readingPart, tokenPart}
 use Rattle.gate.specs.Judge.{entryPart, judged}
 use Rattle.stages.proofs.Checks.{none-holds}
 use Rattle.gate.proofs.Numbers.{entry-numbered}
@@ -43,6 +46,7 @@ signed-text q state r = text-carried q state (reaching q state r)
 
 abbrev signing : Request → Text.Request
 signing q = record {
+  hash = hashOf q;
   mask = q .orders .numbers .mask;
   extra = q .orders .extra;
   n = nonceOf q;
@@ -82,7 +86,7 @@ module _ (p q : Request) (s t : State) (rp : Reaches p s) (rq : Reaches q t) (e 
 
   agreed : Agree p q
   agreed = record {
-    h = hash-ordered p s left ∙ sym (hash-ordered q t right);
+    h = hash-ordered p s left ∙ ap (λ (h : Hash). maskBytes (hashMask h)) (texts .hash) ∙ sym (hash-ordered q t right);
     ah = mask-ordered p s left ∙ ap maskBytes (texts .mask) ∙ sym (mask-ordered q t right);
     eah = names-ordered p s left ∙ texts .extra ∙ sym (names-ordered q t right);
     eah-or-not = names-times p s left ∙ ap named (texts .extra) ∙ sym (names-times q t right);
@@ -106,7 +110,7 @@ unfolding tokenOf openedOf
 token-alike p q m = rw (m .token, m .iv, m .tag, m .server-key)
 
 read-alike : (p q : Request) → Agree p q → MeetAlike p q → textOf p ≡ textOf q → ReadAlike p q
-unfolding nonceOf timeOf lastTimeOf
+unfolding hashOf nonceOf timeOf lastTimeOf
 read-alike p q a m e = record {
   orders = m .orders;
   clock = m .clock;
@@ -114,6 +118,7 @@ read-alike p q a m e = record {
   nonce = ap number (a .n);
   time = ap number (a .t);
   last-time = ap number (a .lt);
+  hash = ap (λ (h : List ℕ). Hashes.named (maskOf h)) (a .h);
   signature = m .signature;
   token = token-alike p q m;
   text = e;

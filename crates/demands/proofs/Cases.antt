@@ -5,6 +5,7 @@ use mathlib.Core.Bool.{true, false}
 use mathlib.Core.List.{List, [], _∷_, _++_}
 use Prim.Native.Nat.{ℕ}
 use lib.Dec.{lit≤}
+use Rattle.hashes.specs.declared.Hash.the-variants.{Sha512}
 use Rattle.cells.specs.Numbers.{number}
 use Rattle.base64.specs.Decoding.{bytes, decoded}
 use Rattle.netstring.specs.Netstring.{netstring}
@@ -56,7 +57,7 @@ pub record Cases : Type 0 where
   -- t 1000, lt 1010: not idle
   pub eleven : (limit : ℕ) → exceeds 1000 1010 limit ≡ false
   -- ah 3, no extras, n 5, t 1000, lt 990, Host `a`, path `/`, no body: signed text, control bytes in hex
-  pub twelve : requestText 3 [] 5 1000 990 [] host (codes "/") []
+  pub twelve : requestText Sha512 3 [] 5 1000 990 [] host (codes "/") []
       ≡ codes "2:" ++ (0x01 ∷ 0x04 ∷ codes ",2:" ++ (0x01 ∷ 0x03 ∷ codes ",0:,1:" ++ (0x05 ∷ codes ",2:" ++ (0x03 ∷ 0xE8 ∷ codes ",2:" ++ (0x03 ∷ 0xDE ∷ codes ",1:a,1:/,0:,")))))
 
 seventh : (bits : ℕ) → bit bits 63 ≡ false → answer (hundred bits) 37 ≡ 0

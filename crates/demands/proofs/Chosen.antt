@@ -6,7 +6,7 @@ use mathlib.Core.Path.{_≡_, sym, ap, subst, _∙_}
 use mathlib.Core.List.{List}
 use mathlib.Core.Option.{Option, none, some}
 use Prim.Native.Nat.{ℕ}
-use borrow.Author.Tests.{eqb-true, not-false}
+use borrow.Author.Tests.{eqb-true, not-false, ne-eqb}
 use lib.ListN.{getD, length}
 use Rattle.hashes.specs.declared.Hash.{Hash}
 use Rattle.hashes.specs.Hashes.{hashMask}
@@ -18,14 +18,14 @@ use Rattle.table.specs.Table.{records, recordAt}
 use Rattle.table.specs.Session.{placeOf, heldAt}
 use Rattle.table.proofs.Found.{found-at}
 use Rattle.gate.specs.State.{State}
-use Rattle.gate.specs.Judge.{requestChecks, judged}
+use Rattle.gate.specs.Judge.{entryPart, requestChecks, judged}
 use Rattle.stages.specs.Request.{Request}
 use Rattle.stages.specs.Checks.{first}
-use Rattle.stages.specs.Parts.{ivOf, hashOf, sessionPart}
+use Rattle.stages.specs.Parts.{ivOf, hashOf, keepsHash, readingPart, vouchingPart, sessionPart, noncePart, admittingPart}
 use Rattle.stages.proofs.Checks.{passed-at}
 use Rattle.stages.proofs.Parts.{session-numbered}
 use Rattle.demands.specs.History.{Call, takenOut, judgedAt, empty, after, chosenIn}
-use Rattle.demands.proofs.Shared.Checks.{accepted-passes}
+use Rattle.demands.proofs.Shared.Checks.{accepted-passes, vouched-decides}
 use Rattle.demands.proofs.Shared.Answers.{judged-number}
 use Rattle.demands.proofs.Shared.Others.{passes-finds, parts}
 use Rattle.demands.proofs.History.{standing}
@@ -36,7 +36,7 @@ use Rattle.demands.proofs.History.One.{own}
 -- the record of an accepted request's session keeps the request's hash
 kept : (q : Request) (state : State) (place : ℕ) → first (requestChecks q state) ≡ 0 → placeOf (state .table) (ivOf q) ≡ At place
     → recordAt (state .table) place .hash ≡ hashMask (hashOf q)
-unfolding sessionPart
+unfolding sessionPart keepsHash
 kept q state place e at =
     let session = parts q state (accepted-passes q state e) .session in
     let same = eqb-true _ _ (not-false _ (passed-at (sessionPart q (state .table)) (session-numbered q (state .table)) session 8)) in
@@ -71,3 +71,12 @@ module _ (n : ℕ) (calls : List Call) (q : Request) where
       let f = passes-finds q one (accepted-passes q one zero) in
       let mine = own n now _ _ _ (standing n calls) place (ivOf q) (f .place) (f .finds) in
       recorded place (mine .there) (sym (ap (λ (r : Record). r .hash) (mine .same-record)) ∙ kept q one 0 zero (mine .here))
+
+-- a request with another hash than its session's is 8, though its token and its signature are right
+pub talked-down : (q : Request) (state : State) (place : ℕ) → first (entryPart q state) ≡ 0 → first (readingPart q) ≡ 0 → first (vouchingPart q) ≡ 0
+    → placeOf (state .table) (ivOf q) ≡ At place → (recordAt (state .table) place .hash ≡ hashMask (hashOf q) → ⊥) → judged q state .number ≡ 8
+unfolding requestChecks sessionPart keepsHash
+talked-down q state place entry reading vouching at other =
+    judged-number q state
+    ∙ vouched-decides q state (admittingPart q (state .table)) entry reading vouching
+    ∙ rw (at, ne-eqb (recordAt (state .table) place .hash) (hashMask (hashOf q)) other)

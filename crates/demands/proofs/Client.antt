@@ -17,12 +17,15 @@ use Rattle.cells.specs.Spans.{all}
 use Rattle.cells.specs.Text.{codes}
 use Rattle.cells.specs.Numbers.{number}
 use Rattle.cells.proofs.Equality.{same-self}
+use Rattle.hashes.specs.declared.Hash.{Hash}
+use Rattle.hashes.specs.Hashes.{hashMask, digestSize, named}
+use Rattle.hashes.proofs.Hashes.{mask-named, mask-small, allowed-mask, chosen-common}
 use Rattle.hmac.proofs.Streaming.{length-hmac, bytes-hmac}
 use Rattle.gcm.specs.Gcm.{sealed}
 use Rattle.gcm.proofs.Opening.{length-crypted, length-tag}
 use Rattle.gcm.proofs.SealedBytes.{bytes-crypted, bytes-tag}
-use Rattle.armor.specs.Numerals.{numberBytes, maskBytes, hashMask}
-use Rattle.armor.specs.Keys.{obeys, keys, rankOf, keyNumber, ruleAt, ruleOf, keyC, keyT, keyLt, keyN, keyIv}
+use Rattle.armor.specs.Numerals.{numberBytes, maskBytes, maskOf}
+use Rattle.armor.specs.Keys.{obeys, keys, rankOf, keyNumber, ruleAt, ruleOf, keyC, keyT, keyLt, keyN, keyH, keyIv}
 use Rattle.armor.specs.Value.{Field, field, joined, textsOf, grammar}
 use Rattle.armor.specs.Fields.{contents, times, the, rightTimes, nonceBit, requestFields}
 use Rattle.armor.proofs.Numerals.{number-numberBytes, maskOf-maskBytes}
@@ -54,14 +57,14 @@ use Rattle.token.proofs.Exactly.{fits-so, opened-token}
 use Rattle.reply.specs.Replies.{orderFields, replyFields, setupReply}
 use Rattle.stages.specs.Request.{Request}
 use Rattle.stages.specs.Checks.{first}
-use Rattle.stages.specs.Parts.{fieldsOf, ivOf, nonceOf, timeOf, lastTimeOf, signatureOf, openedOf, tokenOf, limits, textOf, codeOf, twice, ordered, stepped, readingPart, coveringPart, tokenPart, signaturePart, vouchingPart, sessionPart, noncePart, admittingPart}
+use Rattle.stages.specs.Parts.{fieldsOf, ivOf, hashOf, keepsHash, nonceOf, timeOf, lastTimeOf, signatureOf, openedOf, tokenOf, limits, textOf, codeOf, twice, ordered, stepped, readingPart, coveringPart, tokenPart, signaturePart, vouchingPart, sessionPart, noncePart, admittingPart}
 use Rattle.stages.proofs.Checks.{passed-by}
 use Rattle.stages.proofs.Parts.{session-numbered}
 use Rattle.gate.specs.Calls.{Setup}
 use Rattle.gate.specs.State.{State}
 use Rattle.gate.specs.Sizes.{setupFits, tableFits, lentFits, requestFits}
 use Rattle.gate.specs.Entry.{stateChecks, entryChecks}
-use Rattle.gate.specs.Setup.{expiryOf, setupChecks, newToken, sealedOf, replyOf, setUp}
+use Rattle.gate.specs.Setup.{offered, chosenOf, expiryOf, setupChecks, newToken, sealedOf, replyOf, setUp}
 use Rattle.gate.specs.Judge.{entryPart, requestChecks, judged}
 use Rattle.gate.proofs.Numbers.{Entered}
 use Rattle.gate.proofs.Starting.{Lent, lent, opened}
@@ -73,7 +76,7 @@ use Rattle.demands.proofs.Shared.Checks.{vouched-decides, accepted-pass
 use Rattle.demands.proofs.Shared.Answers.{setUp-number, setUp-table, begun-table, judged-number}
 use Rattle.demands.proofs.Shared.Passed.{Takes, setup-takes}
 use Rattle.demands.proofs.Untouched.Setups.{token-sized}
-use Rattle.demands.proofs.Client.Fields.{plain, Good, AllGood, read-back, joined-short, numeral-good, sized-good, exact-good, nonce-good, both-good, orders-good}
+use Rattle.demands.proofs.Client.Fields.{plain, Good, AllGood, read-back, joined-short, numeral-good, sized-good, exact-good, code-good, nonce-good, both-good, orders-good}
 
 -- what its fields hold, with n or without and with eah or without
 record Reads (o : Bool) (n : ℕ) (run : List ℕ) (fs : List Field) : Type 0 where
@@ -122,12 +125,15 @@ module _ (s : Setup) (state : State) (done : first (setupChecks s state) ≡ 0) 
       exact-good (codes "tag") _ 16 refl refl (omega arith) (omega arith) (length-tag (s .server-key) (s .iv) [] (sealedOf s .cipher))
       (bytes-tag (s .server-key) (s .iv) [] (sealedOf s .cipher) (lent-bytes .server-key))
 
-  ordering : AllGood (orderFields mask extra)
+  abbrev hash : Hash
+  hash = chosenOf s
+
+  ordering : AllGood (orderFields hash mask extra)
   ordering =
-      orders-good mask extra (good-mask (s .orders) (entered .orders)) (short-extra extra (good-extra (s .orders) (entered .orders))) (lent-bytes .extra)
+      orders-good hash mask extra (good-mask (s .orders) (entered .orders)) (short-extra extra (good-extra (s .orders) (entered .orders))) (lent-bytes .extra)
 
   -- the reply is read back
-  reply-fields : grammar (replyOf s) ≡ some (replyFields (sealedOf s .cipher) (s .iv) (sealedOf s .tag) (s .session-key) mask extra)
+  reply-fields : grammar (replyOf s) ≡ some (replyFields (sealedOf s .cipher) (s .iv) (sealedOf s .tag) (s .session-key) hash mask extra)
   unfolding replyOf setupReply replyFields plain codes all ruleOf ruleAt keyNumber rankOf keys same obeys
   reply-fields =
       let key-good : Good (field (codes "kh") (s .session-key)) =
@@ -142,10 +148,10 @@ module _ (s : Setup) (state : State) (done : first (setupChecks s state) ≡ 0) 
     fields-good : AllGood (clientFields s m)
     unfolding clientFields clientCode plain codes all ruleOf ruleAt keyNumber rankOf keys same
     fields-good =
-        let code = exact-good (codes "c") (clientCode s m) 64 refl refl (omega arith) (omega arith) (length-hmac (s .session-key) (clientText s m)) (bytes-hmac (s .session-key) (clientText s m)) in
+        let code = code-good hash (clientCode s m) (length-hmac hash (s .session-key) (clientText s m)) (bytes-hmac hash (s .session-key) (clientText s m)) in
         let time = numeral-good (codes "t") (m .time) refl refl (fair .time-fits) in
         let last = numeral-good (codes "lt") (m .last-time) refl refl (fair .last-time-fits) in
-        let later = both-good (orderFields mask extra) _ ordering (nonce-good (ordersNonce mask) (m .nonce) (fair .nonce-fits)) in
+        let later = both-good (orderFields hash mask extra) _ ordering (nonce-good (ordersNonce mask) (m .nonce) (fair .nonce-fits)) in
         (token-good, (code, (time, (last, (iv-good, (tag-good, later))))))
 
     -- its value is read back
@@ -157,7 +163,7 @@ module _ (s : Setup) (state : State) (done : first (setupChecks s state) ≡ 0) 
     unfolding fieldsOf
     fields-are = carried-is (q .value) (clientFields s m) kept
 
-    read-with : (o : Bool) (run : List ℕ) → Reads o (m .nonce) run (mainFields s m ++ (orderFields mask run ++ nonceField o (m .nonce)))
+    read-with : (o : Bool) (run : List ℕ) → Reads o (m .nonce) run (mainFields s m ++ (orderFields hash mask run ++ nonceField o (m .nonce)))
     unfolding contents times the rightTimes keyNumber rankOf keys codes same
     read-with true [] = record { right = refl; nonces = refl; nonce = refl; covers = refl; few = omega arith }
     read-with false [] = record { right = refl; nonces = refl; nonce = refl; covers = refl; few = omega arith }
@@ -182,9 +188,26 @@ module _ (s : Setup) (state : State) (done : first (setupChecks s state) ≡ 0) 
         rw (fields-are, read .right, read .nonces, maskOf-maskBytes mask (omega (arith, good-mask (s .orders) (entered .orders))))
         (parity (mask % 2) (mod-lt mask (omega arith)))
 
-    covered : asOrdered mask extra (fieldsOf q) ≡ true
-    unfolding asOrdered clientFields the contents keyNumber rankOf keys codes same
-    covered = rw (fields-are, read .covers, same-self (maskBytes hashMask), same-self (maskBytes mask)) refl
+    -- its h is the chosen hash, which the orders allow
+    mask-is : maskOf (maskBytes (hashMask hash)) ≡ hashMask hash
+    mask-is = maskOf-maskBytes (hashMask hash) (mask-small hash)
+
+    hash-is : hashOf q ≡ hash
+    unfolding hashOf clientFields the contents keyNumber rankOf keys codes same
+    hash-is = ap (λ (fs : List Field). named (maskOf (the keyH fs))) fields-are ∙ ap named mask-is ∙ mask-named hash
+
+    covered : asOrdered (s .orders .numbers .hashes) mask extra (fieldsOf q) ≡ true
+    unfolding asOrdered clientFields clientCode chosenOf the contents keyNumber rankOf keys codes same
+    covered =
+        rw (
+          fields-are,
+          read .covers,
+          mask-is,
+          allowed-mask hash (s .orders .numbers .hashes) (chosen-common (offered s) (s .orders .numbers .hashes) (takes .common) .1),
+          mask-named hash,
+          eq-eqb (length (clientCode s m)) (digestSize hash) (length-hmac hash (s .session-key) (clientText s m)),
+          same-self (maskBytes mask),
+        ) refl
 
     -- its token opens, and its signature is right
     iv-is : ivOf q ≡ s .iv
@@ -214,11 +237,11 @@ module _ (s : Setup) (state : State) (done : first (setupChecks s state) ≡ 0) 
 
     text-is : textOf q ≡ clientText s m
     unfolding textOf nonceOf requestText signedOf clientRequest
-    text-is = rw (fields-are, read .nonce, time-is, last-time-is, nonce-same (ordersNonce mask) refl) refl
+    text-is = rw (hash-is, fields-are, read .nonce, time-is, last-time-is, nonce-same (ordersNonce mask) refl) refl
 
     code-is : codeOf q ≡ clientCode s m
     unfolding codeOf clientCode newToken
-    code-is = rw (token-is, text-is) refl
+    code-is = rw (hash-is, token-is, text-is) refl
 
     signature-is : signatureOf q ≡ clientCode s m
     unfolding signatureOf clientFields the contents keyNumber rankOf keys codes same
@@ -229,7 +252,7 @@ module _ (s : Setup) (state : State) (done : first (setupChecks s state) ≡ 0) 
     after = setUp s state .state
 
     abbrev new : Record
-    new = begun (s .iv) (expiryOf s)
+    new = begun (s .iv) (expiryOf s) (hashMask hash)
 
     table-is : after .table ≡ spliced (state .table) (R.size * takes .place) (recordBytes new)
     table-is = setUp-table s state ∙ rw done refl ∙ begun-table s (state .table) (takes .place) (takes .takes)
@@ -241,7 +264,7 @@ module _ (s : Setup) (state : State) (done : first (setupChecks s state) ≡ 0) 
     inside = rw length-records within
 
     new-fits : R.Fits new
-    new-fits = begun-fits (s .iv) (expiryOf s) (takes .long) (takes .small)
+    new-fits = begun-fits (s .iv) (expiryOf s) hash (takes .long) (takes .small)
 
     there : Replaced (state .table) (spliced (state .table) (R.size * takes .place) (recordBytes new)) (takes .place) new
     there = replaced (state .table) (takes .place) new within new-fits
@@ -252,7 +275,7 @@ module _ (s : Setup) (state : State) (done : first (setupChecks s state) ≡ 0) 
     well : WellFormed (set (records (state .table)) (takes .place) new)
     well =
         stored-well (records (state .table)) (takes .place) new inside (wellFormed-is (records (state .table)) (entered .formed))
-        (begun-sound (s .iv) (expiryOf s)) (alone-new (records (state .table)) (takes .place) new (takes .unused))
+        (begun-sound (s .iv) (expiryOf s) hash) (alone-new (records (state .table)) (takes .place) new (takes .unused))
 
     found-new : placeOf (after .table) (ivOf q) ≡ At (takes .place)
     found-new =
@@ -310,9 +333,13 @@ module _ (s : Setup) (state : State) (done : first (setupChecks s state) ≡ 0) 
     unfolding tokenPart signaturePart
     vouching-none = rw (opens, unexpired, signature-is, code-is, same-self (clientCode s m)) refl
 
+    keeps : keepsHash q (after .table) ≡ true
+    unfolding keepsHash
+    keeps = rw (found-new, record-is, hash-is) (eq-eqb (hashMask hash) (hashMask hash) refl)
+
     session-none : first (sessionPart q (after .table)) ≡ 0
     unfolding sessionPart
-    session-none = rw (found-new, unidle, in-time) refl
+    session-none = rw (keeps, found-new, unidle, in-time) refl
 
     nonce-none : first (noncePart q (after .table)) ≡ 0
     unfolding noncePart
@@ -328,7 +355,7 @@ module _ (s : Setup) (state : State) (done : first (setupChecks s state) ≡ 0) 
 -- the reply to a setup is read back into the fields that a client copies
 pub reply-read : (s : Setup) (state : State) → LentBytes s → setUp s state .number ≡ 0
     → grammar (replyOf s)
-    ≡ some (replyFields (sealedOf s .cipher) (s .iv) (sealedOf s .tag) (s .session-key) (s .orders .numbers .mask) (s .orders .extra))
+    ≡ some (replyFields (sealedOf s .cipher) (s .iv) (sealedOf s .tag) (s .session-key) (chosenOf s) (s .orders .numbers .mask) (s .orders .extra))
 reply-read s state lent-bytes e = reply-fields s state (sym (setUp-number s state) ∙ e) lent-bytes
 
 -- after every setup that is answered 0, a fair message is accepted
@@ -354,3 +381,24 @@ client-carries s state m clock reply lent-bytes e fair =
       time-is s state done lent-bytes m clock reply fair,
       ap (λ (t : Token). t .expiry) (token-is s state done lent-bytes m clock reply fair),
     )
+
+-- it has its session's hash, and the session that the setup left keeps it
+pub record Bears (s : Setup) (q : Request) (after : State) : Type 0 where
+  pub iv : ivOf q ≡ s .iv
+  pub hash : hashOf q ≡ chosenOf s
+  pub place : ℕ
+  pub at : placeOf (after .table) (s .iv) ≡ At place
+  pub keeps : recordAt (after .table) place .hash ≡ hashMask (chosenOf s)
+
+pub client-bears : (s : Setup) (state : State) (m : Message) (clock : ℕ) (reply : List ℕ) → LentBytes s → setUp s state .number ≡ 0
+    → Fair s m clock reply → Bears s (clientRequest s m clock reply) (setUp s state .state)
+client-bears s state m clock reply lent-bytes e fair =
+    let done = sym (setUp-number s state) ∙ e in
+    let iv = iv-is s state done lent-bytes m clock reply fair in
+    record {
+      iv = iv;
+      hash = hash-is s state done lent-bytes m clock reply fair;
+      place = takes s state done lent-bytes .place;
+      at = ap (placeOf (setUp s state .state .table)) (sym iv) ∙ found-new s state done lent-bytes m clock reply fair;
+      keeps = ap (λ (r : Record). r .hash) (record-is s state done lent-bytes m clock reply fair);
+    }

@@ -7,6 +7,7 @@ use mathlib.Core.Path.{_≡_, sym, ap, _∙_}
 use mathlib.Core.List.{List, []}
 use Prim.Native.Nat.{ℕ, _+_, _*_, _/_, _%_}
 use native.Mathlib.Omega.{arith}
+use Rattle.hashes.specs.declared.Hash.{Hash}
 use Rattle.table.specs.declared.session.Record.{Record}
 use Rattle.table.specs.Record.{recordBytes, recordOf, Fits}
 use Rattle.table.proofs.Records.{recordOf-bytes}
@@ -17,7 +18,7 @@ use Rattle.gate.specs.Setup.{setUp}
 use Rattle.gate.specs.Judge.{judged}
 use Rattle.gate.specs.End.{ended}
 use Rattle.primitives.specs.Answer.{Answer, answer}
-use Rattle.primitives.specs.Digests.{sha512Call, hmacCall}
+use Rattle.primitives.specs.Digests.{digestCall, hmacCall}
 use Rattle.primitives.specs.Sealing.{SealAnswer, sealAnswer, sealCall, openCall}
 
 -- what gate_setup and gate_judge leave: the answer, the reply buffer and the state
@@ -87,13 +88,13 @@ judge-one-determined request before a b f g p q =
         ap (λ (s : Record). record { answer = r .answer; reply = r .reply; session = s }) (sym (recordOf-bytes (r .session) f))
 
 -- what a primitive leaves, its number and its buffer, is an answer; sealing leaves two buffers
-pub sha512-determined : (text out : List ℕ) (a b : Answer)
-    → answer (a .number) (a .out) ≡ sha512Call text out → answer (b .number) (b .out) ≡ sha512Call text out → a ≡ b
-sha512-determined text out a b p q = p ∙ sym q
+pub digest-determined : (h : Hash) (text out : List ℕ) (a b : Answer)
+    → answer (a .number) (a .out) ≡ digestCall h text out → answer (b .number) (b .out) ≡ digestCall h text out → a ≡ b
+digest-determined h text out a b p q = p ∙ sym q
 
-pub hmac-determined : (key text out : List ℕ) (a b : Answer)
-    → answer (a .number) (a .out) ≡ hmacCall key text out → answer (b .number) (b .out) ≡ hmacCall key text out → a ≡ b
-hmac-determined key text out a b p q = p ∙ sym q
+pub hmac-determined : (h : Hash) (key text out : List ℕ) (a b : Answer)
+    → answer (a .number) (a .out) ≡ hmacCall h key text out → answer (b .number) (b .out) ≡ hmacCall h key text out → a ≡ b
+hmac-determined h key text out a b p q = p ∙ sym q
 
 pub seal-determined : (key iv text out tag : List ℕ) (a b : SealAnswer)
     → sealAnswer (a .number) (a .out) (a .tag) ≡ sealCall key iv text out tag

@@ -35,7 +35,7 @@ use Rattle.gate.specs.Setup.{offerPart, lastingPart, roomPart, setupChecks}
 use Rattle.stages.specs.Parts.{ivOf, nonceOf, readingPart, coveringPart, tokenPart, signaturePart, sessionPart, noncePart}
 use Rattle.gate.specs.Judge.{entryPart, requestChecks, judged}
 use Rattle.gate.specs.End.{endChecks}
-use Rattle.demands.specs.History.{Call, setting-up, judging, judging-one, ending, takenOut, answer, empty, after, acceptedIn, setUpIn, lentIn, Apart}
+use Rattle.demands.specs.History.{Call, setting-up, judging, judging-one, ending, takenOut, answer, empty, after, acceptedIn, setUpIn, chosenIn, lentIn, Apart}
 use Rattle.demands.specs.Passing.{PassesOthers}
 use Rattle.demands.proofs.Shared.Checks.{never-given}
 use Rattle.demands.proofs.History.Tables.{Standing, empty-standing}
@@ -46,7 +46,7 @@ use Rattle.demands.proofs.History.One.{one-well}
 use Rattle.demands.proofs.History.Calls.{held-step, call-standing}
 
 -- after any calls the table's sessions are those of the history
-standing : (n : ℕ) (calls : List Call)
+pub standing : (n : ℕ) (calls : List Call)
     → Standing n (after (empty n) calls .table) (setUpIn (empty n) calls) (λ iv. acceptedIn iv (empty n) calls)
     (λ iv. chosenIn iv (empty n) calls)
 unfolding after setUpIn acceptedIn chosenIn

@@ -1,14 +1,17 @@
--- Each number of document 01 is given by some call, so no check is idle: here every number of a setup and of an ending, and 0 to 9 and 14 of
--- a request. 0 and 14 are given to a client's request, by the theorems of Client and Age; the others after 9 need a token that opens, too, and the
+-- Each number of document 01 is given by some call, so no check is idle: here every number of a setup and of an ending, and 0 to 9, 8 against
+-- the record and 14 of a request. 0, the second 8 and 14 are given to a client's request, by the theorems of Client, Chosen and Age; the others after 9 need a token that opens, too, and the
 -- stored calls of tests/host give them.
 -- Assumes nothing.
-use mathlib.Core.Path.{_≡_, refl, ap, _∙_}
+use mathlib.Core.Path.{_≡_, refl, sym, ap, _∙_}
 use mathlib.Core.Bool.{Bool, true, false}
 use mathlib.Core.List.{List, [], _∷_, _++_}
 use mathlib.Core.Option.{none}
 use Prim.Native.Nat.{ℕ, _≤_, _<_, _^_}
 use native.Mathlib.Omega.{arith}
 use lib.ListN.{length, replicate, length-append}
+use Rattle.hashes.specs.declared.Hash.the-variants.{Sha256, Sha512}
+use Rattle.hashes.specs.Hashes as Hashes
+use Rattle.hashes.specs.Hashes.{hashMask, named, allowedOne, inCommon}
 use Rattle.cells.specs.Runs.{same}
 use Rattle.cells.specs.Numbers.{bytesOf, number}
 use Rattle.gcm.specs.Gcm.{tagOf, crypted, given, opened}
@@ -25,15 +28,16 @@ use Rattle.armor.specs.Fields.{contents, times, the, rightTimes, nonceBit, requ
 use Rattle.cells.specs.Text.{codes}
 use Rattle.cells.specs.Spans.{all, leading}
 use Rattle.cells.proofs.Numbers.{bytes-bytesOf}
+use Rattle.cells.proofs.Tests.{both}
 use Rattle.names.specs.Names.{hasByte, tokenByte, isToken, lower, sameName, headerNames}
 use Rattle.names.specs.Extra.{extraNames, goodNames, goodExtra}
 use Rattle.names.specs.Covered.{chosen, coveredNames}
 use Rattle.orders.specs.Orders.{ordersGood, limitsOf, Orders, ordersOf}
 use Rattle.lines.specs.Lines.{CR, LF, valueByte, goodLine, lineText, textOf, frontLine, startsLine, linesUpTo, linesIn, goodBlock}
 use Rattle.lines.specs.Values.{timesNamed, repeated}
-use Rattle.window.specs.Window.{bit}
 use Rattle.table.specs.Record.{size, recordBytes, recordOf, begun}
 use Rattle.table.specs.Table.{records, found, taken}
+use Rattle.table.specs.Session.{placeOf}
 use Rattle.table.specs.WellFormed.{sound, fitting, wellFormed}
 use Rattle.coverage.specs.Coverage.{asOrdered}
 use Rattle.token.specs.Token.{tokenText, tokenIn, tokenFrom, openedToken}
@@ -41,23 +45,27 @@ use Rattle.token.proofs.Text.{length-three}
 use Rattle.token.proofs.Exactly.{no-token}
 use Rattle.gate.specs.Calls.{Setup, setupOf}
 use Rattle.stages.specs.Request.{Request, requestOf}
+use Rattle.stages.specs.Checks.{first}
 use Rattle.gate.specs.State.{State, holding}
 use Rattle.gate.specs.Sizes.{tableFits, setupFits, lentFits, requestFits, endFits}
 use Rattle.gate.specs.Entry.{stateChecks, entryChecks}
 use Rattle.gate.specs.Setup as S
-use Rattle.gate.specs.Setup.{offered, expiryOf, offerPart, lastingPart, roomPart, setupChecks, setUp}
+use Rattle.gate.specs.Setup.{offered, chosenOf, expiryOf, offerPart, lastingPart, roomPart, setupChecks, setUp}
 use Rattle.stages.specs.Parts.{fieldsOf, ivOf, timeOf, openedOf, tokenOf, twice, readingPart, coveringPart, tokenPart, signaturePart, sessionPart, noncePart}
 use Rattle.gate.specs.Judge.{entryPart, requestChecks, answered, judged}
 use Rattle.gate.specs.End.{endChecks, ended}
+use Rattle.gate.proofs.Numbers.{entry-passed}
 use Rattle.demands.specs.History.{empty}
 use Rattle.demands.specs.Client.{Message, clientRequest, LentBytes, Fair}
 use Rattle.demands.specs.Passing.{PassesOthers}
-use Rattle.demands.proofs.Client.{client-accepted, client-passes, client-carries}
+use Rattle.demands.proofs.Client.{client-accepted, client-passes, client-carries, Bears, client-bears}
+use Rattle.demands.proofs.Chosen.{talked-down}
+use Rattle.demands.proofs.Shared.Others.{parts}
 use Rattle.demands.proofs.Age.{by-default, as-named}
 
--- limits by default, and no extra names
+-- both hashes, limits by default, and no extra names
 abbrev pub ordering : ℕ → Orders
-ordering mask = ordersOf mask [] 0 0 0
+ordering mask = ordersOf mask 5 [] 0 0 0
 
 abbrev pub zeros : ℕ → List ℕ
 zeros n = replicate n 0
@@ -69,17 +77,23 @@ under orders clock value = setupOf orders clock (zeros 32) (zeros 32) (zeros 12)
 abbrev pub asking : ℕ → ℕ → List ℕ → Setup
 asking mask = under (ordering mask)
 
--- a client's mask with SHA-512
+-- a client's mask: SHA-512, SHA-256 alone, and both
 abbrev pub offer : List ℕ
 offer = codes "r:AQQ="
 
--- a setup at 0 whose orders say this request life
-abbrev pub living : ℕ → Setup
-living life = under (ordersOf 2 [] life 0 0) 0 offer
+abbrev pub scanner : List ℕ
+scanner = codes "r:AQE="
+
+abbrev pub either : List ℕ
+either = codes "r:AQU="
+
+-- a setup at 0 with this value whose orders say this request life
+abbrev pub living : List ℕ → ℕ → Setup
+living value life = under (ordersOf 2 5 [] life 0 0) 0 value
 
 -- a table of one session, which has this IV and lasts until 1
 abbrev pub session : List ℕ → State
-session iv = holding (recordBytes (begun iv 1))
+session iv = holding (recordBytes (begun iv 1 4))
 
 -- a table with a mark that is neither 0 nor 1
 abbrev pub marked : State
@@ -99,7 +113,9 @@ abbrev pub host : List ℕ
 host = codes "Host:a" ++ (CR ∷ LF ∷ [])
 
 pub record SetupWitnesses : Type 0 where
-  pub zero : (life : ℕ) → setUp (living life) (empty 1) .number ≡ 0
+  pub zero : (life : ℕ) → setUp (living offer life) (empty 1) .number ≡ 0
+  pub short : (life : ℕ) → setUp (living scanner life) (empty 1) .number ≡ 0
+  pub long : (life : ℕ) → setUp (living either life) (empty 1) .number ≡ 0
   pub one : setUp (asking 2 0 offer) (holding []) .number ≡ 1
   pub two : setUp (asking (2 ^ 56) 0 offer) (empty 1) .number ≡ 2
   pub three : setUp (asking 2 0 offer) marked .number ≡ 3
@@ -107,13 +123,15 @@ pub record SetupWitnesses : Type 0 where
   pub five : setUp (asking 2 0 (codes "x:AQQ=")) (empty 1) .number ≡ 5
   pub seventeen : setUp (asking 2 0 offer) (session (zeros 12)) .number ≡ 17
   pub eighteen : setUp (asking 2 0 offer) (session (replicate 12 1)) .number ≡ 18
-  pub nineteen : setUp (asking 2 0 (codes "r:AQE=")) (empty 1) .number ≡ 19
+  pub nineteen : setUp (asking 2 0 (codes "r:AQI=")) (empty 1) .number ≡ 19
   pub twenty : setUp (asking 2 4294967295 offer) (empty 1) .number ≡ 20
 
 pub setup-witnesses : SetupWitnesses
-unfolding setUp setupChecks S.entryPart offerPart lastingPart roomPart entryChecks stateChecks setupFits tableFits ordersGood goodExtra extraNames goodNames wellFormed fitting sound same bit records recordOf recordBytes bytesOf number codes Value.grammar Value.fieldsIn Value.fieldOf Value.pieceGood Value.textObeys Value.carried Pieces.pieces Pieces.upTo Pieces.after decoded full two one ending coded sixBits placeIn alphabet counted obeys ruleOf ruleAt keyNumber rankOf keys isMask isNumeral plain setupFields times contents offered the maskOf expiryOf limitsOf found taken
+unfolding setUp setupChecks S.entryPart offerPart lastingPart roomPart entryChecks stateChecks setupFits tableFits ordersGood goodExtra extraNames goodNames wellFormed fitting sound same records recordOf recordBytes bytesOf number codes Value.grammar Value.fieldsIn Value.fieldOf Value.pieceGood Value.textObeys Value.carried Pieces.pieces Pieces.upTo Pieces.after decoded full two one ending coded sixBits placeIn alphabet counted obeys ruleOf ruleAt keyNumber rankOf keys isMask isNumeral plain setupFields times contents offered inCommon the maskOf expiryOf limitsOf found taken
 setup-witnesses = record {
   zero = λ life. refl;
+  short = λ life. refl;
+  long = λ life. refl;
   one = refl;
   two = refl;
   three = refl;
@@ -164,7 +182,7 @@ pub record RequestWitnesses : Type 0 where
   pub nine : judged (sending 2 fields []) (empty 1) .number ≡ 9
 
 pub request-witnesses : RequestWitnesses
-unfolding judged answered requestChecks entryPart readingPart coveringPart tokenPart signaturePart sessionPart noncePart entryChecks stateChecks requestFits lentFits tableFits ordersGood goodExtra extraNames goodNames wellFormed fitting sound same records recordOf number codes Value.grammar Value.fieldsIn Value.fieldOf Value.pieceGood Value.textObeys Value.carried Pieces.pieces Pieces.upTo Pieces.after decoded full two one ending coded sixBits placeIn alphabet counted obeys ruleOf ruleAt keyNumber rankOf keys isMask isNumeral isNumber plain requestFields rightTimes times contents nonceBit the maskOf fieldsOf goodBlock linesIn linesUpTo startsLine frontLine lineText textOf goodLine valueByte isToken tokenByte hasByte all leading twice repeated timesNamed sameName lower coveredNames chosen headerNames asOrdered maskBytes numberBytes shortest bytesOf openedOf ivOf
+unfolding judged answered requestChecks entryPart readingPart coveringPart tokenPart signaturePart sessionPart noncePart entryChecks stateChecks requestFits lentFits tableFits ordersGood goodExtra extraNames goodNames wellFormed fitting sound same records recordOf number codes Value.grammar Value.fieldsIn Value.fieldOf Value.pieceGood Value.textObeys Value.carried Pieces.pieces Pieces.upTo Pieces.after decoded full two one ending coded sixBits placeIn alphabet counted obeys ruleOf ruleAt keyNumber rankOf keys isMask isNumeral isNumber plain requestFields rightTimes times contents nonceBit the maskOf fieldsOf goodBlock linesIn linesUpTo startsLine frontLine lineText textOf goodLine valueByte isToken tokenByte hasByte all leading twice repeated timesNamed sameName lower coveredNames chosen headerNames asOrdered allowedOne named maskBytes numberBytes shortest bytesOf openedOf ivOf
 request-witnesses = record {
   one = refl;
   two = refl;
@@ -181,9 +199,9 @@ request-witnesses = record {
 abbrev pub plainly : Message
 plainly = record { head = []; aside = []; path = codes "/"; body = []; time = 0; last-time = 0; nonce = 0 }
 
-lent-zeros : (life : ℕ) → LentBytes (living life)
+lent-zeros : (value : List ℕ) (life : ℕ) → LentBytes (living value life)
 unfolding bytesOf
-lent-zeros life = record {
+lent-zeros value life = record {
   server-key = bytes-bytesOf 32 0;
   session-key = bytes-bytesOf 32 0;
   iv = bytes-bytesOf 12 0;
@@ -191,9 +209,10 @@ lent-zeros life = record {
   extra = bytes-bytesOf 0 0;
 }
 
-fair : (life clock : ℕ) → clock < 1209600 → clock ≤ limitsOf (living life .orders) .«request_life» → Fair (living life) plainly clock (zeros 1024)
+fair : (value : List ℕ) (life clock : ℕ) → clock < 1209600 → clock ≤ limitsOf (living value life .orders) .«request_life»
+    → Fair (living value life) plainly clock (zeros 1024)
 unfolding codes same textOf goodBlock linesIn linesUpTo startsLine frontLine repeated timesNamed coveredNames chosen headerNames extraNames expiryOf limitsOf
-fair life clock lasts timely = record {
+fair value life clock lasts timely = record {
   head-fits = omega arith;
   aside-fits = omega arith;
   path-some = omega arith;
@@ -211,39 +230,98 @@ fair life clock lasts timely = record {
 }
 
 -- a client's request, made at 0, that comes at a time, and the table that its setup left
-abbrev pub sent : ℕ → ℕ → Request
-sent life clock = clientRequest (living life) plainly clock (zeros 1024)
+abbrev pub sent : List ℕ → ℕ → ℕ → Request
+sent value life clock = clientRequest (living value life) plainly clock (zeros 1024)
 
-abbrev pub left : ℕ → State
-left life = setUp (living life) (empty 1) .state
-
-accepted : (life clock : ℕ) → clock < 1209600 → clock ≤ limitsOf (living life .orders) .«request_life» → judged (sent life clock) (left life) .number ≡ 0
-accepted life clock lasts timely =
-    client-accepted (living life) (empty 1) plainly clock (zeros 1024) (lent-zeros life) (setup-witnesses .zero life) (fair life clock lasts timely)
+abbrev pub left : List ℕ → ℕ → State
+left value life = setUp (living value life) (empty 1) .state
 
 -- a request of this age at a request life that the orders leave at 0, and at one of 300 that they name
 pub record AgeWitnesses : Type 0 where
-  pub sixty : judged (sent 0 60) (left 0) .number ≡ 0
-  pub sixty-one : judged (sent 0 61) (left 0) .number ≡ 14
-  pub three-hundred : judged (sent 300 300) (left 300) .number ≡ 0
-  pub three-hundred-one : judged (sent 300 301) (left 300) .number ≡ 14
+  pub sixty : judged (sent offer 0 60) (left offer 0) .number ≡ 0
+  pub sixty-one : judged (sent offer 0 61) (left offer 0) .number ≡ 14
+  pub three-hundred : judged (sent offer 300 300) (left offer 300) .number ≡ 0
+  pub three-hundred-one : judged (sent offer 300 301) (left offer 300) .number ≡ 14
 
-module _ (life : ℕ) where
-  at-once : Fair (living life) plainly 0 (zeros 1024)
-  at-once = fair life 0 (omega arith) (omega arith)
+module _ (value : List ℕ) (life : ℕ) (done : setUp (living value life) (empty 1) .number ≡ 0) where
+  accepted : (clock : ℕ) → clock < 1209600 → clock ≤ limitsOf (living value life .orders) .«request_life» → judged (sent value life clock) (left value life) .number ≡ 0
+  accepted clock lasts timely =
+      client-accepted (living value life) (empty 1) plainly clock (zeros 1024) (lent-zeros value life) done (fair value life clock lasts timely)
 
-  passes : PassesOthers (sent life 0) (left life)
-  passes = client-passes (living life) (empty 1) plainly 0 (zeros 1024) (lent-zeros life) (setup-witnesses .zero life) at-once .0
+  at-once : Fair (living value life) plainly 0 (zeros 1024)
+  at-once = fair value life 0 (omega arith) (omega arith)
 
-  carries : (timeOf (sent life 0) ≡ 0) × (tokenOf (sent life 0) .expiry ≡ 1209600)
+  passes : PassesOthers (sent value life 0) (left value life)
+  passes = client-passes (living value life) (empty 1) plainly 0 (zeros 1024) (lent-zeros value life) done at-once .0
+
+  carries : (timeOf (sent value life 0) ≡ 0) × (tokenOf (sent value life 0) .expiry ≡ 1209600)
   unfolding expiryOf limitsOf
-  carries = client-carries (living life) (empty 1) plainly 0 (zeros 1024) (lent-zeros life) (setup-witnesses .zero life) at-once
+  carries = client-carries (living value life) (empty 1) plainly 0 (zeros 1024) (lent-zeros value life) done at-once
+
+  bears : Bears (living value life) (sent value life 0) (left value life)
+  bears = client-bears (living value life) (empty 1) plainly 0 (zeros 1024) (lent-zeros value life) done at-once
 
 pub age-witnesses : AgeWitnesses
 unfolding limitsOf clientRequest
-age-witnesses = record {
-  sixty = accepted 0 60 (omega arith) (omega arith);
-  sixty-one = by-default (sent 0 0) (left 0) (passes 0) refl .refused 61 (omega (arith, carries 0 .1)) (omega (arith, carries 0 .0));
-  three-hundred = accepted 300 300 (omega arith) (omega arith);
-  three-hundred-one = as-named (sent 300 0) (left 300) (passes 300) refl .refused 301 (omega (arith, carries 300 .1)) (omega (arith, carries 300 .0));
-}
+age-witnesses =
+    let zero = setup-witnesses .zero in
+    record {
+      sixty = accepted offer 0 (zero 0) 60 (omega arith) (omega arith);
+      sixty-one =
+          by-default (sent offer 0 0) (left offer 0) (passes offer 0 (zero 0)) refl .refused 61 (omega (arith, carries offer 0 (zero 0) .1))
+          (omega (arith, carries offer 0 (zero 0) .0));
+      three-hundred = accepted offer 300 (zero 300) 300 (omega arith) (omega arith);
+      three-hundred-one =
+          as-named (sent offer 300 0) (left offer 300) (passes offer 300 (zero 300)) refl .refused 301 (omega (arith, carries offer 300 (zero 300) .1))
+          (omega (arith, carries offer 300 (zero 300) .0));
+    }
+
+-- a session of each hash with a request that is taken, and the request of the shorter one in a session of the longer: the same IV, key,
+-- token and table otherwise
+pub record HashWitnesses : Type 0 where
+  pub chosen-short : chosenOf (living scanner 0) ≡ Sha256
+  pub taken-short : judged (sent scanner 0 0) (left scanner 0) .number ≡ 0
+  pub chosen-long : chosenOf (living either 0) ≡ Sha512
+  pub taken-long : judged (sent either 0 0) (left either 0) .number ≡ 0
+  pub down : judged (sent scanner 0 0) (left either 0) .number ≡ 8
+
+picks-short : chosenOf (living scanner 0) ≡ Sha256
+unfolding chosenOf Hashes.chosen offered the contents keyNumber rankOf keys same maskOf number codes Value.grammar Value.fieldsIn Value.fieldOf Value.pieceGood Value.textObeys Value.carried Pieces.pieces Pieces.upTo Pieces.after decoded full two one ending coded sixBits placeIn alphabet counted obeys ruleOf ruleAt isMask isNumeral plain
+picks-short = refl
+
+picks-long : chosenOf (living either 0) ≡ Sha512
+unfolding chosenOf Hashes.chosen offered the contents keyNumber rankOf keys same maskOf number codes Value.grammar Value.fieldsIn Value.fieldOf Value.pieceGood Value.textObeys Value.carried Pieces.pieces Pieces.upTo Pieces.after decoded full two one ending coded sixBits placeIn alphabet counted obeys ruleOf ruleAt isMask isNumeral plain
+picks-long = refl
+
+-- the request is lent as in its own session, and the table is the other's
+exchanged : first (entryPart (sent scanner 0 0) (left either 0)) ≡ 0
+unfolding entryPart entryChecks stateChecks requestFits
+exchanged =
+    let own = entry-passed _ _ _ (parts (sent scanner 0 0) (left scanner 0) (passes scanner 0 (setup-witnesses .short 0)) .entry) in
+    let other = entry-passed _ _ _ (parts (sent either 0 0) (left either 0) (passes either 0 (setup-witnesses .long 0)) .entry) in
+    let lent : lentFits (sent scanner 0 0) ≡ true = both (lentFits (sent scanner 0 0)) (tableFits (left scanner 0 .table)) (own .sizes) .0 in
+    let room : tableFits (left either 0 .table) ≡ true = both (lentFits (sent either 0 0)) (tableFits (left either 0 .table)) (other .sizes) .1 in
+    rw (lent, room, own .orders, other .formed) refl
+
+pub hash-witnesses : HashWitnesses
+unfolding limitsOf
+hash-witnesses =
+    let short = setup-witnesses .short 0 in
+    let long = setup-witnesses .long 0 in
+    let read = parts (sent scanner 0 0) (left scanner 0) (passes scanner 0 short) in
+    let low = bears scanner 0 short in
+    let high = bears either 0 long in
+    record {
+      chosen-short = picks-short;
+      taken-short = accepted scanner 0 short 0 (omega arith) (omega arith);
+      chosen-long = picks-long;
+      taken-long = accepted either 0 long 0 (omega arith) (omega arith);
+      down =
+          talked-down (sent scanner 0 0) (left either 0) (high .place) exchanged (read .reading) (read .vouching)
+          (ap (placeOf (left either 0 .table)) (low .iv) ∙ high .at)
+          (λ e.
+          let masks : hashMask Sha512 ≡ hashMask Sha256 =
+          sym (high .keeps ∙ ap hashMask picks-long) ∙ e ∙ ap hashMask (low .hash ∙ picks-short)
+          in
+          omega arith);
+    }

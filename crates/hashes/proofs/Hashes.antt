@@ -2,7 +2,7 @@
 -- Assumes nothing.
 use mathlib.Core.Path.{_≡_, refl, sym, ap, _∙_}
 use mathlib.Core.Bool.{Bool, true, false, true≢false, cond, _&&_, _||_}
-use Prim.Native.Nat.{ℕ, _≤_}
+use Prim.Native.Nat.{ℕ, _^_, _≤_, _<_}
 use native.Mathlib.Omega.{arith}
 use lib.Dec.{eqb}
 use borrow.Author.Tests.{eqb-true}
@@ -38,6 +38,12 @@ allowed-names hashes m = by (eqb m 1) (eqb m 4) (has Sha256 hashes) (has Sha512 
     by false true x y h = refl
     by false false x y h = h
 
+-- the mask of an allowed hash is an allowed one
+pub allowed-mask : (h : Hash) (hashes : ℕ) → has h hashes ≡ true → allowedOne hashes (hashMask h) ≡ true
+unfolding allowedOne
+allowed-mask Sha256 hashes e = rw e
+allowed-mask Sha512 hashes e = e
+
 -- the chosen hash is one that both sides have, and no longer one is
 pub chosen-common : (offered hashes : ℕ) → inCommon offered hashes ≡ true
     → (has (chosen offered hashes) offered ≡ true) × (has (chosen offered hashes) hashes ≡ true)
@@ -59,6 +65,10 @@ chosen-common offered hashes h =
 pub chosen-longest : (offered hashes : ℕ) → has Sha512 offered ≡ true → has Sha512 hashes ≡ true → chosen offered hashes ≡ Sha512
 unfolding chosen
 chosen-longest offered hashes e f = rw (e, f)
+
+pub mask-small : (h : Hash) → hashMask h < 2 ^ 64
+mask-small Sha256 = omega arith
+mask-small Sha512 = omega arith
 
 -- room for either digest
 pub digest-fits : (h : Hash) → digestSize h ≤ 64

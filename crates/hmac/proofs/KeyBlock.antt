@@ -51,6 +51,6 @@ front-xored x (suc n) [] = refl
 front-xored x (suc n) (b ∷ xs) = ap (λ (l : List ℕ). bitXor b x ∷ l) (front-xored x n xs)
 
 -- a digest is no longer than a block
-pub within : (h : Hash) → digestSize h ≤ blockSize h
-within Sha256 = omega arith
-within Sha512 = omega arith
+pub digest-within : (h : Hash) → digestSize h ≤ blockSize h
+digest-within Sha256 = omega arith
+digest-within Sha512 = omega arith

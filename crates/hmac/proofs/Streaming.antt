@@ -49,13 +49,16 @@ pub record Front (n : ℕ) (xs : List ℕ) : Type 0 where
   pub fits : n ≤ length xs
   pub long : n ≡ length (take n xs)
 
+front : (n : ℕ) (xs : List ℕ) → n ≤ length xs → Front n xs
+front n xs fits = record { fits = fits; long = sym (length-take-le n xs fits) }
+
 pub digest-front : (h : Hash) (n : ℕ) (xs : List ℕ) → n ≡ digestSize h → length xs ≡ 64 → Front n xs
-digest-front Sha256 n xs e f = record { fits = omega arith; long = sym (length-take-le n xs (omega arith)) }
-digest-front Sha512 n xs e f = record { fits = omega arith; long = sym (length-take-le n xs (omega arith)) }
+digest-front Sha256 n xs e f = front n xs (omega arith)
+digest-front Sha512 n xs e f = front n xs (omega arith)
 
 pub block-front : (h : Hash) (n : ℕ) (xs : List ℕ) → n ≡ blockSize h → length xs ≡ 128 → Front n xs
-block-front Sha256 n xs e f = record { fits = omega arith; long = sym (length-take-le n xs (omega arith)) }
-block-front Sha512 n xs e f = record { fits = omega arith; long = sym (length-take-le n xs (omega arith)) }
+block-front Sha256 n xs e f = front n xs (omega arith)
+block-front Sha512 n xs e f = front n xs (omega arith)
 
 -- an HMAC is as long as a digest, and each is a byte
 pub length-hmac : (h : Hash) (key text : List ℕ) → length (hmacOf h key text) ≡ digestSize h

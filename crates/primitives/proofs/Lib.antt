@@ -1,2 +1,3 @@
 -- The modules that belong to no one function.
+pub mod Digests
 pub mod Sealing

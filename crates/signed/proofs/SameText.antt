@@ -10,9 +10,8 @@ use lib.ListN.{length, length-map}
 use Rattle.netstring.specs.Netstring.{netstrings}
 use Rattle.netstring.proofs.Determined.{netstrings-determined, netstrings-append}
 use Rattle.hashes.specs.declared.Hash.{Hash}
-use Rattle.hashes.specs.declared.Hash.the-variants.{Sha256, Sha512}
 use Rattle.hashes.specs.Hashes.{hashMask}
-use Rattle.hashes.proofs.Hashes.{mask-tells}
+use Rattle.hashes.proofs.Hashes.{mask-tells, mask-small}
 use Rattle.armor.specs.Numerals.{numberBytes, maskBytes}
 use Rattle.armor.proofs.Numerals.{numberBytes-injective, maskBytes-injective}
 use Rattle.names.specs.Covered.{coveredNames}
@@ -123,10 +122,6 @@ each-same : (f g : List ℕ → List ℕ) (ns : List (List ℕ)) → map f ns �
 each-same f g (n ∷ ns) e name (List·Memᴰ·head p) = cc
 each-same f g (n ∷ ns) e name (List·Memᴰ·tail m) = each-same f g ns (cc) name m
 
-short : (h : Hash) → hashMask h < 2 ^ 64
-short Sha256 = omega arith
-short Sha512 = omega arith
-
 -- THE THEOREM, of requests
 pub request-same : (p q : Request) → Fits p → Fits q → textOf p ≡ textOf q → Same p q
 unfolding requestText signedOf coveredValues
@@ -143,7 +138,7 @@ request-same p q fp fq e =
     let m = masks (ap (λ (x : Signed). x .ah) s) in
     let x = ap (λ (x : Signed). x .eah) s in
     record {
-      hash = mask-tells (p .hash) (q .hash) (maskBytes-injective (hashMask (p .hash)) (hashMask (q .hash)) (short (p .hash)) (short (q .hash)) (ap (λ (x : Signed). x .h) s));
+      hash = mask-tells (p .hash) (q .hash) (maskBytes-injective (hashMask (p .hash)) (hashMask (q .hash)) (mask-small (p .hash)) (mask-small (q .hash)) (ap (λ (x : Signed). x .h) s));
       mask = m;
       extra = x;
       n = λ o. nonce-same (p .mask) (p .n) (q .n) (fp .n) (fq .n) o (ap (λ (x : Signed). x .n) s ∙ ap (λ (k : ℕ). nonceOf k (q .n)) (sym m));

@@ -1,6 +1,7 @@
 // Published vectors: prints, for each line of the input, a line of what our code computes for it.
-// A line is a kind, which is told by its first letter, and words in hexadecimal, each after a comma. A line of no kind,
-// as one that names a source, gives an empty line. No line is tested for its form: a wrong one shows by a wrong answer.
+// A line is a kind, which is told by its first letter, and words in hexadecimal, each after a comma. A digest's kind has a
+// small letter for SHA-512 and a capital for SHA-256. A line of no kind, as one that names a source, gives an empty line.
+// No line is tested for its form: a wrong one shows by a wrong answer.
 mod ciphers;
 mod digests;
 mod texts;
@@ -9,6 +10,7 @@ ghost use mathlib.Core.Path.{_≡_};
 ghost use Prim.Native.Nat.{_+_, _^_, _≤_, _<_};
 ghost use lib.ListN.{length};
 use bytes::scan;
+use hashes::Hash;
 use libc::STDIN_FILENO;
 use libc::STDOUT_FILENO;
 
@@ -114,12 +116,18 @@ fn run(kind: u8, words: Words, bytes: &[u8])
     let third = word(bytes, words.third, words.fourth);
     let fourth = word(bytes, words.fourth, words.end);
     match kind {
-        b'w' => digests::whole(fourth),
-        b'p' => digests::parts(third, fourth),
-        b'l' => digests::letters(fourth),
-        b'm' => digests::monte(fourth),
-        b'h' => digests::hmac(third, fourth, 64),
-        b't' => digests::hmac(third, fourth, 16),
+        b'w' => digests::whole(Hash::Sha512, fourth),
+        b'W' => digests::whole(Hash::Sha256, fourth),
+        b'p' => digests::parts(Hash::Sha512, third, fourth),
+        b'P' => digests::parts(Hash::Sha256, third, fourth),
+        b'l' => digests::letters(Hash::Sha512, fourth),
+        b'L' => digests::letters(Hash::Sha256, fourth),
+        b'm' => digests::monte(Hash::Sha512, fourth),
+        b'M' => digests::monte(Hash::Sha256, fourth),
+        b'h' => digests::hmac(Hash::Sha512, third, fourth, 64),
+        b'H' => digests::hmac(Hash::Sha256, third, fourth, 32),
+        b't' => digests::hmac(Hash::Sha512, third, fourth, 16),
+        b'T' => digests::hmac(Hash::Sha256, third, fourth, 16),
         b'a' => ciphers::aes(third, fourth),
         b's' => ciphers::seal(second, third, fourth),
         b'o' => ciphers::open(first, second, third, fourth),

@@ -7,14 +7,18 @@ use mathlib.Core.List.{List, [], _∷_, _++_}
 use mathlib.Core.Option.{some}
 use Prim.Native.Nat.{ℕ, _*_, _<_, _≤_, _^_}
 use native.Mathlib.Omega.{arith}
-use borrow.Author.Tests.{eqb-false, leb-true, le-leb, not-true}
+use borrow.Author.Tests.{eq-eqb, eqb-false, leb-true, le-leb, not-true}
 use lib.Dec.{eqb, leb}
 use lib.ListN.{length, length-append}
 use Rattle.cells.specs.Runs.{Bytes, same}
 use Rattle.cells.specs.Spans.{all}
 use Rattle.cells.specs.Text.{codes}
 use Rattle.armor.specs.Pieces.{colon, semicolon, Without}
-use Rattle.armor.specs.Numerals.{numberBytes, maskBytes, hashMask}
+use Rattle.hashes.specs.declared.Hash.{Hash}
+use Rattle.hashes.specs.declared.Hash.the-variants.{Sha256, Sha512}
+use Rattle.hashes.specs.Hashes.{hashMask, digestSize}
+use Rattle.hashes.proofs.Hashes.{mask-small}
+use Rattle.armor.specs.Numerals.{numberBytes, maskBytes}
 use Rattle.armor.specs.Keys.{Rule, sized, obeys, keys, rankOf, keyNumber, ruleAt, ruleOf}
 use Rattle.armor.specs.Value.{Field, field, Formed, AllFormed, fieldText, joined, textsOf, following, allGood, grammar}
 use Rattle.armor.proofs.Numerals.{length-numberBytes, length-maskBytes, bytes-numberBytes, bytes-maskBytes, number-is, mask-is}
@@ -147,7 +151,15 @@ pub both-good : (fs gs : List Field) → AllGood fs → AllGood gs → AllGood (
 both-good [] gs h k = k
 both-good (f ∷ fs) gs h k = (h .0, both-good fs gs (h .1) k)
 
-pub orders-good : (mask : ℕ) (extra : List ℕ) → mask < 2 ^ 56 → length extra ≤ 128 → Bytes extra → AllGood (orderFields mask extra)
+-- a code is of its hash's length
+pub code-good : (h : Hash) (content : List ℕ) → length content ≡ digestSize h → Bytes content → Good (field (codes "c") content)
+unfolding plain codes all ruleOf ruleAt keyNumber rankOf keys same obeys
+code-good Sha256 content long are =
+    record { named = refl; held = omega arith; short = omega arith; of-bytes = are; keeps = rw (eq-eqb (length content) 32 long) }
+code-good Sha512 content long are =
+    record { named = refl; held = omega arith; short = omega arith; of-bytes = are; keeps = rw long }
+
+pub orders-good : (hash : Hash) (mask : ℕ) (extra : List ℕ) → mask < 2 ^ 56 → length extra ≤ 128 → Bytes extra → AllGood (orderFields hash mask extra)
 unfolding plain codes all ruleOf ruleAt keyNumber rankOf keys same
-orders-good mask extra small few are =
-    (mask-good (codes "h") hashMask refl refl (omega arith), (mask-good (codes "ah") mask refl refl (omega (arith, small)), extra-good extra few are))
+orders-good hash mask extra small few are =
+    (mask-good (codes "h") (hashMask hash) refl refl (mask-small hash), (mask-good (codes "ah") mask refl refl (omega (arith, small)), extra-good extra few are))

@@ -103,13 +103,13 @@ module _ (rs : List Record) (i : ℕ) (r : Record) (h : i < length rs) where
       → ((iv : List ℕ) (j : ℕ) → (j ≡ i → ⊥) → found rs iv ≡ At j → KeptBy (getD rs j freed .hash) (hashes iv))
       → (Apart ivs → (iv : List ℕ) → ivAmong ivs iv ≡ false → (found rs iv ≡ Nowhere) × (holds iv r ≡ false) × (nonces iv ≡ []))
       → Sessions (set rs i r) ivs nonces hashes
-  stored ivs nonces hashes w fit f s a here there kept-here kept-there none = record {
+  stored ivs nonces hashes w fit f s a here there kept-here kept-there absent = record {
     well = stored-well rs i r h w s a;
     fit = fit-stored fit f;
     known = λ apart iv j e. ⊎-elim (own apart iv j) (other apart iv j) (found-either iv j w e);
     keeps = λ iv j e. ⊎-elim (own-hash iv j) (other-hash iv j) (found-either iv j w e);
     new = λ apart iv e.
-        let n = none apart iv e in
+        let n = absent apart iv e in
         (found-none iv (n .0) (n .1), n .2);
   }
     where

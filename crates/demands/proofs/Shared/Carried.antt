@@ -1,6 +1,6 @@
 -- What a request carries that passed checks 1 to 9: h, ah and eah as the orders say, n exactly if they order nonces, and numbers of 32 bits.
 -- Assumes nothing.
-use mathlib.Core.Path.{_≡_, ap, _∙_}
+use mathlib.Core.Path.{_≡_, sym, ap, _∙_}
 use mathlib.Core.Bool.{true}
 use mathlib.Core.List.{List, [], _∷_}
 use Prim.Native.Nat.{ℕ, _%_, _≤_, _<_, _^_}
@@ -12,7 +12,7 @@ use Rattle.cells.specs.Runs.{same}
 use Rattle.cells.specs.Numbers.{number}
 use Rattle.cells.proofs.Equality.{same-equal}
 use Rattle.armor.specs.declared.Answer.{Answer}
-use Rattle.hashes.specs.Hashes.{hashMask, digestSize, named, namesOne, allowedOne}
+use Rattle.hashes.specs.Hashes.{hashMask, digestSize, allowedOne}
 use Rattle.hashes.proofs.Hashes.{named-mask, allowed-names}
 use Rattle.armor.specs.Numerals.{maskBytes, maskOf}
 use Rattle.armor.specs.Keys.{keyT, keyLt, keyN, keyH, keyAh, keyC, keyEah}
@@ -21,7 +21,7 @@ use Rattle.armor.specs.Fields.{times, the, nonceBit}
 use Rattle.armor.specs.InnerAnswers.{requestAnswer}
 use Rattle.armor.proofs.Numerals.{number-small, maskOf-maskBytes}
 use Rattle.armor.proofs.Fields.{none-held}
-use Rattle.armor.proofs.Carried.{carried-bytes, request-given, request-sizes, nonce-times}
+use Rattle.armor.proofs.Carried.{hash-bytes, carried-bytes, request-given, request-sizes, nonce-times}
 use Rattle.orders.proofs.Orders.{good-mask}
 use Rattle.cells.proofs.Tests.{both}
 use Rattle.coverage.specs.Coverage.{asOrdered, hashAsOrdered, extraAsOrdered}

@@ -8,6 +8,7 @@ use Prim.Native.Nat.{ℕ, _<_, _^_}
 use native.Mathlib.Omega.{arith}
 use borrow.Author.Tests.{not-false, ltb-false}
 use lib.ListN.{length}
+use Rattle.hashes.specs.Hashes.{inCommon}
 use Rattle.armor.specs.declared.Answer.{Answer}
 use Rattle.armor.specs.Value.{Field, grammar, carried}
 use Rattle.armor.specs.Fields.{requestFields}
@@ -89,13 +90,14 @@ unplaced : (p : Place) → nowhere p ≡ true → p ≡ Nowhere
 unplaced (At i) e = absurd (true≢false (sym e))
 unplaced Nowhere e = refl
 
--- a setup of which no check holds takes a record, its IV is in no used record, and its IV and expiry fit in one
+-- a setup of which no check holds takes a record, its IV is in no used record, its IV and expiry fit in one, and both sides have a hash
 pub record Takes (s : Setup) (state : State) : Type 0 where
   pub place : ℕ
   pub takes : taken (records (state .table)) (s .clock) ≡ At place
   pub unused : placeOf (state .table) (s .iv) ≡ Nowhere
   pub long : length (s .iv) ≡ 12
   pub small : expiryOf s < 2 ^ 32
+  pub common : inCommon (S.offered s) (s .orders .numbers .hashes) ≡ true
 
 pub setup-takes : (s : Setup) (state : State) → first (setupChecks s state) ≡ 0 → Takes s state
 unfolding setupChecks S.entryPart offerPart lastingPart roomPart entryChecks stateChecks
@@ -108,6 +110,7 @@ setup-takes s state e =
       unused = unplaced (placeOf (state .table) (s .iv)) (not-false _ (past 17));
       long = lent s state (not-false (setupFits s state) (past 1)) .iv;
       small = omega (arith, ltb-false 4294967295 (expiryOf s) (past 20));
+      common = not-false _ (past 19);
     }
 
 -- an ending of which no check holds

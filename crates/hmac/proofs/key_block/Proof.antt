@@ -11,7 +11,7 @@ use Rattle.sha2.specs.Hash.{blockSize, sha2}
 use Rattle.sha2.proofs.Output.{length-sha2}
 use Rattle.sha2.proofs.Streaming.{counts}
 use Rattle.hmac.specs.Hmac.{keyBlock}
-use Rattle.hmac.proofs.KeyBlock.{front-filled, within}
+use Rattle.hmac.proofs.KeyBlock.{front-filled, digest-within}
 use Rattle.hmac.proofs.Streaming.{digest-front}
 use Rattle.hmac.proofs.key_block.Statement.{statement}
 use Rattle.hmac.proofs.key_block.Tie as tie
@@ -48,9 +48,11 @@ returns c =
     ap (λ (n : ℕ). take n (finish .result)) (c .before .before .before .before .size .ensures)
     ∙ finish .ensures h key (absorb .ensures .appended h [] (c .before .before .before .before .before .before .before .new .ensures .1))
     in
-    let long : blockSize h < length key = omega (arith, c .before .before .before .before .before .before .before .before .before .block-size .ensures) in
+    let test = c .before .before .before .before .before .before .before .before .before in
+    let size : test .block-size .result ≡ blockSize h = test .block-size .ensures in
+    let long : blockSize h < length key = omega arith in
     rw (c .before .put-front .ensures, hashed, lt-ltb (blockSize h) (length key) long)
-    (front-filled (blockSize h) 128 (sha2 h key) (omega (arith, length-sha2 h key, within h)) (counts h 0 0 .fits))
+    (front-filled (blockSize h) 128 (sha2 h key) (omega (arith, length-sha2 h key, digest-within h)) (counts h 0 0 .fits))
 
 returns-2 : tie.Need-returns-2
 unfolding keyBlock
@@ -58,7 +60,8 @@ returns-2 c =
     let start = c .before .before .before .before .before .before in
     let h = start .args .hash in
     let key : List ℕ = start .args .key .now in
-    let short : length key ≤ blockSize h = omega (arith, c .before .before .before .before .block-size .ensures) in
+    let size : c .before .before .before .before .block-size .result ≡ blockSize h = c .before .before .before .before .block-size .ensures in
+    let short : length key ≤ blockSize h = omega arith in
     rw (c .before .put-front2 .ensures, le-ltb (blockSize h) (length key) short) (front-filled (blockSize h) 128 key short (counts h 0 0 .fits))
 
 pub key-block-spec : {M : Type 1} → statement M
