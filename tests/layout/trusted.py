@@ -9,7 +9,7 @@ import sys
 
 CRATES = pathlib.Path("crates")
 EXPORTS = ["crates/gate/src/lib.rt", "crates/primitives/src/lib.rt"]
-THEOREMS = ["Untouched", "History", "Agreement", "Cases", "Determined", "Witnesses"]
+THEOREMS = ["Untouched", "History", "Agreement", "Cases", "Determined", "Client", "Age", "Chosen", "Witnesses"]
 USE = re.compile(r"^(?:ghost )?use Rattle·(\w+)(?:·specs)?\.specs\.([\w.-]+?)(?: as (\w+))?(?:\.\{([^}]*)\})?;?$", re.M)
 
 

@@ -2,12 +2,12 @@
 -- a request that is accepted has the hash that its session's setup chose, whether the table or the record alone was lent; and that is
 -- the longest hash that both sides had.
 -- Assumes nothing.
-use mathlib.Core.Path.{_≡_, sym, ap, subst, _∙_}
+use mathlib.Core.Path.{_≡_, sym, ap, _∙_}
 use mathlib.Core.List.{List}
-use mathlib.Core.Option.{Option, none, some}
+use mathlib.Core.Option.{Option, some}
 use Prim.Native.Nat.{ℕ}
 use borrow.Author.Tests.{eqb-true, not-false, ne-eqb}
-use lib.ListN.{getD, length}
+use lib.ListN.{getD}
 use Rattle.hashes.specs.declared.Hash.{Hash}
 use Rattle.hashes.specs.Hashes.{hashMask}
 use Rattle.hashes.proofs.Hashes.{mask-tells}
@@ -21,7 +21,7 @@ use Rattle.gate.specs.State.{State}
 use Rattle.gate.specs.Judge.{entryPart, requestChecks, judged}
 use Rattle.stages.specs.Request.{Request}
 use Rattle.stages.specs.Checks.{first}
-use Rattle.stages.specs.Parts.{ivOf, hashOf, keepsHash, readingPart, vouchingPart, sessionPart, noncePart, admittingPart}
+use Rattle.stages.specs.Parts.{ivOf, hashOf, keepsHash, readingPart, vouchingPart, sessionPart, admittingPart}
 use Rattle.stages.proofs.Checks.{passed-at}
 use Rattle.stages.proofs.Parts.{session-numbered}
 use Rattle.demands.specs.History.{Call, takenOut, judgedAt, empty, after, chosenIn}

@@ -1,8 +1,7 @@
 -- A hash value is of words of its hash, whatever blocks it was made from.
 -- Assumes nothing.
-use mathlib.Core.Path.{_≡_}
 use mathlib.Core.List.{List}
-use Prim.Native.Nat.{ℕ, zero, suc, _+_, _*_, _%_, _^_, _<_}
+use Prim.Native.Nat.{ℕ, zero, suc, _*_, _^_, _<_}
 use native.Mathlib.Omega.{arith}
 use Rattle.cells.specs.Runs.{part}
 use Rattle.hashes.specs.declared.Hash.{Hash}

@@ -8,7 +8,7 @@ use native.Mathlib.Omega.{arith}
 use lib.ListN.{length, take, drop, length-append, length-drop, drop-of-length-le}
 use lib.Seq.{take-append-le, drop-append-le, drop-drop, take-all, length-take-le}
 use Rattle.cells.specs.Runs.{spliced, part}
-use Rattle.cells.proofs.Runs.{length-spliced, front-spliced}
+use Rattle.cells.proofs.Runs.{front-spliced}
 use Rattle.hashes.specs.declared.Hash.{Hash}
 use Rattle.hashes.specs.declared.Hash.the-variants.{Sha256, Sha512}
 use Rattle.sha2.specs.declared.Words.{Words}

@@ -229,11 +229,11 @@ impl State {
         let hash = self.hash;
         let length = self.length;
         let zeros = zeros(hash, length);
-        let words = block_size(hash) / 8;
+        let two_words = block_size(hash) / 8;
         let mut padding = [0u8; 144];
         padding[0] = 128;
-        cells::put64(&mut padding, zeros + words - 7, 8 * length);
-        let end = zeros + words + 1;
+        cells::put64(&mut padding, zeros + two_words - 7, 8 * length);
+        let end = zeros + two_words + 1;
         let s = self.append(&padding[..end]);
         let value = s.value;
         digest(hash, value)

@@ -3,7 +3,7 @@
 use borrow.Author.Needs.{needs}
 use mathlib.Core.Path.{_≡_, sym, ap, ap₂, _∙_, subst}
 use mathlib.Core.List.{List, _∷_, _++_}
-use Prim.Native.Nat.{ℕ, _+_, _-_, _*_, _/_}
+use Prim.Native.Nat.{ℕ, _+_, _-_, _*_, _/_, _≤_}
 use native.Mathlib.Omega.{arith}
 use lib.ListN.{length, take, replicate}
 use lib.Seq.{length-take-le}
@@ -19,50 +19,23 @@ use Rattle.sha2.proofs.Padding.{padding-room, padding-laid}
 use Rattle.sha2.proofs.State.finish.Statement.{statement}
 use Rattle.sha2.proofs.State.finish.Tie as tie
 
-put64-requires : tie.Need-put64-requires
-put64-requires c κs =
-    let self = c .before .before .before .args .self in
-    omega (arith, padding-room (self .hash) (self .length) _ _ (c .before .block-size .ensures) (c .before .before .zeros .ensures))
-
-sub-put64 : tie.Need-sub-put64
-sub-put64 c =
-    let self = c .before .before .before .args .self in
-    padding-room (self .hash) (self .length) _ _ (c .before .block-size .ensures) (c .before .before .zeros .ensures) .0
-
-add-put64 : tie.Need-add-put64
-add-put64 c =
-    let self = c .before .before .before .args .self in
-    omega (arith, padding-room (self .hash) (self .length) _ _ (c .before .block-size .ensures) (c .before .before .zeros .ensures))
-
-add-end : tie.Need-add-end
-add-end c =
-    let self = c .before .before .before .before .before .args .self in
-    omega (arith, padding-room (self .hash) (self .length) _ _ (c .before .before .before .block-size .ensures) (c .before .before .before .before .zeros .ensures))
-
-add-end-2 : tie.Need-add-end-2
-add-end-2 c =
-    let self = c .before .before .before .before .before .args .self in
-    omega (arith, padding-room (self .hash) (self .length) _ _ (c .before .before .before .block-size .ensures) (c .before .before .before .before .zeros .ensures))
-
-array-share-prefix-padding : tie.Need-array-share-prefix-padding
-array-share-prefix-padding c =
-    let self = c .before .before .before .before .before .args .self in
-    omega (arith, c .before .put64 .kept .0, padding-room (self .hash) (self .length) _ _ (c .before .before .before .block-size .ensures) (c .before .before .before .before .zeros .ensures))
+-- the padding has room in its array
+room : (c : tie.After-block-size) → (7 ≤ c .before .zeros .result + c .block-size .result / 8) × (c .before .zeros .result + c .block-size .result / 8 + 1 ≤ 144)
+room c =
+    let self = c .before .before .args .self in
+    padding-room (self .hash) (self .length) _ _ (c .block-size .ensures) (c .before .zeros .ensures)
 
 slice-aggregate-append : tie.Need-slice-aggregate-append
 slice-aggregate-append c =
-    let self = c .before .before .before .before .before .before .args .self in
     let put = c .before .before .put64 in
-    sym (length-take-le _ (put .last .0) (omega (arith, put .kept .0, padding-room (self .hash) (self .length) _ _ (c .before .before .before .before .block-size .ensures) (c .before .before .before .before .before .zeros .ensures))))
+    sym (length-take-le _ (put .last .0) (omega (arith, put .kept .0, room (c .before .before .before .before))))
 
 append-requires : tie.Need-append-requires
 append-requires c κs =
-    let start = c .before .before .before .before .before .before in
-    let self = start .args .self in
     let put = c .before .before .put64 in
-    let room = padding-room (self .hash) (self .length) _ _ (c .before .before .before .before .block-size .ensures) (c .before .before .before .before .before .zeros .ensures) in
+    let fits = room (c .before .before .before .before) in
     let end = c .before .before .before .before .before .zeros .result + c .before .before .before .before .block-size .result / 8 + 1 in
-    omega (arith, room, start .pre, length-take-le end (put .last .0) (omega (arith, put .kept .0, room)))
+    omega (arith, fits, c .before .before .before .before .before .before .pre, length-take-le end (put .last .0) (omega (arith, put .kept .0, fits)))
 
 returns : tie.Need-returns
 unfolding sha2
@@ -87,5 +60,7 @@ returns c h m p =
 
 pub finish-spec : {M : Type 1} → statement M
 finish-spec =
-    tie.close (tie.spec (λ c κs. search needs) (λ c κs. search needs) (λ c. search needs) (λ c. search needs) add-put64 sub-put64 (λ c. search needs) put64-requires
-    add-end add-end-2 array-share-prefix-padding slice-aggregate-append append-requires (λ c κs. search needs) returns)
+    tie.close (tie.spec (λ c κs. search needs) (λ c κs. search needs) (λ c. search needs) (λ c. search needs) (λ c. omega (arith, room (c .before)))
+    (λ c. room (c .before) .0) (λ c. search needs) (λ c κs. omega (arith, room (c .before))) (λ c. omega (arith, room (c .before .before .before)))
+    (λ c. omega (arith, room (c .before .before .before))) (λ c. omega (arith, c .before .put64 .kept .0, room (c .before .before .before)))
+    slice-aggregate-append append-requires (λ c κs. search needs) returns)
