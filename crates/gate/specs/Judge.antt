@@ -1,4 +1,4 @@
--- Judging a request: document 01, 'The numbers a call returns'.
+-- Judging a request: document 01, 'The numbers a call returns', and document 02, K2, for the invalidation's hash.
 -- Assumes nothing.
 use mathlib.Core.Bool.{Bool, cond}
 use mathlib.Core.List.{List, _++_}

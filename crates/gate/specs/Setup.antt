@@ -1,4 +1,4 @@
--- Setting up a session: document 01, 'The numbers a call returns' and 'The X-S-Armor value'.
+-- Setting up a session: document 01, 'The numbers a call returns' and 'The X-S-Armor value', and document 02, K2, for the hash.
 -- Assumes nothing.
 use mathlib.Core.Bool.{cond, not}
 use mathlib.Core.List.{List, [], _∷_, _++_}

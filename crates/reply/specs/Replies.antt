@@ -1,4 +1,4 @@
--- The setup reply and the invalidation: document 01, 'The X-S-Armor value', its paragraph on the setup reply.
+-- The setup reply and the invalidation: document 01, 'The X-S-Armor value', its paragraph on the setup reply, and document 02, K2, for the hash.
 -- Assumes nothing.
 use mathlib.Core.List.{List, [], _∷_, _++_}
 use Prim.Native.Nat.{ℕ}
@@ -30,11 +30,11 @@ replyFields s iv tag key hash mask extra = field (codes "s") s ∷ (tokenFields 
 unfoldable pub setupReply : List ℕ → List ℕ → List ℕ → List ℕ → Hash → ℕ → List ℕ → List ℕ
 setupReply s iv tag key hash mask extra = joined (textsOf (replyFields s iv tag key hash mask extra))
 
--- i: and the base64 of HMAC(session key, `Session Expired`), under the session's hash
+-- i: and the base64 of HMAC(session key, `Session Expired`) under a hash
 unfoldable pub invalidation : Hash → List ℕ → List ℕ
 invalidation hash key = fieldText (field (codes "i") (hmacOf hash key (codes "Session Expired")))
 
--- 46 bytes or 90
+-- its length
 abbrev pub invalidationSize : Hash → ℕ
 invalidationSize Sha256 = 46
 invalidationSize Sha512 = 90

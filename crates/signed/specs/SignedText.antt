@@ -1,4 +1,4 @@
--- The signed text: document 01, 'Header lines and the signed text'.
+-- The signed text: document 01, 'Header lines and the signed text', and document 02, K2, for h.
 -- Assumes nothing.
 use Prim.Native.Nat.{ℕ, _%_}
 use mathlib.Core.List.{List, [], _∷_, _++_, map}

@@ -1,5 +1,5 @@
 -- The checks of a request from its value on, in named parts: document 01, 'The numbers a call returns', 'Header lines and the signed text' and
--- 'Age, idleness and the window'.
+-- 'Age, idleness and the window', and document 02, K2, for the hash.
 -- Assumes nothing.
 use mathlib.Core.Bool.{Bool, not, _&&_, _||_}
 use mathlib.Core.List.{List, [], _∷_, _++_}
