@@ -285,13 +285,9 @@ pub record HashWitnesses : Type 0 where
   pub taken-long : judged (sent either 0 0) (left either 0) .number ≡ 0
   pub down : judged (sent scanner 0 0) (left either 0) .number ≡ 8
 
-picks-short : chosenOf (living scanner 0) ≡ Sha256
+picks : (chosenOf (living scanner 0) ≡ Sha256) × (chosenOf (living either 0) ≡ Sha512)
 unfolding chosenOf Hashes.chosen offered the contents keyNumber rankOf keys same maskOf number codes Value.grammar Value.fieldsIn Value.fieldOf Value.pieceGood Value.textObeys Value.carried Pieces.pieces Pieces.upTo Pieces.after decoded full two one ending coded sixBits placeIn alphabet counted obeys ruleOf ruleAt isMask isNumeral plain
-picks-short = refl
-
-picks-long : chosenOf (living either 0) ≡ Sha512
-unfolding chosenOf Hashes.chosen offered the contents keyNumber rankOf keys same maskOf number codes Value.grammar Value.fieldsIn Value.fieldOf Value.pieceGood Value.textObeys Value.carried Pieces.pieces Pieces.upTo Pieces.after decoded full two one ending coded sixBits placeIn alphabet counted obeys ruleOf ruleAt isMask isNumeral plain
-picks-long = refl
+picks = (refl, refl)
 
 -- the request is lent as in its own session, and the table is the other's
 exchanged : first (entryPart (sent scanner 0 0) (left either 0)) ≡ 0
@@ -312,16 +308,16 @@ hash-witnesses =
     let low = bears scanner 0 short in
     let high = bears either 0 long in
     record {
-      chosen-short = picks-short;
+      chosen-short = picks .0;
       taken-short = accepted scanner 0 short 0 (omega arith) (omega arith);
-      chosen-long = picks-long;
+      chosen-long = picks .1;
       taken-long = accepted either 0 long 0 (omega arith) (omega arith);
       down =
           talked-down (sent scanner 0 0) (left either 0) (high .place) exchanged (read .reading) (read .vouching)
           (ap (placeOf (left either 0 .table)) (low .iv) ∙ high .at)
           (λ e.
           let masks : hashMask Sha512 ≡ hashMask Sha256 =
-          sym (high .keeps ∙ ap hashMask picks-long) ∙ e ∙ ap hashMask (low .hash ∙ picks-short)
+          sym (high .keeps ∙ ap hashMask (picks .1)) ∙ e ∙ ap hashMask (low .hash ∙ picks .0)
           in
           omega arith);
     }
