@@ -190,7 +190,7 @@ module _ (s : Setup) (state : State) (done : first (setupChecks s state) ≡ 0) 
 
     -- its h is the chosen hash, which the orders allow
     mask-is : maskOf (maskBytes (hashMask hash)) ≡ hashMask hash
-    mask-is = maskOf-maskBytes (hashMask hash) (mask-small hash)
+    mask-is = maskOf-maskBytes (hashMask hash) (omega (arith, mask-small hash))
 
     hash-is : hashOf q ≡ hash
     unfolding hashOf clientFields the contents keyNumber rankOf keys codes same

@@ -2,7 +2,7 @@
 -- Assumes nothing.
 use mathlib.Core.Path.{_≡_, refl, sym, ap, _∙_}
 use mathlib.Core.Bool.{Bool, true, false, true≢false, cond, _&&_, _||_}
-use Prim.Native.Nat.{ℕ, _^_, _≤_, _<_}
+use Prim.Native.Nat.{ℕ, _≤_, _<_}
 use native.Mathlib.Omega.{arith}
 use lib.Dec.{eqb}
 use borrow.Author.Tests.{eqb-true}
@@ -66,11 +66,12 @@ pub chosen-longest : (offered hashes : ℕ) → has Sha512 offered ≡ true → 
 unfolding chosen
 chosen-longest offered hashes e f = rw (e, f)
 
-pub mask-small : (h : Hash) → hashMask h < 2 ^ 64
+-- a mask is a byte
+pub mask-small : (h : Hash) → hashMask h < 256
 mask-small Sha256 = omega arith
 mask-small Sha512 = omega arith
 
 -- room for either digest
-pub digest-fits : (h : Hash) → digestSize h ≤ 64
-digest-fits Sha256 = omega arith
-digest-fits Sha512 = omega arith
+pub digest-fits : (h : Hash) → (1 ≤ digestSize h) × (digestSize h ≤ 64)
+digest-fits Sha256 = (omega arith, omega arith)
+digest-fits Sha512 = (omega arith, omega arith)

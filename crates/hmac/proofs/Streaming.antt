@@ -10,6 +10,7 @@ use Rattle.cells.specs.Runs.{Bytes}
 use Rattle.hashes.specs.declared.Hash.{Hash}
 use Rattle.hashes.specs.declared.Hash.the-variants.{Sha256, Sha512}
 use Rattle.hashes.specs.Hashes.{digestSize}
+use Rattle.hashes.proofs.Hashes.{digest-fits}
 use Rattle.sha2.specs.Hash.{blockSize, sha2}
 use Rattle.sha2.proofs.Output.{length-sha2, bytes-sha2}
 use Rattle.hmac.specs.declared.Hmac.{Hmac}
@@ -53,8 +54,7 @@ front : (n : ℕ) (xs : List ℕ) → n ≤ length xs → Front n xs
 front n xs fits = record { fits = fits; long = sym (length-take-le n xs fits) }
 
 pub digest-front : (h : Hash) (n : ℕ) (xs : List ℕ) → n ≡ digestSize h → length xs ≡ 64 → Front n xs
-digest-front Sha256 n xs e f = front n xs (omega arith)
-digest-front Sha512 n xs e f = front n xs (omega arith)
+digest-front h n xs e f = front n xs (omega (arith, digest-fits h))
 
 pub block-front : (h : Hash) (n : ℕ) (xs : List ℕ) → n ≡ blockSize h → length xs ≡ 128 → Front n xs
 block-front Sha256 n xs e f = front n xs (omega arith)

@@ -138,7 +138,7 @@ request-same p q fp fq e =
     let m = masks (ap (λ (x : Signed). x .ah) s) in
     let x = ap (λ (x : Signed). x .eah) s in
     record {
-      hash = mask-tells (p .hash) (q .hash) (maskBytes-injective (hashMask (p .hash)) (hashMask (q .hash)) (mask-small (p .hash)) (mask-small (q .hash)) (ap (λ (x : Signed). x .h) s));
+      hash = mask-tells (p .hash) (q .hash) (maskBytes-injective (hashMask (p .hash)) (hashMask (q .hash)) (omega (arith, mask-small (p .hash))) (omega (arith, mask-small (q .hash))) (ap (λ (x : Signed). x .h) s));
       mask = m;
       extra = x;
       n = λ o. nonce-same (p .mask) (p .n) (q .n) (fp .n) (fq .n) o (ap (λ (x : Signed). x .n) s ∙ ap (λ (k : ℕ). nonceOf k (q .n)) (sym m));

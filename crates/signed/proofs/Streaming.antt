@@ -7,6 +7,7 @@ use native.Mathlib.Omega.{arith}
 use lib.ListN.{length, length-append}
 use Rattle.hmac.specs.declared.Hmac.{Hmac}
 use Rattle.hmac.specs.InnerKeyed.{TookIn}
+use Rattle.hmac.proofs.Streaming.{took-in-turn}
 use Rattle.netstring.specs.Netstring.{netstring, netstrings}
 use Rattle.netstring.proofs.Determined.{netstrings-append}
 use Rattle.hashes.specs.declared.Hash.{Hash}
@@ -21,15 +22,6 @@ use Rattle.lines.specs.Values.{coveredValue}
 use Rattle.signed.specs.SignedText.{carried, signedParts, signedText, nonceOf, coveredValues, signedOf, requestText}
 use Rattle.signed.specs.InnerStreamed.{Room, TookParts, openingParts, valuesFrom}
 
--- two texts taken in one after the other
-pub took-both : {s t u : Hmac} {a b : List ℕ} → TookIn s a t → TookIn t b u → TookIn s (a ++ b) u
-took-both {a = a} p q =
-    record {
-      inner-counted = simp length-append (omega (arith, p .inner-counted, q .inner-counted));
-      outer-counted = q .outer-counted ∙ p .outer-counted;
-      appended = λ h key text k. rw append-assoc at (q .appended h key (text ++ a) (p .appended h key text k));
-    }
-
 -- no parts
 pub took-none : (s : Hmac) → TookParts s [] s
 unfolding netstrings
@@ -37,7 +29,8 @@ took-none s = record { inner-counted = omega arith; outer-counted = refl; append
 
 -- some parts, and then others
 pub took-then : {s t r : Hmac} (xs ys : List (List ℕ)) → TookParts s xs t → TookParts t ys r → TookParts s (xs ++ ys) r
-took-then {s = s} {r = r} xs ys p q = subst (λ (l : List ℕ). TookIn s l r) (sym (netstrings-append xs ys)) (took-both p q)
+took-then {s = s} {t = t} {r = r} xs ys p q =
+    subst (λ (l : List ℕ). TookIn s l r) (sym (netstrings-append xs ys)) (took-in-turn s t r (netstrings xs) (netstrings ys) p q)
 
 abbrev pub size : List (List ℕ) → ℕ
 size parts = length (netstrings parts)

@@ -16,6 +16,7 @@ use Rattle.cells.proofs.Cuts.{bytes-part}
 use Rattle.cells.proofs.Numbers.{number-below}
 use Rattle.hashes.specs.declared.Hash.{Hash}
 use Rattle.hashes.specs.declared.Hash.the-variants.{Sha256, Sha512}
+use Rattle.hashes.proofs.Hashes.{mask-small}
 use Rattle.hashes.specs.Hashes.{hashMask}
 use Rattle.window.specs.declared.Window.{Window}
 use Rattle.window.specs.Window.{stepOf}
@@ -41,13 +42,9 @@ begun-sound iv expiry hash = record {
     one Sha256 = inl refl
     one Sha512 = inr refl
 
-pub mask-fits : (h : Hash) → hashMask h < 256
-mask-fits Sha256 = lit< tt
-mask-fits Sha512 = lit< tt
-
 pub begun-fits : (iv : List ℕ) (expiry : ℕ) (hash : Hash) → length iv ≡ 12 → expiry < 2 ^ 32 → Fits (begun iv expiry (hashMask hash))
 begun-fits iv expiry hash l e =
-    record { used = lit< tt; iv = l; expiry = e; any = lit< tt; highest = lit< tt; bits = lit< tt; hash = mask-fits hash }
+    record { used = lit< tt; iv = l; expiry = e; any = lit< tt; highest = lit< tt; bits = lit< tt; hash = mask-small hash }
 
 -- a used record whose window accepted a nonce
 pub stepped-sound : (r : Record) (n : ℕ) → Sound r → r .used ≡ 1 → isAccepted (stepOf (windowOf r) n .verdict) ≡ true

@@ -162,4 +162,4 @@ code-good Sha512 content long are =
 pub orders-good : (hash : Hash) (mask : ℕ) (extra : List ℕ) → mask < 2 ^ 56 → length extra ≤ 128 → Bytes extra → AllGood (orderFields hash mask extra)
 unfolding plain codes all ruleOf ruleAt keyNumber rankOf keys same
 orders-good hash mask extra small few are =
-    (mask-good (codes "h") (hashMask hash) refl refl (mask-small hash), (mask-good (codes "ah") mask refl refl (omega (arith, small)), extra-good extra few are))
+    (mask-good (codes "h") (hashMask hash) refl refl (omega (arith, mask-small hash)), (mask-good (codes "ah") mask refl refl (omega (arith, small)), extra-good extra few are))

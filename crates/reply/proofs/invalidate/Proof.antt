@@ -1,48 +1,29 @@
 -- `invalidate` meets its contract: one field at the front, which holds the code.
 -- Assumes nothing.
 use borrow.Author.Needs.{needs}
-use mathlib.Core.Path.{_≡_, sym, ap, subst, _∙_}
+use mathlib.Core.Path.{_≡_, ap, subst, _∙_}
 use mathlib.Core.List.{List, []}
-use Prim.Native.Nat.{ℕ, _≤_}
+use Prim.Native.Nat.{ℕ}
 use native.Mathlib.Nat.{zero-add}
 use native.Mathlib.Omega.{arith}
-use lib.ListN.{length, take}
-use lib.Seq.{length-take-le}
+use lib.ListN.{take}
 use Rattle.cells.specs.InnerLaid.{Laid}
 use Rattle.cells.proofs.Runs.{spliced-front}
 use Rattle.cells.specs.Text.{codes}
-use Rattle.hashes.specs.declared.Hash.{Hash}
-use Rattle.hashes.specs.Hashes.{digestSize}
 use Rattle.hashes.proofs.Hashes.{digest-fits}
 use Rattle.hmac.specs.Hmac.{hmacOf}
+use Rattle.hmac.proofs.Streaming.{Front, digest-front}
 use Rattle.armor.specs.Value.{field, fieldText}
 use Rattle.reply.specs.Replies.{invalidation}
 use Rattle.reply.proofs.invalidate.Statement.{statement}
 use Rattle.reply.proofs.invalidate.Tie as tie
 
--- the code fits in its array
-fits : (h : Hash) (size : ℕ) (code : List ℕ) → size ≡ digestSize h → length code ≡ 64 → size ≤ length code
-fits h size code e long = omega (arith, digest-fits h)
-
-array-share-prefix-code : tie.Need-array-share-prefix-code
-array-share-prefix-code c =
-    let code = c .before .before .before .finish .result in
-    let full : length code ≡ 64 = search needs in
-    fits (c .before .before .before .before .before .before .before .before .before .args .hash) _ code (c .before .before .size .ensures) full
-
-slice-aggregate-put-field-2 : tie.Need-slice-aggregate-put-field-2
-slice-aggregate-put-field-2 c =
-    let code = c .before .before .before .before .finish .result in
-    let full : length code ≡ 64 = search needs in
-    sym (length-take-le _ code (fits (c .before .before .before .before .before .before .before .before .before .before .args .hash) _ code (c .before .before .before .size .ensures) full))
+-- the code at the front of its array
+code-front : (c : tie.After-size) → Front (c .size .result) (c .before .finish .result)
+code-front c = digest-front (c .before .before .before .before .before .before .before .args .hash) _ (c .before .finish .result) (c .size .ensures) (search needs)
 
 put-field-requires : tie.Need-put-field-requires
-put-field-requires c κs =
-    let code = c .before .before .before .before .finish .result in
-    let size = c .before .before .before .size .result in
-    let full : length code ≡ 64 = search needs in
-    let small = fits (c .before .before .before .before .before .before .before .before .before .before .args .hash) size code (c .before .before .before .size .ensures) full in
-    omega (arith, length-take-le size code small, c .before .before .before .before .before .before .before .before .before .before .pre)
+put-field-requires c κs = omega (arith, code-front (c .before .before .before) .fits, code-front (c .before .before .before) .long, digest-fits (c .before .before .before .before .before .before .before .before .before .before .args .hash), c .before .before .before .size .ensures, c .before .before .before .before .before .before .before .before .before .before .pre)
 
 returns : tie.Need-returns
 unfolding invalidation codes
@@ -62,4 +43,4 @@ returns c =
 pub invalidate-spec : {M : Type 1} → statement M
 invalidate-spec =
     tie.close (tie.spec (λ c κs. search needs) (λ c. search needs) (λ c κs. search needs) (λ c κs. search needs) (λ c κs. search needs) (λ c. search needs)
-    array-share-prefix-code slice-aggregate-put-field-2 put-field-requires (λ c. search needs) returns)
+    (λ c. code-front (c .before .before) .fits) (λ c. code-front (c .before .before .before) .long) put-field-requires (λ c. search needs) returns)

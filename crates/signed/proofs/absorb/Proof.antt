@@ -9,7 +9,8 @@ use lib.ListN.{length, take, drop}
 use Rattle.hmac.specs.InnerKeyed.{TookIn}
 use Rattle.netstring.specs.Netstring.{comma}
 use Rattle.netstring.proofs.Laid.{netstring-pieces, length-pieces, opening-piece}
-use Rattle.signed.proofs.Streaming.{size, size-one, netstrings-one, took-both}
+use Rattle.hmac.proofs.Streaming.{took-in-turn}
+use Rattle.signed.proofs.Streaming.{size, size-one, netstrings-one}
 use Rattle.signed.proofs.absorb.Statement.{statement}
 use Rattle.signed.proofs.absorb.Tie as tie
 
@@ -29,7 +30,7 @@ returns c =
     (ap (λ (l : List ℕ). (l ++ args .part .now) ++ (comma ∷ [])) (opening-piece _ (made .result) (made .ensures))
     ∙ netstring-pieces (args .part .now)
     ∙ sym (netstrings-one (args .part .now)))
-    (took-both (took-both (c .before .before .before .absorb .ensures) (c .before .before .absorb2 .ensures)) (c .absorb3 .ensures))
+    (took-in-turn _ _ _ _ _ (took-in-turn _ _ _ _ _ (c .before .before .before .absorb .ensures) (c .before .before .absorb2 .ensures)) (c .absorb3 .ensures))
 
 pub absorb-spec : {M : Type 1} → statement M
 absorb-spec =

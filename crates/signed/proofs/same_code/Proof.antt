@@ -7,7 +7,7 @@ use native.Mathlib.Omega.{arith}
 use lib.ListN.{length, take}
 use lib.Seq.{length-take-le}
 use Rattle.cells.specs.Runs.{same}
-use Rattle.hashes.proofs.Hashes.{digest-fits}
+use Rattle.hmac.proofs.Streaming.{Front, digest-front}
 use Rattle.signed.proofs.same_code.Statement.{statement}
 use Rattle.signed.proofs.same_code.Tie as tie
 
@@ -21,13 +21,9 @@ array-share-prefix-c c = omega (arith, full (c .before) .0, c .before .pre)
 slice-aggregate-same : tie.Need-slice-aggregate-same
 slice-aggregate-same c = sym (length-take-le _ (c .before .before .args .t1) (omega (arith, full (c .before .before) .0, c .before .before .pre)))
 
-array-share-prefix-code : tie.Need-array-share-prefix-code
-array-share-prefix-code c = omega (arith, full (c .before .before) .1, c .before .size .ensures, digest-fits (c .before .before .args .hash))
-
-slice-aggregate-same-2 : tie.Need-slice-aggregate-same-2
-slice-aggregate-same-2 c =
-    let start = c .before .before .before in
-    sym (length-take-le _ (start .args .t3) (omega (arith, full start .1, c .before .before .size .ensures, digest-fits (start .args .hash))))
+-- the code at the front of its array
+code-front : (c : tie.After-size) → Front (c .size .result) (c .before .args .t3)
+code-front c = digest-front (c .before .args .hash) _ (c .before .args .t3) (c .size .ensures) (full (c .before) .1)
 
 returns : tie.Need-returns
 returns c =
@@ -36,5 +32,5 @@ returns c =
 
 pub same-code-spec : {M : Type 1} → statement M
 same-code-spec =
-    tie.close (tie.spec (λ c κs. search needs) array-share-prefix-c slice-aggregate-same array-share-prefix-code slice-aggregate-same-2 (λ c κs. search needs)
-    returns)
+    tie.close (tie.spec (λ c κs. search needs) array-share-prefix-c slice-aggregate-same (λ c. code-front (c .before) .fits) (λ c. code-front (c .before .before) .long)
+    (λ c κs. search needs) returns)

@@ -7,7 +7,7 @@ use borrow.Author.Needs.{needs}
 use lib.ListN.{length, take, length-take}
 use lib.Seq.{length-take-le}
 use Rattle.reply.proofs.Lengths.{setup-short}
-use Rattle.table.proofs.Sessions.{mask-fits}
+use Rattle.hashes.proofs.Hashes.{mask-small}
 use Rattle.gate.specs.InnerStarts.{startAt}
 use Rattle.gate.proofs.Starting.{writes}
 use Rattle.gate.proofs.setup.apply.Statement.{statement}
@@ -27,7 +27,7 @@ setup-requires c κs =
     search needs
 
 cast-begin : tie.Need-cast-begin
-cast-begin c = omega (arith, c .mask .ensures, mask-fits (c .before .before .before .before .before .before .before .before .before .before .before .before .before .before .before .before .before .before .args .hash))
+cast-begin c = omega (arith, c .mask .ensures, mask-small (c .before .before .before .before .before .before .before .before .before .before .before .before .before .before .before .before .before .before .args .hash))
 
 store-requires : tie.Need-store-requires
 store-requires c κs = c .before .before .before .before .before .before .before .before .before .before .before .before .before .before .before .before .before .before .before .pre .7

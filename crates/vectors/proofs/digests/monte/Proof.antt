@@ -5,15 +5,9 @@ use mathlib.Core.Path.{_≡_}
 use Prim.Native.Nat.{_-_, _*_, _≤_, _<_}
 use native.Mathlib.Omega.{arith}
 use lib.ListN.{length}
-use Rattle.hashes.specs.declared.Hash.{Hash}
-use Rattle.hashes.specs.declared.Hash.the-variants.{Sha256, Sha512}
-use Rattle.hashes.specs.Hashes.{digestSize}
+use Rattle.hashes.proofs.Hashes.{digest-fits}
 use Rattle.vectors.proofs.digests.monte.Statement.{statement}
 use Rattle.vectors.proofs.digests.monte.Tie as tie
-
-sizes : (h : Hash) → (1 ≤ digestSize h) × (digestSize h ≤ 64)
-sizes Sha256 = search arith
-sizes Sha512 = search arith
 
 abbrev Inv-loop : tie.InvT-loop
 Inv-loop hash seeds size chain₀ last at₀ chain at =
@@ -23,13 +17,13 @@ abbrev μ-loop : tie.MeasureT-loop
 μ-loop hash seeds size chain₀ last at₀ chain at = 1002 * size - at
 
 mul-last : tie.Need-mul-last Inv-loop μ-loop
-mul-last c = omega (arith, sizes (c .before .before .before .before .before .before .args .hash))
+mul-last c = omega (arith, digest-fits (c .before .before .before .before .before .before .args .hash))
 
 mul-at : tie.Need-mul-at Inv-loop μ-loop
-mul-at c = omega (arith, sizes (c .before .before .before .before .before .before .args .hash))
+mul-at c = omega (arith, digest-fits (c .before .before .before .before .before .before .args .hash))
 
 loop-holds : tie.Need-loop-holds Inv-loop μ-loop
-loop-holds c = let size = sizes (c .before .before .before .before .before .before .args .hash) in search needs
+loop-holds c = let size = digest-fits (c .before .before .before .before .before .before .args .hash) in search needs
 
 pub monte-spec : {M : Type 1} → statement M
 monte-spec =
