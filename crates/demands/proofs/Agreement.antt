@@ -1,6 +1,7 @@
 -- Demand 3: 'Take two requests that each reach the signature check. If their signed texts, as 01 defines them, are equal, then they agree in
 -- coverage, nonce, both times, every covered header value, path and body; an absent header counts as an empty one. If they also carry the same
 -- signature, token, IV and tag, and meet the same server key, orders, clock and table, they get the same verdict, reply and table after.'
+-- By document 02, K3, they agree in the method too.
 -- Assumes nothing.
 pub mod SignedText
 pub mod Reading
@@ -46,6 +47,7 @@ signed-text q state r = text-carried q state (reaching q state r)
 
 abbrev signing : Request → Text.Request
 signing q = record {
+  method = q .method;
   hash = hashOf q;
   mask = q .orders .numbers .mask;
   extra = q .orders .extra;
@@ -86,6 +88,7 @@ module _ (p q : Request) (s t : State) (rp : Reaches p s) (rq : Reaches q t) (e 
 
   agreed : Agree p q
   agreed = record {
+    method = texts .method;
     h = hash-ordered p s left ∙ ap (λ (h : Hash). maskBytes (hashMask h)) (texts .hash) ∙ sym (hash-ordered q t right);
     ah = mask-ordered p s left ∙ ap maskBytes (texts .mask) ∙ sym (mask-ordered q t right);
     eah = names-ordered p s left ∙ texts .extra ∙ sym (names-ordered q t right);

@@ -1,4 +1,4 @@
--- Document 01, 'Proved cases, together under a single statement': its twelve cases.
+-- Document 01, 'Proved cases, together under a single statement': its twelve cases, the last with the leading part that document 02, K3, gives it.
 -- Assumes nothing.
 use mathlib.Core.Path.{_≡_, refl}
 use mathlib.Core.Bool.{true, false}
@@ -56,9 +56,9 @@ pub record Cases : Type 0 where
   pub ten : (bits : ℕ) → (answer (hundred bits) 164 ≡ 0) × (stepOf (hundred bits) 164 .window .bits ≡ 1)
   -- t 1000, lt 1010: not idle
   pub eleven : (limit : ℕ) → exceeds 1000 1010 limit ≡ false
-  -- ah 3, no extras, n 5, t 1000, lt 990, Host `a`, path `/`, no body: signed text, control bytes in hex
-  pub twelve : requestText Sha512 3 [] 5 1000 990 [] host (codes "/") []
-      ≡ codes "2:" ++ (0x01 ∷ 0x04 ∷ codes ",2:" ++ (0x01 ∷ 0x03 ∷ codes ",0:,1:" ++ (0x05 ∷ codes ",2:" ++ (0x03 ∷ 0xE8 ∷ codes ",2:" ++ (0x03 ∷ 0xDE ∷ codes ",1:a,1:/,0:,")))))
+  -- a GET, ah 3, no extras, n 5, t 1000, lt 990, Host `a`, path `/`, no body: signed text, control bytes in hex
+  pub twelve : requestText (codes "GET") Sha512 3 [] 5 1000 990 [] host (codes "/") []
+      ≡ codes "3:GET,2:" ++ (0x01 ∷ 0x04 ∷ codes ",2:" ++ (0x01 ∷ 0x03 ∷ codes ",0:,1:" ++ (0x05 ∷ codes ",2:" ++ (0x03 ∷ 0xE8 ∷ codes ",2:" ++ (0x03 ∷ 0xDE ∷ codes ",1:a,1:/,0:,")))))
 
 seventh : (bits : ℕ) → bit bits 63 ≡ false → answer (hundred bits) 37 ≡ 0
 unfolding stepOf

@@ -9,14 +9,15 @@ use mathlib.Core.Option.{some}
 use Prim.Native.Nat.{ℕ, zero, suc, _*_, _%_, _<_, _≤_}
 use native.Mathlib.Nat.{mod-lt}
 use native.Mathlib.Omega.{arith}
-use borrow.Author.Tests.{eq-eqb, le-leb, lt-leb, le-ltb}
-use lib.Dec.{eqb, leb}
+use borrow.Author.Tests.{eq-eqb, le-leb, lt-leb, le-ltb, ltb-true}
+use lib.Dec.{eqb, leb, ltb}
 use lib.ListN.{length, set, length-set}
 use Rattle.cells.specs.Runs.{same, spliced}
 use Rattle.cells.specs.Spans.{all}
 use Rattle.cells.specs.Text.{codes}
 use Rattle.cells.specs.Numbers.{number}
 use Rattle.cells.proofs.Equality.{same-self}
+use Rattle.cells.proofs.Tests.{both}
 use Rattle.hashes.specs.declared.Hash.{Hash}
 use Rattle.hashes.specs.Hashes.{hashMask, digestSize, named}
 use Rattle.hashes.proofs.Hashes.{mask-named, mask-small, allowed-mask, chosen-common}
@@ -31,6 +32,7 @@ use Rattle.armor.specs.Fields.{contents, times, the, rightTimes, nonceBit, requ
 use Rattle.armor.proofs.Numerals.{number-numberBytes, maskOf-maskBytes}
 use Rattle.armor.proofs.Scan.{carried-is}
 use Rattle.coverage.specs.Coverage.{extraAsOrdered, asOrdered}
+use Rattle.names.specs.Names.{isToken}
 use Rattle.names.proofs.Sizes.{short-extra}
 use Rattle.orders.proofs.Orders.{good-mask, good-extra}
 use Rattle.window.specs.declared.Verdict.the-variants.{Accepted}
@@ -290,12 +292,18 @@ module _ (s : Setup) (state : State) (done : first (setupChecks s state) ≡ 0) 
     unfolding tableFits
     table-fits = rw (table-is, there .as-long) (size .table)
 
+    method-some : 1 ≤ length (m .method)
+    unfolding isToken
+    method-some = ltb-true 0 (length (m .method)) (both (ltb 0 (length (m .method))) _ (fair .method-good) .0)
+
     fits : requestFits q after ≡ true
     unfolding requestFits lentFits clientRequest
     fits =
         rw (
           eq-eqb (length (s .server-key)) 32 (size .server-key),
           le-leb (length (joined (textsOf (clientFields s m)))) 4096 value-short,
+          le-leb 1 (length (m .method)) method-some,
+          le-leb (length (m .method)) 16 (fair .method-fits),
           le-leb (length (m .head)) 16384 (fair .head-fits),
           le-leb (length (m .aside)) 16384 (fair .aside-fits),
           le-leb 1 (length (m .path)) (fair .path-some),
@@ -327,7 +335,7 @@ module _ (s : Setup) (state : State) (done : first (setupChecks s state) ≡ 0) 
 
     reading-none : first (readingPart q) ≡ 0
     unfolding readingPart coveringPart twice clientRequest
-    reading-none = rw (kept, right-fields, fair .lines, fair .once, covered) refl
+    reading-none = rw (kept, right-fields, fair .method-good, fair .lines, fair .once, covered) refl
 
     vouching-none : first (vouchingPart q) ≡ 0
     unfolding tokenPart signaturePart

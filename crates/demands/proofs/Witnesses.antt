@@ -99,9 +99,12 @@ session iv = holding (recordBytes (begun iv 1 4))
 abbrev pub marked : State
 marked = holding (replicate size 2)
 
--- a request with a value and a head
+-- a request with a method, a value and a head, and a GET
+abbrev pub sending-by : List ℕ → ℕ → List ℕ → List ℕ → Request
+sending-by method mask value head = requestOf (ordering mask) 0 (zeros 32) value method head [] (codes "/") [] (zeros 1024)
+
 abbrev pub sending : ℕ → List ℕ → List ℕ → Request
-sending mask value head = requestOf (ordering mask) 0 (zeros 32) value head [] (codes "/") [] (zeros 1024)
+sending = sending-by (codes "GET")
 
 -- a value with the right set of fields, whose ah covers Host
 abbrev pub fields : List ℕ
@@ -172,11 +175,14 @@ unopened key iv tag b = by (same tag (tagOf key iv [] (b ∷ [])))
 
 pub record RequestWitnesses : Type 0 where
   pub one : judged (sending 2 fields []) (holding []) .number ≡ 1
+  pub no-method : judged (sending-by [] 2 fields []) (empty 1) .number ≡ 1
+  pub long-method : judged (sending-by (replicate 17 65) 2 fields []) (empty 1) .number ≡ 1
   pub two : judged (sending (2 ^ 56) fields []) (empty 1) .number ≡ 2
   pub three : judged (sending 2 fields []) marked .number ≡ 3
   pub four : judged (sending 2 [] []) (empty 1) .number ≡ 4
   pub five : judged (sending 2 offer []) (empty 1) .number ≡ 5
   pub six : judged (sending 2 fields (codes "Host")) (empty 1) .number ≡ 6
+  pub method-no-token : judged (sending-by (codes "GE T") 2 fields []) (empty 1) .number ≡ 6
   pub seven : judged (sending 2 fields (host ++ host)) (empty 1) .number ≡ 7
   pub eight : judged (sending 0 fields []) (empty 1) .number ≡ 8
   pub nine : judged (sending 2 fields []) (empty 1) .number ≡ 9
@@ -185,19 +191,22 @@ pub request-witnesses : RequestWitnesses
 unfolding judged answered requestChecks entryPart readingPart coveringPart tokenPart signaturePart sessionPart noncePart entryChecks stateChecks requestFits lentFits tableFits ordersGood goodExtra extraNames goodNames wellFormed fitting sound same records recordOf number codes Value.grammar Value.fieldsIn Value.fieldOf Value.pieceGood Value.textObeys Value.carried Pieces.pieces Pieces.upTo Pieces.after decoded full two one ending coded sixBits placeIn alphabet counted obeys ruleOf ruleAt keyNumber rankOf keys isMask isNumeral isNumber plain requestFields rightTimes times contents nonceBit the maskOf fieldsOf goodBlock linesIn linesUpTo startsLine frontLine lineText textOf goodLine valueByte isToken tokenByte hasByte all leading twice repeated timesNamed sameName lower coveredNames chosen headerNames asOrdered allowedOne named maskBytes numberBytes shortest bytesOf openedOf ivOf
 request-witnesses = record {
   one = refl;
+  no-method = refl;
+  long-method = refl;
   two = refl;
   three = refl;
   four = refl;
   five = refl;
   six = refl;
+  method-no-token = refl;
   seven = refl;
   eight = refl;
   nine = rw (unopened (zeros 32) (zeros 12) (zeros 16) 0);
 }
 
--- nothing but a path
+-- nothing but a method and a path
 abbrev pub plainly : Message
-plainly = record { head = []; aside = []; path = codes "/"; body = []; time = 0; last-time = 0; nonce = 0 }
+plainly = record { method = codes "GET"; head = []; aside = []; path = codes "/"; body = []; time = 0; last-time = 0; nonce = 0 }
 
 lent-zeros : (value : List ℕ) (life : ℕ) → LentBytes (living value life)
 unfolding bytesOf
@@ -211,14 +220,16 @@ lent-zeros value life = record {
 
 fair : (value : List ℕ) (life clock : ℕ) → clock < 1209600 → clock ≤ limitsOf (living value life .orders) .«request_life»
     → Fair (living value life) plainly clock (zeros 1024)
-unfolding codes same textOf goodBlock linesIn linesUpTo startsLine frontLine repeated timesNamed coveredNames chosen headerNames extraNames expiryOf limitsOf
+unfolding codes isToken all tokenByte hasByte same textOf goodBlock linesIn linesUpTo startsLine frontLine repeated timesNamed coveredNames chosen headerNames extraNames expiryOf limitsOf
 fair value life clock lasts timely = record {
+  method-fits = omega arith;
   head-fits = omega arith;
   aside-fits = omega arith;
   path-some = omega arith;
   path-fits = omega arith;
   body-fits = omega arith;
   reply-room = omega arith;
+  method-good = refl;
   lines = refl;
   once = refl;
   time-fits = omega arith;

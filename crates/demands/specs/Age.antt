@@ -10,7 +10,7 @@ use Rattle.demands.specs.Passing.{PassesOthers}
 
 -- the same request, come at this time
 abbrev pub arriving : ℕ → Request → Request
-arriving clock q = requestOf (q .orders) clock (q .server-key) (q .value) (q .head) (q .aside) (q .path) (q .body) (q .reply)
+arriving clock q = requestOf (q .orders) clock (q .server-key) (q .value) (q .method) (q .head) (q .aside) (q .path) (q .body) (q .reply)
 
 -- before its token's expiry a request of at most so many seconds passes, and one of more is 14
 pub record Ages (q : Request) (state : State) (life : ℕ) : Type 0 where

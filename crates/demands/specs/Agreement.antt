@@ -1,5 +1,6 @@
--- What demand 3 speaks of: 'agree in coverage, nonce, both times, every covered header value, path and body', 'carry the same signature, token, IV
--- and tag, and meet the same server key, orders, clock and table', 'the same verdict, reply and table after'.
+-- What demand 3 speaks of: 'agree in coverage, nonce, both times, every covered header value, path and body', by document 02, K3, in the method
+-- too, 'carry the same signature, token, IV and tag, and meet the same server key, orders, clock and table', 'the same verdict, reply and table
+-- after'.
 -- Assumes nothing.
 use mathlib.Core.Path.{_≡_}
 use mathlib.Core.Bool.{cond}
@@ -30,6 +31,7 @@ carriesTimes key q = times key (fieldsOf q)
 -- what is signed, as carried
 abbrev pub signedBy : Request → Signed
 signedBy q = record {
+  method = q .method;
   h = carries keyH q;
   ah = carries keyAh q;
   eah = carries keyEah q;
@@ -45,8 +47,9 @@ signedBy q = record {
 abbrev pub headerOf : Request → List ℕ → List ℕ
 headerOf q name = coveredValue (linesIn (q .aside)) (linesIn (q .head)) name
 
--- two requests agree in coverage, nonce, both times, every covered header value, path and body
+-- two requests agree in method, coverage, nonce, both times, every covered header value, path and body
 pub record Agree (p q : Request) : Type 0 where
+  pub method : p .method ≡ q .method
   pub h : carries keyH p ≡ carries keyH q
   pub ah : carries keyAh p ≡ carries keyAh q
   pub eah : carries keyEah p ≡ carries keyEah q

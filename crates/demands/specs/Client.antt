@@ -8,6 +8,7 @@ use lib.ListN.{length}
 use Rattle.cells.specs.Runs.{Bytes}
 use Rattle.cells.specs.Text.{codes}
 use Rattle.hmac.specs.Hmac.{hmacOf}
+use Rattle.names.specs.Names.{isToken}
 use Rattle.names.specs.Covered.{coveredNames}
 use Rattle.lines.specs.Lines.{linesIn, goodBlock}
 use Rattle.lines.specs.Values.{repeated}
@@ -22,6 +23,7 @@ use Rattle.gate.specs.Setup.{chosenOf, expiryOf, sealedOf}
 
 -- what a client sends beside its value, and the numbers that the value names
 pub record Message : Type 0 where
+  pub method : List ℕ
   pub head : List ℕ
   pub aside : List ℕ
   pub path : List ℕ
@@ -37,7 +39,7 @@ nonceField false n = []
 
 abbrev pub clientText : Setup → Message → List ℕ
 clientText s m =
-    requestText (chosenOf s) (s .orders .numbers .mask) (s .orders .extra) (m .nonce) (m .time) (m .last-time) (m .aside) (m .head) (m .path) (m .body)
+    requestText (m .method) (chosenOf s) (s .orders .numbers .mask) (s .orders .extra) (m .nonce) (m .time) (m .last-time) (m .aside) (m .head) (m .path) (m .body)
 
 -- the signature, under the key and the hash that the reply brought
 unfoldable pub clientCode : Setup → Message → List ℕ
@@ -62,7 +64,7 @@ clientFields s m =
 
 unfoldable pub clientRequest : Setup → Message → ℕ → List ℕ → Request
 clientRequest s m clock reply =
-    requestOf (s .orders) clock (s .server-key) (joined (textsOf (clientFields s m))) (m .head) (m .aside) (m .path) (m .body) reply
+    requestOf (s .orders) clock (s .server-key) (joined (textsOf (clientFields s m))) (m .method) (m .head) (m .aside) (m .path) (m .body) reply
 
 -- a host lends a setup bytes
 pub record LentBytes (s : Setup) : Type 0 where
@@ -72,14 +74,16 @@ pub record LentBytes (s : Setup) : Type 0 where
   pub session-id : Bytes (s .session-id)
   pub extra : Bytes (s .orders .extra)
 
--- a message within its sizes, with good lines, in time
+-- a message within its sizes, with a good method and good lines, in time
 pub record Fair (s : Setup) (m : Message) (clock : ℕ) (reply : List ℕ) : Type 0 where
+  pub method-fits : length (m .method) ≤ 16
   pub head-fits : length (m .head) ≤ 16384
   pub aside-fits : length (m .aside) ≤ 16384
   pub path-some : 1 ≤ length (m .path)
   pub path-fits : length (m .path) ≤ 2048
   pub body-fits : length (m .body) ≤ 65536
   pub reply-room : 1024 ≤ length reply
+  pub method-good : isToken (m .method) ≡ true
   pub lines : (goodBlock (m .head) && goodBlock (m .aside)) ≡ true
   pub once :
       (repeated (coveredNames (s .orders .numbers .mask) (s .orders .extra)) (linesIn (m .head))

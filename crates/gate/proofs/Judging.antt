@@ -36,6 +36,7 @@ use Rattle.gate.proofs.Numbers.{entry-numbered, entry-ten, entry-thirte
 pub record Sized (q : Request) : Type 0 where
   pub key : length (q .server-key) ≡ 32
   pub value : length (q .value) ≤ 4096
+  pub method : length (q .method) ≤ 16
   pub head : length (q .head) ≤ 16384
   pub aside : length (q .aside) ≤ 16384
   pub path : length (q .path) ≤ 2048
@@ -47,13 +48,15 @@ unfolding requestFits lentFits
 sized q state e =
     let key = both (exactly 32 (q .server-key)) _ (both (lentFits q) (tableFits (state .table)) e .0) in
     let value = both (leb (length (q .value)) 4096) _ (key .1) in
-    let head = both (leb (length (q .head)) 16384) _ (value .1) in
+    let method = both (longFrom 1 16 (q .method)) _ (value .1) in
+    let head = both (leb (length (q .head)) 16384) _ (method .1) in
     let aside = both (leb (length (q .aside)) 16384) _ (head .1) in
     let path = both (longFrom 1 2048 (q .path)) _ (aside .1) in
     let body = both (leb (length (q .body)) 65536) _ (path .1) in
     record {
       key = eqb-true _ _ (key .0);
       value = leb-true _ _ (value .0);
+      method = leb-true _ _ (both (leb 1 (length (q .method))) _ (method .0) .1);
       head = leb-true _ _ (head .0);
       aside = leb-true _ _ (aside .0);
       path = leb-true _ _ (both (leb 1 (length (q .path))) _ (path .0) .1);

@@ -21,13 +21,13 @@ use Rattle.gate.specs.Entry.{stateChecks, entryChecks}
 use Rattle.gate.specs.Judge.{requestChecks, tableAfter, answered}
 
 -- the sizes of what a request and a setup lend, whatever numbers they come with
-abbrev pub RequestFits : List ℕ → List ℕ → List ℕ → List ℕ → List ℕ → List ℕ → List ℕ → List ℕ → Bool → Type 0
-RequestFits server-key value head aside path body table reply r =
-    (o : Orders) (clock : ℕ) → r ≡ requestFits (requestOf o clock server-key value head aside path body reply) (holding table)
+abbrev pub RequestFits : List ℕ → List ℕ → List ℕ → List ℕ → List ℕ → List ℕ → List ℕ → List ℕ → List ℕ → Bool → Type 0
+RequestFits server-key value method head aside path body table reply r =
+    (o : Orders) (clock : ℕ) → r ≡ requestFits (requestOf o clock server-key value method head aside path body reply) (holding table)
 
-abbrev pub LentFits : List ℕ → List ℕ → List ℕ → List ℕ → List ℕ → List ℕ → List ℕ → Bool → Type 0
-LentFits server-key value head aside path body reply r =
-    (o : Orders) (clock : ℕ) → r ≡ lentFits (requestOf o clock server-key value head aside path body reply)
+abbrev pub LentFits : List ℕ → List ℕ → List ℕ → List ℕ → List ℕ → List ℕ → List ℕ → List ℕ → Bool → Type 0
+LentFits server-key value method head aside path body reply r =
+    (o : Orders) (clock : ℕ) → r ≡ lentFits (requestOf o clock server-key value method head aside path body reply)
 
 abbrev pub SetupFits : List ℕ → List ℕ → List ℕ → List ℕ → List ℕ → List ℕ → List ℕ → Bool → Type 0
 SetupFits server-key session-key iv session-id value table reply r =

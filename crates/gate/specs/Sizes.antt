@@ -1,4 +1,4 @@
--- The sizes of what is lent: document 01, 'Orders, records and sizes', and number 1. Extra names have no size here: too long ones are bad orders.
+-- The sizes of what is lent: document 01, 'Orders, records and sizes', and number 1, and document 02, K3, for the method. Extra names have no size here: too long ones are bad orders.
 -- Assumes nothing.
 use mathlib.Core.Bool.{Bool, _&&_}
 use mathlib.Core.List.{List}
@@ -35,11 +35,12 @@ unfoldable pub lentFits : Request → Bool
 lentFits q =
     exactly 32 (q .server-key)
     && (leb (length (q .value)) 4096
+    && (longFrom 1 16 (q .method)
     && (leb (length (q .head)) 16384
     && (leb (length (q .aside)) 16384
     && (longFrom 1 2048 (q .path)
     && (leb (length (q .body)) 65536
-    && leb 1024 (length (q .reply)))))))
+    && leb 1024 (length (q .reply))))))))
 
 unfoldable pub requestFits : Request → State → Bool
 requestFits q state = lentFits q && tableFits (state .table)

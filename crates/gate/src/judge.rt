@@ -31,6 +31,7 @@ pub fn decide<'a>(
     clock: Time,
     server_key: &[u8],
     value: &[u8],
+    method: &[u8],
     head: &'a [u8],
     aside: &'a [u8],
     path: &[u8],
@@ -39,15 +40,25 @@ pub fn decide<'a>(
     reply: &[u8],
 ) -> Decision
     requires { ⌜ Known (now known) ⌝ }
-    ensures { λ r. ⌜ Decides (requestOf (orders numbers (now (extra .entry))) (clock .0) (now («server_key» .entry)) (now (value .entry)) (now (head .entry)) (now (aside .entry)) (now (path .entry)) (now (body .entry)) (now (reply .entry))) (holding (now (table .entry))) r ⌝ }
+    ensures { λ r. ⌜ Decides (requestOf (orders numbers (now (extra .entry))) (clock .0) (now («server_key» .entry)) (now (value .entry)) (now (method .entry)) (now (head .entry)) (now (aside .entry)) (now (path .entry)) (now (body .entry)) (now (reply .entry))) (holding (now (table .entry))) r ⌝ }
 {
-    let fits = sizes::request_fits(server_key, value, head, aside, path, body, table, reply);
+    let fits = sizes::request_fits(
+        server_key,
+        value,
+        method,
+        head,
+        aside,
+        path,
+        body,
+        table,
+        reply,
+    );
     let number = entry::table_number(fits, table);
     let entry = entry::enter(known, fits, number, numbers, extra);
     if entry.number != 0 {
         return settling::refused(entry.number);
     }
-    let read = reading::read(known, numbers, extra, value, head, aside);
+    let read = reading::read(known, numbers, extra, value, method, head, aside);
     if read.number != 0 {
         return settling::refused(read.number);
     }
@@ -62,6 +73,7 @@ pub fn decide<'a>(
         server_key,
         request,
         entry.limits,
+        method,
         head,
         aside,
         path,

@@ -96,6 +96,7 @@ pub extern "C" fn gate_judge<'a>(
     clock: u32,
     server_key: &[u8],
     value: &[u8],
+    method: &[u8],
     head: &'a [u8],
     aside: &'a [u8],
     path: &[u8],
@@ -103,7 +104,7 @@ pub extern "C" fn gate_judge<'a>(
     table: &mut [u8],
     reply: &mut [u8],
 ) -> u32
-    ensures { λ r. ⌜ outcome r (now (reply .exit)) (holding (now (table .exit))) ≡ judged (requestOf (ordersOf mask hashes (now (extra .entry)) «request_life» idle «session_life») clock (now («server_key» .entry)) (now (value .entry)) (now (head .entry)) (now (aside .entry)) (now (path .entry)) (now (body .entry)) (now (reply .entry))) (holding (now (table .entry))) ⌝ }
+    ensures { λ r. ⌜ outcome r (now (reply .exit)) (holding (now (table .exit))) ≡ judged (requestOf (ordersOf mask hashes (now (extra .entry)) «request_life» idle «session_life») clock (now («server_key» .entry)) (now (value .entry)) (now (method .entry)) (now (head .entry)) (now (aside .entry)) (now (path .entry)) (now (body .entry)) (now (reply .entry))) (holding (now (table .entry))) ⌝ }
 {
     let known = names::known();
     let numbers = Numbers {
@@ -120,6 +121,7 @@ pub extern "C" fn gate_judge<'a>(
         Time(clock),
         server_key,
         value,
+        method,
         head,
         aside,
         path,
@@ -143,6 +145,7 @@ pub extern "C" fn gate_judge_one<'a>(
     clock: u32,
     server_key: &[u8],
     value: &[u8],
+    method: &[u8],
     head: &'a [u8],
     aside: &'a [u8],
     path: &[u8],
@@ -150,7 +153,7 @@ pub extern "C" fn gate_judge_one<'a>(
     record: &mut Record,
     reply: &mut [u8],
 ) -> u32
-    ensures { λ r. ⌜ outcome r (now (reply .exit)) (holding (recordBytes (now («record» .exit)))) ≡ judged (requestOf (ordersOf mask hashes (now (extra .entry)) «request_life» idle «session_life») clock (now («server_key» .entry)) (now (value .entry)) (now (head .entry)) (now (aside .entry)) (now (path .entry)) (now (body .entry)) (now (reply .entry))) (holding (recordBytes (now («record» .entry)))) ⌝ }
+    ensures { λ r. ⌜ outcome r (now (reply .exit)) (holding (recordBytes (now («record» .exit)))) ≡ judged (requestOf (ordersOf mask hashes (now (extra .entry)) «request_life» idle «session_life») clock (now («server_key» .entry)) (now (value .entry)) (now (method .entry)) (now (head .entry)) (now (aside .entry)) (now (path .entry)) (now (body .entry)) (now (reply .entry))) (holding (recordBytes (now («record» .entry)))) ⌝ }
 {
     let held = *record;
     let judged = one::judge(
@@ -163,6 +166,7 @@ pub extern "C" fn gate_judge_one<'a>(
         clock,
         server_key,
         value,
+        method,
         head,
         aside,
         path,

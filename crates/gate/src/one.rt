@@ -41,6 +41,7 @@ pub fn judge<'a>(
     clock: u32,
     server_key: &[u8],
     value: &[u8],
+    method: &[u8],
     head: &'a [u8],
     aside: &'a [u8],
     path: &[u8],
@@ -48,7 +49,7 @@ pub fn judge<'a>(
     record: Record,
     reply: &mut [u8],
 ) -> Judged
-    ensures { λ r. ⌜ outcome (r .answer) (now (reply .exit)) (holding (recordBytes (r .next))) ≡ judged (requestOf (ordersOf mask hashes (now (extra .entry)) «request_life» idle «session_life») clock (now («server_key» .entry)) (now (value .entry)) (now (head .entry)) (now (aside .entry)) (now (path .entry)) (now (body .entry)) (now (reply .entry))) (holding (recordBytes «record»)) ⌝ }
+    ensures { λ r. ⌜ outcome (r .answer) (now (reply .exit)) (holding (recordBytes (r .next))) ≡ judged (requestOf (ordersOf mask hashes (now (extra .entry)) «request_life» idle «session_life») clock (now («server_key» .entry)) (now (value .entry)) (now (method .entry)) (now (head .entry)) (now (aside .entry)) (now (path .entry)) (now (body .entry)) (now (reply .entry))) (holding (recordBytes «record»)) ⌝ }
 {
     let known = names::known();
     let numbers = Numbers {
@@ -65,6 +66,7 @@ pub fn judge<'a>(
         Time(clock),
         server_key,
         value,
+        method,
         head,
         aside,
         path,
@@ -86,6 +88,7 @@ fn decide<'a>(
     clock: Time,
     server_key: &[u8],
     value: &[u8],
+    method: &[u8],
     head: &'a [u8],
     aside: &'a [u8],
     path: &[u8],
@@ -94,15 +97,15 @@ fn decide<'a>(
     reply: &[u8],
 ) -> Decision
     requires { ⌜ Known (now known) ⌝ }
-    ensures { λ r. ⌜ Decides (requestOf (orders numbers (now (extra .entry))) (clock .0) (now («server_key» .entry)) (now (value .entry)) (now (head .entry)) (now (aside .entry)) (now (path .entry)) (now (body .entry)) (now (reply .entry))) (holding (recordBytes «record»)) r ⌝ }
+    ensures { λ r. ⌜ Decides (requestOf (orders numbers (now (extra .entry))) (clock .0) (now («server_key» .entry)) (now (value .entry)) (now (method .entry)) (now (head .entry)) (now (aside .entry)) (now (path .entry)) (now (body .entry)) (now (reply .entry))) (holding (recordBytes «record»)) r ⌝ }
 {
-    let fits = sizes::lent_fits(server_key, value, head, aside, path, body, reply);
+    let fits = sizes::lent_fits(server_key, value, method, head, aside, path, body, reply);
     let number = record_number(record);
     let entry = entry::enter(known, fits, number, numbers, extra);
     if entry.number != 0 {
         return settling::refused(entry.number);
     }
-    let read = reading::read(known, numbers, extra, value, head, aside);
+    let read = reading::read(known, numbers, extra, value, method, head, aside);
     if read.number != 0 {
         return settling::refused(read.number);
     }
@@ -116,6 +119,7 @@ fn decide<'a>(
         server_key,
         request,
         entry.limits,
+        method,
         head,
         aside,
         path,

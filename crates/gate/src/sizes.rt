@@ -10,6 +10,8 @@ const MOST_RECORDS: usize = 64;
 
 const MOST_VALUE: usize = 4096;
 
+const MOST_METHOD: usize = 16;
+
 const MOST_LINES: usize = 16384;
 
 const MOST_PATH: usize = 2048;
@@ -52,6 +54,7 @@ pub fn setup_fits(
 pub fn request_fits(
     server_key: &[u8],
     value: &[u8],
+    method: &[u8],
     head: &[u8],
     aside: &[u8],
     path: &[u8],
@@ -59,29 +62,31 @@ pub fn request_fits(
     table: &[u8],
     reply: &[u8],
 ) -> bool
-    ensures { λ r. ⌜ RequestFits (now («server_key» .entry)) (now (value .entry)) (now (head .entry)) (now (aside .entry)) (now (path .entry)) (now (body .entry)) (now (table .entry)) (now (reply .entry)) r ⌝ }
+    ensures { λ r. ⌜ RequestFits (now («server_key» .entry)) (now (value .entry)) (now (method .entry)) (now (head .entry)) (now (aside .entry)) (now (path .entry)) (now (body .entry)) (now (table .entry)) (now (reply .entry)) r ⌝ }
 {
-    lent_fits(server_key, value, head, aside, path, body, reply) & table_fits(table)
+    lent_fits(server_key, value, method, head, aside, path, body, reply) & table_fits(table)
 }
 
 // All but the table.
 pub fn lent_fits(
     server_key: &[u8],
     value: &[u8],
+    method: &[u8],
     head: &[u8],
     aside: &[u8],
     path: &[u8],
     body: &[u8],
     reply: &[u8],
 ) -> bool
-    ensures { λ r. ⌜ LentFits (now («server_key» .entry)) (now (value .entry)) (now (head .entry)) (now (aside .entry)) (now (path .entry)) (now (body .entry)) (now (reply .entry)) r ⌝ }
+    ensures { λ r. ⌜ LentFits (now («server_key» .entry)) (now (value .entry)) (now (method .entry)) (now (head .entry)) (now (aside .entry)) (now (path .entry)) (now (body .entry)) (now (reply .entry)) r ⌝ }
 {
     (server_key.len() == 32)
         & ((value.len() <= MOST_VALUE)
-            & ((head.len() <= MOST_LINES)
-                & ((aside.len() <= MOST_LINES)
-                    & (long_from(1, MOST_PATH, path)
-                        & ((body.len() <= MOST_BODY) & (LEAST_REPLY <= reply.len()))))))
+            & (long_from(1, MOST_METHOD, method)
+                & ((head.len() <= MOST_LINES)
+                    & ((aside.len() <= MOST_LINES)
+                        & (long_from(1, MOST_PATH, path)
+                            & ((body.len() <= MOST_BODY) & (LEAST_REPLY <= reply.len())))))))
 }
 
 pub fn end_fits(iv: &[u8], table: &[u8]) -> bool

@@ -1,4 +1,4 @@
--- Document 01, case 12: ah 3, no extras, n 5, t 1000, lt 990, Host `a`, path `/`, no body.
+-- Document 01, case 12, with document 02's K3, a GET: ah 3, no extras, n 5, t 1000, lt 990, Host `a`, path `/`, no body.
 -- Assumes nothing.
 use mathlib.Core.Path.{_≡_, refl, ap, _∙_}
 use mathlib.Core.List.{List, [], _∷_, _++_, map}
@@ -26,7 +26,7 @@ host = codes "Host:a" ++ (13 ∷ 10 ∷ [])
 -- the signed text, control bytes in hex
 abbrev text : List ℕ
 text =
-    codes "2:" ++ (0x01 ∷ 0x04 ∷ codes ",2:" ++ (0x01 ∷ 0x03 ∷ codes ",0:,1:" ++ (0x05 ∷ codes ",2:" ++ (0x03 ∷ 0xE8 ∷ codes ",2:" ++ (0x03 ∷ 0xDE ∷ codes ",1:a,1:/,0:,")))))
+    codes "3:GET,2:" ++ (0x01 ∷ 0x04 ∷ codes ",2:" ++ (0x01 ∷ 0x03 ∷ codes ",0:,1:" ++ (0x05 ∷ codes ",2:" ++ (0x03 ∷ 0xE8 ∷ codes ",2:" ++ (0x03 ∷ 0xDE ∷ codes ",1:a,1:/,0:,")))))
 
 abbrev hostLine : Line
 hostLine = record { name = codes "Host"; value = codes "a" }
@@ -49,12 +49,12 @@ host-value =
 
 abbrev signing : List (List ℕ) → Signed
 signing values =
-    record { h = maskBytes 4; ah = maskBytes 3; eah = []; n = nonceOf 3 5; t = numberBytes 1000; lt = numberBytes 990; values = values; path = codes "/"; body = [] }
+    record { method = codes "GET"; h = maskBytes 4; ah = maskBytes 3; eah = []; n = nonceOf 3 5; t = numberBytes 1000; lt = numberBytes 990; values = values; path = codes "/"; body = [] }
 
 computed : signedText (signing (codes "a" ∷ [])) ≡ text
 unfolding signedText signedParts nonceOf netstrings netstring decimal decimalTo numberBytes maskBytes shortest bytesOf codes
 computed = refl
 
-pub case-12 : requestText Sha512 3 [] 5 1000 990 [] host (codes "/") [] ≡ text
+pub case-12 : requestText (codes "GET") Sha512 3 [] 5 1000 990 [] host (codes "/") [] ≡ text
 unfolding requestText signedOf
 case-12 = ap (λ (values : List (List ℕ)). signedText (signing values)) host-value ∙ computed

@@ -1,4 +1,4 @@
--- Demand 3, its first sentence: two signed texts that are equal come from the same h, ah, eah, nonce (carried or not), t, lt, covered values, path and body.
+-- Demand 3, its first sentence: two signed texts that are equal come from the same method, h, ah, eah, nonce (carried or not), t, lt, covered values, path and body.
 -- Assumes nothing.
 use mathlib.Core.Path.{_≡_, refl, sym, ap, ap₂, _∙_}
 use mathlib.Core.Bool.{Bool, true, false, cond}
@@ -37,23 +37,23 @@ carried-same none none h = (refl, λ e. refl)
 
 -- the parts by what tells how many they are
 rows : (s : Signed) → signedText s
-    ≡ netstrings (s .h ∷ s .ah ∷ s .eah ∷ []) ++ (netstrings (carried (s .n)) ++ (netstrings (s .t ∷ s .lt ∷ []) ++ (netstrings (s .values) ++ netstrings (s .path ∷ s .body ∷ []))))
+    ≡ netstrings (s .method ∷ s .h ∷ s .ah ∷ s .eah ∷ []) ++ (netstrings (carried (s .n)) ++ (netstrings (s .t ∷ s .lt ∷ []) ++ (netstrings (s .values) ++ netstrings (s .path ∷ s .body ∷ []))))
 unfolding signedText signedParts netstrings
 rows s = simp (netstrings-append, append-assoc, append-nil)
 
-abbrev made : List ℕ → List ℕ → List ℕ → Option (List ℕ) → List ℕ → List ℕ → List (List ℕ) → List ℕ → List ℕ → Signed
-made h ah eah n t lt values path body =
-    record { h = h; ah = ah; eah = eah; n = n; t = t; lt = lt; values = values; path = path; body = body }
+abbrev made : List ℕ → List ℕ → List ℕ → List ℕ → Option (List ℕ) → List ℕ → List ℕ → List (List ℕ) → List ℕ → List ℕ → Signed
+made method h ah eah n t lt values path body =
+    record { method = method; h = h; ah = ah; eah = eah; n = n; t = t; lt = lt; values = values; path = path; body = body }
 
-made-same : {h h' ah ah' eah eah' : List ℕ} {n n' : Option (List ℕ)} {t t' lt lt' : List ℕ} {values values' : List (List ℕ)} {path path' body body' : List ℕ}
-    → h ∷ ah ∷ eah ∷ [] ≡ h' ∷ ah' ∷ eah' ∷ [] → n ≡ n' → t ∷ lt ∷ [] ≡ t' ∷ lt' ∷ [] → values ≡ values' → path ∷ body ∷ [] ≡ path' ∷ body' ∷ []
-    → made h ah eah n t lt values path body ≡ made h' ah' eah' n' t' lt' values' path' body'
+made-same : {method method' h h' ah ah' eah eah' : List ℕ} {n n' : Option (List ℕ)} {t t' lt lt' : List ℕ} {values values' : List (List ℕ)} {path path' body body' : List ℕ}
+    → method ∷ h ∷ ah ∷ eah ∷ [] ≡ method' ∷ h' ∷ ah' ∷ eah' ∷ [] → n ≡ n' → t ∷ lt ∷ [] ≡ t' ∷ lt' ∷ [] → values ≡ values' → path ∷ body ∷ [] ≡ path' ∷ body' ∷ []
+    → made method h ah eah n t lt values path body ≡ made method' h' ah' eah' n' t' lt' values' path' body'
 made-same e₁ e₂ e₃ e₄ e₅ = cc
 
--- THE THEOREM, of any byte runs h, ah, eah and so on
+-- THE THEOREM, of any byte runs: method, h, ah, eah and so on
 pub signed-same : (a b : Signed) → CalledAlike a b → signedText a ≡ signedText b → a ≡ b
 signed-same a b alike e =
-    let one = netstrings-determined (a .h ∷ a .ah ∷ a .eah ∷ []) (b .h ∷ b .ah ∷ b .eah ∷ []) _ _ refl (sym (rows a) ∙ e ∙ rows b) in
+    let one = netstrings-determined (a .method ∷ a .h ∷ a .ah ∷ a .eah ∷ []) (b .method ∷ b .h ∷ b .ah ∷ b .eah ∷ []) _ _ refl (sym (rows a) ∙ e ∙ rows b) in
     let ah : a .ah ≡ b .ah = cc (one .0) in
     let eah : a .eah ≡ b .eah = cc (one .0) in
     let counts = alike ah eah in
@@ -66,6 +66,7 @@ signed-same a b alike e =
 
 -- what the code of a request is made from: its hash, the orders' mask and extra names, the numbers that it carries, and what the host lends
 pub record Request : Type 0 where
+  pub method : List ℕ
   pub hash : Hash
   pub mask : ℕ
   pub extra : List ℕ
@@ -78,7 +79,7 @@ pub record Request : Type 0 where
   pub body : List ℕ
 
 abbrev pub textOf : Request → List ℕ
-textOf p = requestText (p .hash) (p .mask) (p .extra) (p .n) (p .t) (p .lt) (p .aside) (p .head) (p .path) (p .body)
+textOf p = requestText (p .method) (p .hash) (p .mask) (p .extra) (p .n) (p .t) (p .lt) (p .aside) (p .head) (p .path) (p .body)
 
 -- no bit above 55, and numbers of 32 bits
 pub record Fits (p : Request) : Type 0 where
@@ -92,6 +93,7 @@ abbrev pub valueOf : Request → List ℕ → List ℕ
 valueOf p = coveredValue (linesIn (p .aside)) (linesIn (p .head))
 
 pub record Same (p q : Request) : Type 0 where
+  pub method : p .method ≡ q .method
   pub hash : p .hash ≡ q .hash
   pub mask : p .mask ≡ q .mask
   pub extra : p .extra ≡ q .extra
@@ -103,7 +105,7 @@ pub record Same (p q : Request) : Type 0 where
   pub body : p .body ≡ q .body
 
 abbrev signing : Request → Signed
-signing p = signedOf (p .hash) (p .mask) (p .extra) (p .n) (p .t) (p .lt) (p .aside) (p .head) (p .path) (p .body)
+signing p = signedOf (p .method) (p .hash) (p .mask) (p .extra) (p .n) (p .t) (p .lt) (p .aside) (p .head) (p .path) (p .body)
 
 carries : (mask n : ℕ) → isCarried (nonceOf mask n) ≡ ordersNonce mask
 unfolding nonceOf
@@ -138,6 +140,7 @@ request-same p q fp fq e =
     let m = masks (ap (λ (x : Signed). x .ah) s) in
     let x = ap (λ (x : Signed). x .eah) s in
     record {
+      method = ap (λ (x : Signed). x .method) s;
       hash = mask-tells (p .hash) (q .hash) (maskBytes-injective (hashMask (p .hash)) (hashMask (q .hash)) (omega (arith, mask-small (p .hash))) (omega (arith, mask-small (q .hash))) (ap (λ (x : Signed). x .h) s));
       mask = m;
       extra = x;

@@ -89,17 +89,18 @@ nonce-short mask n =
     elim (ordersNonce mask) as (λ (b : Bool). size (carried (cond b (some (numberBytes n)) none)) ≤ 15) [ true ↦ number-short n | false ↦ omega arith ]
 
 -- THE BOUND, far from what a state can take in
-pub request-short : (hash : Hash) (mask n t lt : ℕ) (extra aside head path body : List ℕ) → goodExtra extra ≡ true
+pub request-short : (hash : Hash) (mask n t lt : ℕ) (method extra aside head path body : List ℕ) → length method ≤ 16 → goodExtra extra ≡ true
     → length head ≤ 16384 → length aside ≤ 16384 → length path ≤ 2048 → length body ≤ 65536
-    → size (openingParts hash mask extra n t lt) + size (coveredValues mask extra aside head) + size (path ∷ body ∷ []) ≤ 2000000
+    → size (openingParts method hash mask extra n t lt) + size (coveredValues mask extra aside head) + size (path ∷ body ∷ []) ≤ 2000000
 unfolding coveredValues coveredValue linesIn
-request-short hash mask n t lt extra aside head path body good hh ha hp hb =
+request-short hash mask n t lt method extra aside head path body hm good hh ha hp hb =
     let found : (name : List ℕ) → length (coveredValue (linesIn aside) (linesIn head) name) ≤ 16384 =
     λ name. found-short (length aside) aside name _ ha (found-short (length head) head name [] hh (omega arith)) in
     let named = short-extra extra good in
     omega (
       arith,
-      opening-size hash mask n t lt extra,
+      opening-size hash mask n t lt method extra,
+      part-short method (omega arith),
       mask-short (hashMask hash),
       mask-short mask,
       part-short extra (omega arith),

@@ -52,10 +52,10 @@ netstrings-one part = append-nil (netstring part)
 pub size-one : (part : List ℕ) → size (part ∷ []) ≡ length (netstring part)
 size-one part = ap length (netstrings-one part)
 
-pub opening-size : (hash : Hash) (mask n t lt : ℕ) (extra : List ℕ) → size (openingParts hash mask extra n t lt)
-    ≡ size (maskBytes (hashMask hash) ∷ []) + size (maskBytes mask ∷ []) + size (extra ∷ []) + size (carried (nonceOf mask n)) + size (numberBytes t ∷ []) + size (numberBytes lt ∷ [])
+pub opening-size : (hash : Hash) (mask n t lt : ℕ) (method extra : List ℕ) → size (openingParts method hash mask extra n t lt)
+    ≡ size (method ∷ []) + size (maskBytes (hashMask hash) ∷ []) + size (maskBytes mask ∷ []) + size (extra ∷ []) + size (carried (nonceOf mask n)) + size (numberBytes t ∷ []) + size (numberBytes lt ∷ [])
 unfolding netstrings
-opening-size hash mask n t lt extra = simp (netstrings-append, length-append) (omega arith)
+opening-size hash mask n t lt method extra = simp (netstrings-append, length-append) (omega arith)
 
 abbrev pub extraValues : List ℕ → List ℕ → List ℕ → List (List ℕ)
 extraValues aside head extra = map (coveredValue (linesIn aside) (linesIn head)) (extraNames extra)
@@ -69,9 +69,9 @@ values-joined mask extra known aside head h =
     sym (map-append f (chosen (mask / 2) (namesFrom known 0)) (extraNames extra)) ∙ ap (map f) (sym (covered-names mask extra known h))
 
 -- all the parts in a row are the signed text
-pub parts-joined : (hash : Hash) (mask n t lt : ℕ) (extra aside head path body : List ℕ)
-    → netstrings (openingParts hash mask extra n t lt ++ (coveredValues mask extra aside head ++ (path ∷ body ∷ []))) ≡ requestText hash mask extra n t lt aside head path body
+pub parts-joined : (hash : Hash) (mask n t lt : ℕ) (method extra aside head path body : List ℕ)
+    → netstrings (openingParts method hash mask extra n t lt ++ (coveredValues mask extra aside head ++ (path ∷ body ∷ []))) ≡ requestText method hash mask extra n t lt aside head path body
 unfolding requestText signedText signedParts signedOf
-parts-joined hash mask n t lt extra aside head path body =
-    ap (λ (l : List (List ℕ)). netstrings (maskBytes (hashMask hash) ∷ maskBytes mask ∷ extra ∷ l))
+parts-joined hash mask n t lt method extra aside head path body =
+    ap (λ (l : List (List ℕ)). netstrings (method ∷ maskBytes (hashMask hash) ∷ maskBytes mask ∷ extra ∷ l))
     (append-assoc (carried (nonceOf mask n)) (numberBytes t ∷ numberBytes lt ∷ []) (coveredValues mask extra aside head ++ (path ∷ body ∷ [])))

@@ -23,10 +23,10 @@ Room s parts = s .inner .length + length (netstrings parts) < 2 ^ 61
 abbrev pub TookParts : Hmac → List (List ℕ) → Hmac → Type 0
 TookParts s parts r = TookIn s (netstrings parts) r
 
--- h, ah, eah, n if carried, t and lt
-abbrev pub openingParts : Hash → ℕ → List ℕ → ℕ → ℕ → ℕ → List (List ℕ)
-openingParts hash mask extra n t lt =
-    maskBytes (hashMask hash) ∷ maskBytes mask ∷ extra ∷ (carried (nonceOf mask n) ++ (numberBytes t ∷ numberBytes lt ∷ []))
+-- the method, h, ah, eah, n if carried, t and lt
+abbrev pub openingParts : List ℕ → Hash → ℕ → List ℕ → ℕ → ℕ → ℕ → List (List ℕ)
+openingParts method hash mask extra n t lt =
+    method ∷ maskBytes (hashMask hash) ∷ maskBytes mask ∷ extra ∷ (carried (nonceOf mask n) ++ (numberBytes t ∷ numberBytes lt ∷ []))
 
 -- the values of the chosen names of a run from index at on
 abbrev pub valuesFrom : List ℕ → List ℕ → List ℕ → ℕ → ℕ → List (List ℕ)

@@ -1,4 +1,4 @@
--- The signed text: document 01, 'Header lines and the signed text', and document 02, K2, for h.
+-- The signed text: document 01, 'Header lines and the signed text', and document 02, K2, for h, and K3, for the method.
 -- Assumes nothing.
 use Prim.Native.Nat.{ℕ, _%_}
 use mathlib.Core.List.{List, [], _∷_, _++_, map}
@@ -15,6 +15,7 @@ use Rattle.lines.specs.Values.{coveredValue}
 
 -- what is signed, h to lt as decoded bytes; the values are the covered ones and then the extra ones
 pub record Signed : Type 0 where
+  pub method : List ℕ
   pub h : List ℕ
   pub ah : List ℕ
   pub eah : List ℕ
@@ -32,7 +33,7 @@ carried none = []
 
 unfoldable pub signedParts : Signed → List (List ℕ)
 signedParts s =
-    s .h ∷ s .ah ∷ s .eah ∷ (carried (s .n) ++ (s .t ∷ s .lt ∷ (s .values ++ (s .path ∷ s .body ∷ []))))
+    s .method ∷ s .h ∷ s .ah ∷ s .eah ∷ (carried (s .n) ++ (s .t ∷ s .lt ∷ (s .values ++ (s .path ∷ s .body ∷ []))))
 
 -- these netstrings in a row
 unfoldable pub signedText : Signed → List ℕ
@@ -50,8 +51,9 @@ unfoldable pub coveredValues : ℕ → List ℕ → List ℕ → List ℕ → Li
 coveredValues mask extra aside head = map (coveredValue (linesIn aside) (linesIn head)) (coveredNames mask extra)
 
 -- what is signed of a request whose h, ah and eah are those of the orders; without extra names eah is absent, which is empty
-unfoldable pub signedOf : Hash → ℕ → List ℕ → ℕ → ℕ → ℕ → List ℕ → List ℕ → List ℕ → List ℕ → Signed
-signedOf hash mask extra n t lt aside head path body = record {
+unfoldable pub signedOf : List ℕ → Hash → ℕ → List ℕ → ℕ → ℕ → ℕ → List ℕ → List ℕ → List ℕ → List ℕ → Signed
+signedOf method hash mask extra n t lt aside head path body = record {
+  method = method;
   h = maskBytes (hashMask hash);
   ah = maskBytes mask;
   eah = extra;
@@ -63,5 +65,5 @@ signedOf hash mask extra n t lt aside head path body = record {
   body = body;
 }
 
-unfoldable pub requestText : Hash → ℕ → List ℕ → ℕ → ℕ → ℕ → List ℕ → List ℕ → List ℕ → List ℕ → List ℕ
-requestText hash mask extra n t lt aside head path body = signedText (signedOf hash mask extra n t lt aside head path body)
+unfoldable pub requestText : List ℕ → Hash → ℕ → List ℕ → ℕ → ℕ → ℕ → List ℕ → List ℕ → List ℕ → List ℕ → List ℕ
+requestText method hash mask extra n t lt aside head path body = signedText (signedOf method hash mask extra n t lt aside head path body)

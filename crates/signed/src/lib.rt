@@ -23,6 +23,7 @@ use window::time::Time;
 pub fn code<'a>(
     known: &[u8],
     key: &[u8],
+    method: &[u8],
     hash: Hash,
     mask: u64,
     extra: &[u8],
@@ -34,22 +35,32 @@ pub fn code<'a>(
     path: &[u8],
     body: &[u8],
 ) -> [u8; 64]
-    requires { ⌜ Known (now known) × (length (now key) < 2 ^ 61) × (goodExtra (now extra) ≡ true) × (length (now head) ≤ 16384) × (length (now aside) ≤ 16384) × (length (now path) ≤ 2048) × (length (now body) ≤ 65536) ⌝ }
-    ensures { λ r. ⌜ take (digestSize hash) r ≡ hmacOf hash (now (key .entry)) (requestText hash mask (now (extra .entry)) (n .0) (t .0) (lt .0) (now (aside .entry)) (now (head .entry)) (now (path .entry)) (now (body .entry))) ⌝ }
+    requires { ⌜ Known (now known) × (length (now key) < 2 ^ 61) × (length (now method) ≤ 16) × (goodExtra (now extra) ≡ true) × (length (now head) ≤ 16384) × (length (now aside) ≤ 16384) × (length (now path) ≤ 2048) × (length (now body) ≤ 65536) ⌝ }
+    ensures { λ r. ⌜ take (digestSize hash) r ≡ hmacOf hash (now (key .entry)) (requestText (now (method .entry)) hash mask (now (extra .entry)) (n .0) (t .0) (lt .0) (now (aside .entry)) (now (head .entry)) (now (path .entry)) (now (body .entry))) ⌝ }
 {
     let fresh = Hmac::new(hash, key);
-    let opened = opening(fresh, hash, mask, extra, n, t, lt);
+    let opened = opening(fresh, method, hash, mask, extra, n, t, lt);
     let valued = values(opened, known, mask, extra, head, aside);
     let ended = ending(valued, path, body);
     ended.finish()
 }
 
-// h, ah, eah, n if carried, t and lt.
-fn opening(state: Hmac, hash: Hash, mask: u64, extra: &[u8], n: Nonce, t: Time, lt: Time) -> Hmac
-    requires { ⌜ Room state (openingParts hash mask (now extra) (n .0) (t .0) (lt .0)) ⌝ }
-    ensures { λ r. ⌜ TookParts state (openingParts hash mask (now (extra .entry)) (n .0) (t .0) (lt .0)) r ⌝ }
+// The method, h, ah, eah, n if carried, t and lt.
+fn opening(
+    state: Hmac,
+    method: &[u8],
+    hash: Hash,
+    mask: u64,
+    extra: &[u8],
+    n: Nonce,
+    t: Time,
+    lt: Time,
+) -> Hmac
+    requires { ⌜ Room state (openingParts (now method) hash mask (now extra) (n .0) (t .0) (lt .0)) ⌝ }
+    ensures { λ r. ⌜ TookParts state (openingParts (now (method .entry)) hash mask (now (extra .entry)) (n .0) (t .0) (lt .0)) r ⌝ }
 {
-    let hashed = absorb_mask(state, hashes::mask(hash));
+    let asked = absorb(state, method);
+    let hashed = absorb_mask(asked, hashes::mask(hash));
     let covered = absorb_mask(hashed, mask);
     let named = absorb(covered, extra);
     let counted = absorb_nonce(named, mask, n);

@@ -107,7 +107,7 @@ module _ (q : Request) (r : ArmorRequest) (h : Holds (q .value) (carried (q .val
         record { is = simp (sym (opens .is) ∙ good, ← (held .expiry), le-leb (u .expiry .0) (q .clock) late); holds = λ z. held }
 
     module _ (lasts : q .clock < u .expiry .0) (hash : Hash) (named : hashOf q ≡ hash) (code : List ℕ)
-        (made : code ≡ hmacOf hash (u .key) (requestText hash (q .orders .numbers .mask) (q .orders .extra) (r .n .0) (r .t .0) (r .lt .0) (q .aside) (q .head) (q .path) (q .body))) where
+        (made : code ≡ hmacOf hash (u .key) (requestText (q .method) hash (q .orders .numbers .mask) (q .orders .extra) (r .n .0) (r .t .0) (r .lt .0) (q .aside) (q .head) (q .path) (q .body))) where
       compared : first (vouchingPart q) ≡ cond (not (same (take (r .«c_len») (r .c)) code)) 11 0
       unfolding tokenPart signaturePart signatureOf codeOf textOf nonceOf timeOf lastTimeOf fieldsOf
       compared =

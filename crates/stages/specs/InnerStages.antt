@@ -28,28 +28,28 @@ use Rattle.table.specs.Session.{placeOf, heldAt}
 use Rattle.stages.specs.Parts.{ivOf, hashOf, nonceOf, timeOf, lastTimeOf, tokenOf, limits, ordered, nextOf, coveringPart, readingPart, vouchingPart, admittingPart, invalidates}
 
 -- 6 to 8
-abbrev pub CoversIs : Orders → List ℕ → List ℕ → List ℕ → ℕ → Type 0
-CoversIs o value head aside number =
-    (clock : ℕ) (server-key path body reply : List ℕ) → number ≡ first (coveringPart (requestOf o clock server-key value head aside path body reply))
+abbrev pub CoversIs : Orders → List ℕ → List ℕ → List ℕ → List ℕ → ℕ → Type 0
+CoversIs o value method head aside number =
+    (clock : ℕ) (server-key path body reply : List ℕ) → number ≡ first (coveringPart (requestOf o clock server-key value method head aside path body reply))
 
 -- 4 to 8: the number, and where it is 0 what the value carries
 pub record Reads (q : Request) (r : Reading) : Type 0 where
   pub is : r .number ≡ first (readingPart q)
   pub holds : r .number ≡ 0 → Holds (q .value) (carried (q .value)) (r .request)
 
-abbrev pub ReadIs : Orders → List ℕ → List ℕ → List ℕ → Reading → Type 0
-ReadIs o value head aside r =
-    (clock : ℕ) (server-key path body reply : List ℕ) → Reads (requestOf o clock server-key value head aside path body reply) r
+abbrev pub ReadIs : Orders → List ℕ → List ℕ → List ℕ → List ℕ → Reading → Type 0
+ReadIs o value method head aside r =
+    (clock : ℕ) (server-key path body reply : List ℕ) → Reads (requestOf o clock server-key value method head aside path body reply) r
 
 -- 9 to 11: the number, and the token unless it is 9
 pub record Vouches (q : Request) (r : Vouched) : Type 0 where
   pub is : r .number ≡ first (vouchingPart q)
   pub holds : (r .number ≡ 9 → ⊥) → IsToken (tokenOf q) (r .token)
 
-abbrev pub VouchIs : Orders → ℕ → List ℕ → ArmorRequest → Hash → List ℕ → List ℕ → List ℕ → List ℕ → Vouched → Type 0
-VouchIs o clock server-key request hash head aside path body r =
+abbrev pub VouchIs : Orders → ℕ → List ℕ → ArmorRequest → Hash → List ℕ → List ℕ → List ℕ → List ℕ → List ℕ → Vouched → Type 0
+VouchIs o clock server-key request hash method head aside path body r =
     (value reply : List ℕ)
-    → let q = requestOf o clock server-key value head aside path body reply in
+    → let q = requestOf o clock server-key value method head aside path body reply in
     Holds value (carried value) request → hashOf q ≡ hash → Vouches q r
 
 -- 12 to 16: the number, and where it is 0 and nonces are ordered the next record
@@ -108,8 +108,8 @@ pub record Settles (q : Request) (table : List ℕ) (d : Decision) : Type 0 wher
   pub orders : d .number ≡ 0 → d .nonces ≡ ordered q
   pub next : d .number ≡ 0 → ordered q ≡ true → d .next ≡ nextOf q table
 
-abbrev pub SettleIs : Orders → ℕ → List ℕ → ArmorRequest → Limits → List ℕ → List ℕ → List ℕ → List ℕ → Place → Record → Decision → Type 0
-SettleIs o clock server-key request within head aside path body place held d =
+abbrev pub SettleIs : Orders → ℕ → List ℕ → ArmorRequest → Limits → List ℕ → List ℕ → List ℕ → List ℕ → List ℕ → Place → Record → Decision → Type 0
+SettleIs o clock server-key request within method head aside path body place held d =
     (value reply table : List ℕ)
-    → let q = requestOf o clock server-key value head aside path body reply in
+    → let q = requestOf o clock server-key value method head aside path body reply in
     Holds value (carried value) request → within ≡ limitsOf o → StandsAt q table place held → Settles q table d

@@ -1,5 +1,5 @@
 -- The checks of a request from its value on, in named parts: document 01, 'The numbers a call returns', 'Header lines and the signed text' and
--- 'Age, idleness and the window', and document 02, K2, for the hash.
+-- 'Age, idleness and the window', and document 02, K2, for the hash, and K3, for the method.
 -- Assumes nothing.
 use mathlib.Core.Bool.{Bool, not, _&&_, _||_}
 use mathlib.Core.List.{List, [], _∷_, _++_}
@@ -15,6 +15,7 @@ use Rattle.armor.specs.Numerals.{maskOf}
 use Rattle.armor.specs.Keys.{keyS, keyC, keyT, keyLt, keyN, keyH, keyIv, keyTag}
 use Rattle.armor.specs.Value.{Field, grammar, carried}
 use Rattle.armor.specs.Fields.{the, requestFields}
+use Rattle.names.specs.Names.{isToken}
 use Rattle.names.specs.Covered.{coveredNames}
 use Rattle.orders.specs.Orders.{limitsOf}
 use Rattle.orders.specs.declared.Limits.{Limits}
@@ -67,7 +68,7 @@ limits q = limitsOf (q .orders)
 
 unfoldable pub textOf : Request → List ℕ
 textOf q =
-    requestText (hashOf q) (q .orders .numbers .mask) (q .orders .extra) (nonceOf q) (timeOf q) (lastTimeOf q) (q .aside) (q .head) (q .path) (q .body)
+    requestText (q .method) (hashOf q) (q .orders .numbers .mask) (q .orders .extra) (nonceOf q) (timeOf q) (lastTimeOf q) (q .aside) (q .head) (q .path) (q .body)
 
 -- what its signature must be
 unfoldable pub codeOf : Request → List ℕ
@@ -89,10 +90,10 @@ stepped q table = stepOf (windowOf (heldAt table (placeOf table (ivOf q)))) (non
 abbrev pub windowSays : ℕ → Request → List ℕ → Bool
 windowSays n q table = ordered q && eqb (numberOf (stepped q table .verdict)) n
 
--- 6 to 8: what the orders cover
+-- 6 to 8: the method, the lines, and what the orders cover
 unfoldable pub coveringPart : Request → List Check
 coveringPart q =
-    check 6 (not (goodBlock (q .head) && goodBlock (q .aside)))
+    check 6 (not (isToken (q .method) && (goodBlock (q .head) && goodBlock (q .aside))))
     ∷ check 7 (twice q (q .head) || twice q (q .aside))
     ∷ check 8 (not (asOrdered (q .orders .numbers .hashes) (q .orders .numbers .mask) (q .orders .extra) (fieldsOf q)))
     ∷ []

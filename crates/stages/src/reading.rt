@@ -12,6 +12,7 @@ ghost use Rattle.armor.specs.InnerAnswers.{Holds};
 ghost use Rattle.stages.specs.InnerStages.{CoversIs, ReadIs};
 use armor::Answer;
 use armor::Request;
+use names::token::is_token;
 use orders::Numbers;
 
 // The number that the checks come to, and where it is 0 what the value carries.
@@ -25,11 +26,12 @@ pub fn read(
     numbers: Numbers,
     extra: &[u8],
     value: &[u8],
+    method: &[u8],
     head: &[u8],
     aside: &[u8],
 ) -> Reading
     requires { ⌜ Known (now known) × (goodExtra (now extra) ≡ true) × (length (now value) ≤ 4096) ⌝ }
-    ensures { λ r. ⌜ ReadIs (orders numbers (now (extra .entry))) (now (value .entry)) (now (head .entry)) (now (aside .entry)) r ⌝ }
+    ensures { λ r. ⌜ ReadIs (orders numbers (now (extra .entry))) (now (value .entry)) (now (method .entry)) (now (head .entry)) (now (aside .entry)) r ⌝ }
 {
     let heard = armor::read_request(value);
     let request = heard.request;
@@ -38,7 +40,7 @@ pub fn read(
         Answer::Grammar => Reading { number: 4, request },
         Answer::Fields => Reading { number: 5, request },
         Answer::Good => Reading {
-            number: compare(known, numbers, extra, value, request, head, aside),
+            number: compare(known, numbers, extra, value, request, method, head, aside),
             request,
         },
     }
@@ -51,13 +53,14 @@ fn compare(
     extra: &[u8],
     value: &[u8],
     request: Request,
+    method: &[u8],
     head: &[u8],
     aside: &[u8],
 ) -> u32
     requires { ⌜ Known (now known) × (goodExtra (now extra) ≡ true) × (requestFields (carried (now value)) ≡ true) × Holds (now value) (carried (now value)) request ⌝ }
-    ensures { λ r. ⌜ CoversIs (orders numbers (now (extra .entry))) (now (value .entry)) (now (head .entry)) (now (aside .entry)) r ⌝ }
+    ensures { λ r. ⌜ CoversIs (orders numbers (now (extra .entry))) (now (value .entry)) (now (method .entry)) (now (head .entry)) (now (aside .entry)) r ⌝ }
 {
-    if !(lines::good(head) & lines::good(aside)) {
+    if !(is_token(method) & (lines::good(head) & lines::good(aside))) {
         return 6;
     }
     let mask = numbers.mask;

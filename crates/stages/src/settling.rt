@@ -40,6 +40,7 @@ pub fn settle<'a>(
     server_key: &[u8],
     request: Request,
     limits: Limits,
+    method: &[u8],
     head: &'a [u8],
     aside: &'a [u8],
     path: &[u8],
@@ -47,8 +48,8 @@ pub fn settle<'a>(
     place: Place,
     held: Record,
 ) -> Decision
-    requires { ⌜ Known (now known) × (goodExtra (now extra) ≡ true) × (length (now «server_key») ≡ 32) × (request .«s_len» ≤ 118) × (request .«c_len» ≤ 64) × (length (now head) ≤ 16384) × (length (now aside) ≤ 16384) × (length (now path) ≤ 2048) × (length (now body) ≤ 65536) ⌝ }
-    ensures { λ r. ⌜ SettleIs (orders numbers (now (extra .entry))) (clock .0) (now («server_key» .entry)) request limits (now (head .entry)) (now (aside .entry)) (now (path .entry)) (now (body .entry)) place held r ⌝ }
+    requires { ⌜ Known (now known) × (goodExtra (now extra) ≡ true) × (length (now «server_key») ≡ 32) × (request .«s_len» ≤ 118) × (request .«c_len» ≤ 64) × (length (now method) ≤ 16) × (length (now head) ≤ 16384) × (length (now aside) ≤ 16384) × (length (now path) ≤ 2048) × (length (now body) ≤ 65536) ⌝ }
+    ensures { λ r. ⌜ SettleIs (orders numbers (now (extra .entry))) (clock .0) (now («server_key» .entry)) request limits (now (method .entry)) (now (head .entry)) (now (aside .entry)) (now (path .entry)) (now (body .entry)) place held r ⌝ }
 {
     let hash = hashes::named(request.h);
     let vouched = vouching::vouch(
@@ -59,6 +60,7 @@ pub fn settle<'a>(
         server_key,
         request,
         hash,
+        method,
         head,
         aside,
         path,

@@ -27,13 +27,14 @@ pub fn vouch<'a>(
     server_key: &[u8],
     request: Request,
     hash: Hash,
+    method: &[u8],
     head: &'a [u8],
     aside: &'a [u8],
     path: &[u8],
     body: &[u8],
 ) -> Vouched
-    requires { ⌜ Known (now known) × (goodExtra (now extra) ≡ true) × (length (now «server_key») ≡ 32) × (request .«s_len» ≤ 118) × (request .«c_len» ≤ 64) × (length (now head) ≤ 16384) × (length (now aside) ≤ 16384) × (length (now path) ≤ 2048) × (length (now body) ≤ 65536) ⌝ }
-    ensures { λ r. ⌜ VouchIs (orders numbers (now (extra .entry))) (clock .0) (now («server_key» .entry)) request hash (now (head .entry)) (now (aside .entry)) (now (path .entry)) (now (body .entry)) r ⌝ }
+    requires { ⌜ Known (now known) × (goodExtra (now extra) ≡ true) × (length (now «server_key») ≡ 32) × (request .«s_len» ≤ 118) × (request .«c_len» ≤ 64) × (length (now method) ≤ 16) × (length (now head) ≤ 16384) × (length (now aside) ≤ 16384) × (length (now path) ≤ 2048) × (length (now body) ≤ 65536) ⌝ }
+    ensures { λ r. ⌜ VouchIs (orders numbers (now (extra .entry))) (clock .0) (now («server_key» .entry)) request hash (now (method .entry)) (now (head .entry)) (now (aside .entry)) (now (path .entry)) (now (body .entry)) r ⌝ }
 {
     let iv = request.iv;
     let s = request.s;
@@ -54,6 +55,7 @@ pub fn vouch<'a>(
     let code = signed::code(
         known,
         &key,
+        method,
         hash,
         numbers.mask,
         extra,

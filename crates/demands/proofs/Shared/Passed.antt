@@ -16,6 +16,7 @@ use Rattle.armor.specs.InnerAnswers.{requestAnswer}
 use Rattle.armor.proofs.Scan.{kept-is}
 use Rattle.armor.proofs.Requests.{request-by}
 use Rattle.orders.specs.Orders.{ordersGood}
+use Rattle.names.specs.Names.{isToken}
 use Rattle.lines.specs.Lines.{goodBlock}
 use Rattle.table.specs.declared.place.Place.{Place}
 use Rattle.table.specs.declared.place.Place.the-variants.{At, Nowhere}
@@ -49,7 +50,7 @@ pub record Passed (q : Request) (state : State) : Type 0 where
   pub orders : ordersGood (q .orders) ≡ true
   pub well : WellFormed (records (state .table))
   pub value : requestAnswer (q .value) ≡ Answer.Good
-  pub lines : (goodBlock (q .head) && goodBlock (q .aside)) ≡ true
+  pub lines : (isToken (q .method) && (goodBlock (q .head) && goodBlock (q .aside))) ≡ true
   pub once : (twice q (q .head) || twice q (q .aside)) ≡ false
   pub covers : asOrdered (q .orders .numbers .hashes) (q .orders .numbers .mask) (q .orders .extra) (fieldsOf q) ≡ true
   pub opened : hasToken (openedOf q) ≡ true

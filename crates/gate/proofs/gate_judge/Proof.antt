@@ -10,7 +10,7 @@ use Rattle.gate.proofs.gate_judge.Tie as tie
 abbrev asked : tie.Start → Request
 asked c =
     let a = c .args in
-    requestOf (ordersOf (a .mask) (a .hashes) (a .extra .now) (a .request-life) (a .idle) (a .session-life)) (a .clock) (a .server-key .now) (a .value .now) (a .head .now) (a .aside .now) (a .path .now) (a .body .now) (a .reply .now)
+    requestOf (ordersOf (a .mask) (a .hashes) (a .extra .now) (a .request-life) (a .idle) (a .session-life)) (a .clock) (a .server-key .now) (a .value .now) (a .method .now) (a .head .now) (a .aside .now) (a .path .now) (a .body .now) (a .reply .now)
 
 answer-requires : tie.Need-answer-requires
 answer-requires c κs =
@@ -20,7 +20,7 @@ answer-requires c κs =
 returns : tie.Need-returns
 returns c =
     c .before .before .answer .ensures _
-    ∙ rw (c .before .before .before .before .before .before .apply .ensures) (applied-judged (asked (c .before .before .before .before .before .before .before .before .before .before .before .before .before .before .before .before .before .before .before .before .before .before)) _ _ (c .before .before .before .before .before .before .before .before .decide .ensures))
+    ∙ rw (c .before .before .before .before .before .before .apply .ensures) (applied-judged (asked (c .before .before .before .before .before .before .before .before .before .before .before .before .before .before .before .before .before .before .before .before .before .before .before)) _ _ (c .before .before .before .before .before .before .before .before .decide .ensures))
 
 pub gate-judge-spec : {M : Type 1} → statement M
 gate-judge-spec =

@@ -14,7 +14,7 @@ use Rattle.signed.proofs.code.Statement.{statement}
 use Rattle.signed.proofs.code.Tie as tie
 
 abbrev opens : tie.Start → List (List ℕ)
-opens s = openingParts (s .args .hash) (s .args .mask) (s .args .extra .now) (s .args .n .0) (s .args .t .0) (s .args .lt .0)
+opens s = openingParts (s .args .method .now) (s .args .hash) (s .args .mask) (s .args .extra .now) (s .args .n .0) (s .args .t .0) (s .args .lt .0)
 
 abbrev held : tie.Start → List (List ℕ)
 held s = coveredValues (s .args .mask) (s .args .extra .now) (s .args .aside .now) (s .args .head .now)
@@ -24,27 +24,27 @@ ends s = s .args .path .now ∷ s .args .body .now ∷ []
 
 short : (s : tie.Start) → size (opens s) + size (held s) + size (ends s) ≤ 2000000
 short s = let a = s .args in
-    request-short (a .hash) (a .mask) (a .n .0) (a .t .0) (a .lt .0) (a .extra .now) (a .aside .now) (a .head .now) (a .path .now) (a .body .now) (s .pre .2) (s .pre .3) (s .pre .4) (s .pre .5) (s .pre .6)
+    request-short (a .hash) (a .mask) (a .n .0) (a .t .0) (a .lt .0) (a .method .now) (a .extra .now) (a .aside .now) (a .head .now) (a .path .now) (a .body .now) (s .pre .2) (s .pre .3) (s .pre .4) (s .pre .5) (s .pre .6) (s .pre .7)
 
 returns : tie.Need-returns
 returns c =
-    let s = c .before .before .before .before .before .before .before .before .before .before .before .before in
+    let s = c .before .before .before .before .before .before .before .before .before .before .before .before .before in
     let made = c .before .before .before .before .new .ensures in
     let took =
     took-then (opens s) (held s ++ ends s) (c .before .before .before .opening .ensures)
     (took-then (held s) (ends s) (c .before .before .values .ensures) (c .before .ending .ensures)) in
     c .finish .ensures (s .args .hash) (s .args .key .now) _
     (subst (λ (text : List ℕ). Keyed (s .args .hash) (c .before .ending .result) (s .args .key .now) text)
-    (parts-joined (s .args .hash) (s .args .mask) (s .args .n .0) (s .args .t .0) (s .args .lt .0) (s .args .extra .now) (s .args .aside .now) (s .args .head .now) (s .args .path .now)
-    (s .args .body .now))
+    (parts-joined (s .args .hash) (s .args .mask) (s .args .n .0) (s .args .t .0) (s .args .lt .0) (s .args .method .now) (s .args .extra .now) (s .args .aside .now) (s .args .head .now)
+    (s .args .path .now) (s .args .body .now))
     (took .appended (s .args .hash) (s .args .key .now) [] (made .keyed)))
 
 pub code-spec : {M : Type 1} → statement M
 code-spec =
     tie.close (tie.spec (λ c κs. search needs)
-    (λ c κs. omega (arith, short (c .before .before .before .before .before .before .before .before)))
-    (λ c κs. let s = c .before .before .before .before .before .before .before .before .before in
-    (s .pre .0, s .pre .2, omega (arith, short s)))
-    (λ c κs. omega (arith, short (c .before .before .before .before .before .before .before .before .before .before)))
-    (λ c κs. (omega (arith, short (c .before .before .before .before .before .before .before .before .before .before .before)), search needs))
+    (λ c κs. omega (arith, short (c .before .before .before .before .before .before .before .before .before)))
+    (λ c κs. let s = c .before .before .before .before .before .before .before .before .before .before in
+    (s .pre .0, s .pre .3, omega (arith, short s)))
+    (λ c κs. omega (arith, short (c .before .before .before .before .before .before .before .before .before .before .before)))
+    (λ c κs. (omega (arith, short (c .before .before .before .before .before .before .before .before .before .before .before .before)), search needs))
     returns)

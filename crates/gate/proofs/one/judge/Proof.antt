@@ -13,14 +13,14 @@ use Rattle.gate.proofs.one.judge.Tie as tie
 abbrev asked : tie.Start → Request
 asked c =
     let a = c .args in
-    requestOf (ordersOf (a .mask) (a .hashes) (a .extra .now) (a .request-life) (a .idle) (a .session-life)) (a .clock) (a .server-key .now) (a .value .now) (a .head .now) (a .aside .now) (a .path .now) (a .body .now) (a .reply .now)
+    requestOf (ordersOf (a .mask) (a .hashes) (a .extra .now) (a .request-life) (a .idle) (a .session-life)) (a .clock) (a .server-key .now) (a .value .now) (a .method .now) (a .head .now) (a .aside .now) (a .path .now) (a .body .now) (a .reply .now)
 
 fits : (c : tie.Start) → Fits (c .args .«record»)
 fits c =
     record { used = search needs; iv = search needs; expiry = search needs; any = search needs; highest = search needs; bits = search needs; hash = search needs }
 
 after-requires : tie.Need-after-requires
-after-requires c κs = rw (one-place _ (fits (c .before .before .before .before .before .before .before .before .before .before .before .before .before))) at (c .before .decide .ensures .within)
+after-requires c κs = rw (one-place _ (fits (c .before .before .before .before .before .before .before .before .before .before .before .before .before .before))) at (c .before .decide .ensures .within)
 
 answer-requires : tie.Need-answer-requires
 answer-requires c κs =
@@ -30,7 +30,7 @@ answer-requires c κs =
 returns : tie.Need-returns
 returns c =
     c .before .before .answer .ensures _
-    ∙ rw (c .before .before .before .before .after .ensures) (applied-judged (asked (c .before .before .before .before .before .before .before .before .before .before .before .before .before .before .before .before .before .before)) _ _ (c .before .before .before .before .before .before .decide .ensures))
+    ∙ rw (c .before .before .before .before .after .ensures) (applied-judged (asked (c .before .before .before .before .before .before .before .before .before .before .before .before .before .before .before .before .before .before .before)) _ _ (c .before .before .before .before .before .before .decide .ensures))
 
 pub judge-spec : {M : Type 1} → statement M
 judge-spec = tie.close (tie.spec

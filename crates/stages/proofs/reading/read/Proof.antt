@@ -34,7 +34,7 @@ compare-requires : tie.Need-compare-requires
 compare-requires c κs =
     let told = c .before .before .before .read-request .ensures in
     let right = fields-told _ true (sym (told .is) ∙ c .enum-told3 .given .1) in
-    let pre = c .before .before .before .before .before .before .before .before .before .pre in
+    let pre = c .before .before .before .before .before .before .before .before .before .before .pre in
     (pre .0, pre .1, right .fields, told .holds (c .enum-told3 .given .1))
 
 pub read-spec : {M : Type 1} → statement M

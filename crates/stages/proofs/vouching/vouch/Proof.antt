@@ -12,28 +12,34 @@ use Rattle.stages.proofs.vouching.vouch.Tie as tie
 sizes : (c : tie.Start) → (length (c .args .request .s) ≡ 118) × (length (c .args .request .iv) ≡ 12) × (length (c .args .request .tag) ≡ 16)
 sizes c = (search needs, search needs, search needs)
 
+abbrev begun : tie.After-iv2 → tie.Start
+begun c = c .before .before .before .before .before .before .before .before .before .before .before .before
+
+slice-aggregate-unseal : tie.Need-slice-aggregate-unseal
+slice-aggregate-unseal c = sym (sizes (begun c) .1)
+
 array-share-prefix-s : tie.Need-array-share-prefix-s
-array-share-prefix-s c = omega (arith, c .before .before .before .before .before .before .before .before .before .before .before .pre .3, sizes (c .before .before .before .before .before .before .before .before .before .before .before) .0)
+array-share-prefix-s c = omega (arith, begun c .pre .3, sizes (begun c) .0)
 
 slice-aggregate-unseal-2 : tie.Need-slice-aggregate-unseal-2
 slice-aggregate-unseal-2 c =
-    let request = c .before .before .before .before .before .before .before .before .before .before .before .before .args .request in
-    omega (arith, c .before .before .before .before .before .before .before .before .before .before .before .before .pre .3, sizes (c .before .before .before .before .before .before .before .before .before .before .before .before) .0, length-take (request .«s_len») (request .s))
+    let request = begun (c .before) .args .request in
+    omega (arith, begun (c .before) .pre .3, sizes (begun (c .before)) .0, length-take (request .«s_len») (request .s))
 
 slice-aggregate-unseal-3 : tie.Need-slice-aggregate-unseal-3
-slice-aggregate-unseal-3 c = sym (sizes (c .before .before .before .before .before .before .before .before .before .before .before .before .before) .2)
+slice-aggregate-unseal-3 c = sym (sizes (begun (c .before .before)) .2)
 
 unseal-requires : tie.Need-unseal-requires
 unseal-requires c κs =
-    let request = c .before .before .before .before .before .before .before .before .before .before .before .before .before .args .request in
-    let size = sizes (c .before .before .before .before .before .before .before .before .before .before .before .before .before) in
-    (c .before .before .before .before .before .before .before .before .before .before .before .before .before .pre .2, size .1, omega (arith, c .before .before .before .before .before .before .before .before .before .before .before .before .before .pre .3, length-take (request .«s_len») (request .s)), size .2)
+    let start = begun (c .before .before) in
+    let request = start .args .request in
+    (start .pre .2, sizes start .1, omega (arith, start .pre .3, length-take (request .«s_len») (request .s)), sizes start .2)
 
 code-requires : tie.Need-code-requires
 code-requires c κs =
-    let pre = c .before .before .before .before .before .before .before .before .before .before .before .before .before .before .before .before .before .before .before .before .before .before .before .before .before .pre in
+    let pre = c .before .before .before .before .before .before .before .before .before .before .before .before .before .before .before .before .before .before .before .before .before .before .before .before .before .before .pre in
     let key : length (c .before .before .before .before .before .before .before .before .before .before .before .unseal .result .key) ≡ 32 = search needs in
-    (pre .0, omega arith, pre .1, pre .5, pre .6, pre .7, pre .8)
+    (pre .0, omega arith, pre .5, pre .1, pre .6, pre .7, pre .8, pre .9)
 
 returns : tie.Need-returns
 returns c value reply h named =
@@ -61,5 +67,5 @@ returns-4 c value reply h named =
 
 pub vouch-spec : {M : Type 1} → statement M
 vouch-spec =
-    tie.close (tie.spec (λ c. search needs) array-share-prefix-s slice-aggregate-unseal-2 slice-aggregate-unseal-3 unseal-requires returns returns-2
-    (λ c. search needs) code-requires (λ c κs. c .before .before .before .before .before .before .before .before .before .before .before .before .before .before .before .before .before .before .before .before .before .before .before .before .before .before .before .pre .4) returns-3 returns-4)
+    tie.close (tie.spec slice-aggregate-unseal array-share-prefix-s slice-aggregate-unseal-2 slice-aggregate-unseal-3 unseal-requires returns returns-2
+    (λ c. search needs) code-requires (λ c κs. c .before .before .before .before .before .before .before .before .before .before .before .before .before .before .before .before .before .before .before .before .before .before .before .before .before .before .before .before .pre .4) returns-3 returns-4)
