@@ -30,6 +30,7 @@ extern "C" {
 #define GATE_IV_BYTES 12
 #define GATE_SESSION_ID_MAX 64 /* at least 1 */
 #define GATE_VALUE_MAX 4096    /* the value of the header X-S-Armor */
+#define GATE_METHOD_MAX 16     /* at least 1 */
 #define GATE_LINES_MAX 16384   /* all head lines, and again all set-aside lines, each with its CR LF */
 #define GATE_PATH_MAX 2048     /* at least 1 */
 #define GATE_BODY_MAX 65536
@@ -75,7 +76,7 @@ enum gate_number {
     GATE_BAD_TABLE = 3,       /* table not well formed */
     GATE_BAD_VALUE = 4,       /* header value breaks its grammar */
     GATE_BAD_FIELDS = 5,      /* wrong set of fields */
-    GATE_BAD_LINE = 6,        /* head or set-aside line malformed */
+    GATE_BAD_LINE = 6,        /* head or set-aside line malformed, or a byte in the method that no token has */
     GATE_REPEATED_NAME = 7,   /* a covered name twice among the head lines, or twice among the set-aside ones */
     GATE_BAD_COVERAGE = 8,    /* the request covers otherwise than ordered, or its hash is not one that is allowed, not
                                  that of its signature's length, or not its session's */
@@ -103,7 +104,7 @@ static inline const char *gate_text(unsigned number) {
     case GATE_BAD_TABLE: return "table not well formed";
     case GATE_BAD_VALUE: return "header value breaks its grammar";
     case GATE_BAD_FIELDS: return "wrong set of fields";
-    case GATE_BAD_LINE: return "malformed header line";
+    case GATE_BAD_LINE: return "malformed method or header line";
     case GATE_REPEATED_NAME: return "covered header repeated";
     case GATE_BAD_COVERAGE: return "wrong coverage or hash";
     case GATE_BAD_TOKEN: return "token does not open";
@@ -237,6 +238,7 @@ uint32_t gate_setup(uint64_t mask, uint64_t hashes, const uint8_t *extra, size_t
  * Judges a request.
  *   server_key  GATE_SERVER_KEY_BYTES, as at setup
  *   value       the request's X-S-Armor value
+ *   method      1 to GATE_METHOD_MAX characters of a token, as the client sent it: GET is not get
  *   head        its header lines as they will be handed on, `name:value` CR LF each, no request line, no empty line
  *   aside       the client's own lines, in the same form, where the proxy wrote others in their place; mostly nothing
  *   path        1 to GATE_PATH_MAX, as the client sent it
@@ -246,9 +248,10 @@ uint32_t gate_setup(uint64_t mask, uint64_t hashes, const uint8_t *extra, size_t
  */
 uint32_t gate_judge(uint64_t mask, uint64_t hashes, const uint8_t *extra, size_t extra_len, uint32_t request_life,
                     uint32_t idle, uint32_t session_life, uint32_t clock, const uint8_t *server_key,
-                    size_t server_key_len, const uint8_t *value, size_t value_len, const uint8_t *head, size_t head_len,
-                    const uint8_t *aside, size_t aside_len, const uint8_t *path, size_t path_len, const uint8_t *body,
-                    size_t body_len, uint8_t *table, size_t table_len, uint8_t *reply, size_t reply_len);
+                    size_t server_key_len, const uint8_t *value, size_t value_len, const uint8_t *method,
+                    size_t method_len, const uint8_t *head, size_t head_len, const uint8_t *aside, size_t aside_len,
+                    const uint8_t *path, size_t path_len, const uint8_t *body, size_t body_len, uint8_t *table,
+                    size_t table_len, uint8_t *reply, size_t reply_len);
 
 /* Ends the session of an IV of GATE_IV_BYTES. It has no reply. */
 uint32_t gate_end(const uint8_t *iv, size_t iv_len, uint8_t *table, size_t table_len);
@@ -275,9 +278,10 @@ typedef char gate_record_is_laid_out_so[offsetof(gate_record, used) == 0 && offs
 /* Judges a request as gate_judge does with a table of this one record, and leaves the new record in its place. */
 uint32_t gate_judge_one(uint64_t mask, uint64_t hashes, const uint8_t *extra, size_t extra_len, uint32_t request_life,
                         uint32_t idle, uint32_t session_life, uint32_t clock, const uint8_t *server_key,
-                        size_t server_key_len, const uint8_t *value, size_t value_len, const uint8_t *head,
-                        size_t head_len, const uint8_t *aside, size_t aside_len, const uint8_t *path, size_t path_len,
-                        const uint8_t *body, size_t body_len, gate_record *record, uint8_t *reply, size_t reply_len);
+                        size_t server_key_len, const uint8_t *value, size_t value_len, const uint8_t *method,
+                        size_t method_len, const uint8_t *head, size_t head_len, const uint8_t *aside, size_t aside_len,
+                        const uint8_t *path, size_t path_len, const uint8_t *body, size_t body_len, gate_record *record,
+                        uint8_t *reply, size_t reply_len);
 
 /*
  * ---- Structs, and functions over the calls ----
@@ -317,6 +321,7 @@ typedef struct gate_new_session {
 /* A request as it came in. */
 typedef struct gate_request {
     gate_run value;
+    gate_run method;
     gate_run head;
     gate_run aside;
     gate_run path;
@@ -380,9 +385,10 @@ static inline gate_answer gate_judge_request(const gate_orders *orders, uint32_t
     return gate_answer_of(gate_judge(
         orders->mask, orders->hashes, gate_lent(orders->extra), orders->extra.length, orders->request_life,
         orders->idle, orders->session_life, clock, gate_lent(server_key), server_key.length, gate_lent(request->value),
-        request->value.length, gate_lent(request->head), request->head.length, gate_lent(request->aside),
-        request->aside.length, gate_lent(request->path), request->path.length, gate_lent(request->body),
-        request->body.length, gate_lent_room(table), table.length, gate_lent_room(reply), reply.length));
+        request->value.length, gate_lent(request->method), request->method.length, gate_lent(request->head),
+        request->head.length, gate_lent(request->aside), request->aside.length, gate_lent(request->path),
+        request->path.length, gate_lent(request->body), request->body.length, gate_lent_room(table), table.length,
+        gate_lent_room(reply), reply.length));
 }
 
 /* The record is not null: it has no length that could say so. */
@@ -391,9 +397,10 @@ static inline gate_answer gate_judge_one_request(const gate_orders *orders, uint
     return gate_answer_of(gate_judge_one(
         orders->mask, orders->hashes, gate_lent(orders->extra), orders->extra.length, orders->request_life,
         orders->idle, orders->session_life, clock, gate_lent(server_key), server_key.length, gate_lent(request->value),
-        request->value.length, gate_lent(request->head), request->head.length, gate_lent(request->aside),
-        request->aside.length, gate_lent(request->path), request->path.length, gate_lent(request->body),
-        request->body.length, record, gate_lent_room(reply), reply.length));
+        request->value.length, gate_lent(request->method), request->method.length, gate_lent(request->head),
+        request->head.length, gate_lent(request->aside), request->aside.length, gate_lent(request->path),
+        request->path.length, gate_lent(request->body), request->body.length, record, gate_lent_room(reply),
+        reply.length));
 }
 
 static inline gate_answer gate_end_session(gate_run iv, gate_room table) {

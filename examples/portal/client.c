@@ -192,12 +192,13 @@ static size_t code_of(const client *session, const uint8_t *bytes, size_t length
     }
 }
 
-/* The code of the netstrings of h, ah, eah, n if ordered, t, lt, covered values, path and body. */
+/* The code of the netstrings of the method, h, ah, eah, n if ordered, t, lt, covered values, path and body. */
 static size_t signature(const client *session, const client_request *request, const numbers *sent, uint8_t *out) {
     uint8_t space[8192], h[9], ah[9], eah[GATE_EXTRA_MAX];
     const uint64_t mask = mask_of(session->ah);
     text all = {space, sizeof space, 0, 0};
     size_t extra_length = base64_bytes(session->eah, eah, sizeof eah);
+    add_netstring(&all, request->method, strlen(request->method));
     add_netstring(&all, h, base64_bytes(session->h, h, sizeof h));
     add_netstring(&all, ah, base64_bytes(session->ah, ah, sizeof ah));
     add_netstring(&all, eah, extra_length);

@@ -22,6 +22,7 @@ typedef struct client_header {
 } client_header;
 
 typedef struct client_request {
+    const char *method;
     const client_header *headers;
     size_t header_count;
     const char *path;

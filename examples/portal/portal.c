@@ -20,12 +20,13 @@
  *     note TEXT                       printed as it stands
  *     at HH:MM:SS                     the clock from now on
  *     setup CALLER IV KEY             the caller asks for a session; IV and session key in hexadecimal
- *     make LABEL CALLER PATH [BODY]   the caller signs a request, which is kept under a label
+ *     make LABEL CALLER METHOD PATH [BODY]
+ *                                     the caller signs a request, which is kept under a label
  *     deliver LABEL                   it reaches the proxy
- *     forge LABEL BODY                it reaches the proxy with another body
- *     send CALLER PATH [BODY]         made and delivered at once
+ *     forge LABEL METHOD [BODY]       it reaches the proxy with this method and this body
+ *     send CALLER METHOD PATH [BODY]  made and delivered at once
  *     signs-with CALLER NAME          the hash that the caller's program signs with from now on, whatever its session's
- *     fetch CALLER COUNT PATH         so many requests at once, told in one line
+ *     fetch CALLER COUNT PATH         so many GET requests at once, told in one line
  *     end CALLER                      the caller logs out
  *     table                           prints the table
  */
@@ -56,6 +57,7 @@ typedef struct request {
     uint32_t nonce;
     uint32_t made;
     char value[1024];
+    char method[GATE_METHOD_MAX + 1];
     char path[64];
     char body[64];
 } request;
@@ -91,11 +93,12 @@ static gate_answer set_up(const caller *who, const char *asked, const uint8_t *s
 }
 
 /* The proxy hands requests on under the portal's inner name, and sets the caller's own Host line aside. */
-static gate_answer judge(const request *asked, const char *body) {
+static gate_answer judge(const request *asked) {
     char head[256];
     sprintf(head, "Host: portal.inside\r\nCookie: session=%s\r\nX-Dealer: %s\r\n", asked->from->session_id, asked->from->name);
-    const gate_request judged = {gate_string(asked->value), gate_string(head), gate_string("Host: parts.example\r\n"),
-                                 gate_string(asked->path), gate_string(body)};
+    const gate_request judged = {gate_string(asked->value), gate_string(asked->method),
+                                 gate_string(head),         gate_string("Host: parts.example\r\n"),
+                                 gate_string(asked->path),  gate_string(asked->body)};
     return gate_judge_request(&asked->from->orders, now, the_server_key(), &judged, the_table(), the_reply());
 }
 
@@ -103,17 +106,22 @@ static gate_answer end(const caller *who) { return gate_end_session(gate_bytes(w
 
 /* ---- A caller's program ---- */
 
-static void make(request *asked, caller *from, const char *path, const char *body) {
+static void keep(char *to, size_t room, const char *text) {
+    if (strlen(text) >= room) give_up("a text is too long");
+    strcpy(to, text);
+}
+
+static void make(request *asked, caller *from, const char *method, const char *path, const char *body) {
     char cookie[64];
     sprintf(cookie, "session=%s", from->session_id);
     const client_header headers[] = {{"Host", "parts.example"}, {"Cookie", cookie}, {"X-Dealer", from->name}};
-    const client_request signing = {headers, 3, path, body};
-    if (strlen(path) >= sizeof asked->path || strlen(body) >= sizeof asked->body) give_up("path or body too long");
+    const client_request signing = {method, headers, 3, path, body};
     asked->from = from;
     asked->nonce = from->program.next;
     asked->made = now;
-    strcpy(asked->path, path);
-    strcpy(asked->body, body);
+    keep(asked->method, sizeof asked->method, method);
+    keep(asked->path, sizeof asked->path, path);
+    keep(asked->body, sizeof asked->body, body);
     if (!client_sign(&from->program, &signing, now, asked->value, sizeof asked->value)) give_up("the request is too long");
 }
 
@@ -133,9 +141,9 @@ static void print_event(const caller *who, const char *what, gate_answer answer)
 }
 
 /* A request and the gate's answer to it, with the reply in words. */
-static void print_judged(const request *asked, const char *body, gate_answer answer) {
+static void print_judged(const request *asked, gate_answer answer) {
     char what[192];
-    int length = sprintf(what, "%s%s%s, nonce %u", asked->path, body[0] != 0 ? " " : "", body, asked->nonce);
+    int length = sprintf(what, "%s %s%s%s, nonce %u", asked->method, asked->path, asked->body[0] != 0 ? " " : "", asked->body, asked->nonce);
     if (asked->made != now) sprintf(what + length, ", made %s", time_text(asked->made));
     print_event(asked->from, what, answer);
     if (answer.number == GATE_ACCEPTED) {
@@ -323,27 +331,28 @@ static void do_setup(void) {
 static void do_make(void) {
     request *asked = labelled_request();
     caller *from = named_caller();
-    const char *path = word();
-    make(asked, from, path, body_word());
+    const char *method = word(), *path = word();
+    make(asked, from, method, path, body_word());
 }
 
 static void do_deliver(void) {
-    request *asked = made_request();
-    print_judged(asked, asked->body, judge(asked, asked->body));
+    const request *asked = made_request();
+    print_judged(asked, judge(asked));
 }
 
 static void do_forge(void) {
-    request *asked = made_request();
-    const char *body = word();
-    print_judged(asked, body, judge(asked, body));
+    request forged = *made_request();
+    keep(forged.method, sizeof forged.method, word());
+    keep(forged.body, sizeof forged.body, body_word());
+    print_judged(&forged, judge(&forged));
 }
 
 static void do_send(void) {
     request asked;
     caller *from = named_caller();
-    const char *path = word();
-    make(&asked, from, path, body_word());
-    print_judged(&asked, asked.body, judge(&asked, asked.body));
+    const char *method = word(), *path = word();
+    make(&asked, from, method, path, body_word());
+    print_judged(&asked, judge(&asked));
 }
 
 static void do_fetch(void) {
@@ -354,10 +363,10 @@ static void do_fetch(void) {
     gate_answer answer = {GATE_ACCEPTED, 0};
     char what[128];
     for (; sent < count && answer.number == GATE_ACCEPTED; sent++) {
-        make(&asked, from, path, "");
-        answer = judge(&asked, "");
+        make(&asked, from, "GET", path, "");
+        answer = judge(&asked);
     }
-    sprintf(what, "%s %u times, nonces %u to %u", path, sent, first, from->program.next - 1);
+    sprintf(what, "GET %s %u times, nonces %u to %u", path, sent, first, from->program.next - 1);
     print_event(from, what, answer);
     printf("%s\n", answer.number == GATE_ACCEPTED ? ", every one" : ", the last one");
 }

@@ -33,7 +33,7 @@ static gate_room in_reply(void) { return gate_room_of(reply, sizeof reply); }
 
 static void nulls_everywhere(void) {
     const gate_new_session session = {empty, empty, empty, empty};
-    const gate_request request = {empty, empty, empty, empty, empty};
+    const gate_request request = {empty, empty, empty, empty, empty, empty};
     const gate_room none = gate_room_of(NULL, 0);
     gate_record record = gate_record_at(zeros);
     gate_answer set_up = gate_set_up_session(&no_orders, 0, empty, &session, none, none);
@@ -51,7 +51,7 @@ static void nulls_everywhere(void) {
 #define UNSEALED "s:AA==;c:" ZEROS_64 ";t:AA==;lt:AA==;h:AQQ=;ah:AQA=;iv:AAAAAAAAAAAAAAAA;tag:" ZEROS_16
 
 static void nulls_for_empty_runs(void) {
-    gate_request request = {gate_string(UNSEALED), empty, empty, gate_string("/"), empty};
+    gate_request request = {gate_string(UNSEALED), gate_string("GET"), empty, empty, gate_string("/"), empty};
     gate_record record = gate_record_at(zeros);
     gate_answer judged = gate_judge_request(&no_orders, 0, key(), &request, in_table(), in_reply());
     gate_answer single = gate_judge_one_request(&no_orders, 0, key(), &request, &record, in_reply());
@@ -115,10 +115,11 @@ static void texts(void) {
 static void print_constants(void) {
     const long constants[] = {
         GATE_SERVER_KEY_BYTES,     GATE_SESSION_KEY_BYTES, GATE_IV_BYTES,             GATE_SESSION_ID_MAX,
-        GATE_VALUE_MAX,            GATE_LINES_MAX,         GATE_PATH_MAX,             GATE_BODY_MAX,
-        GATE_REPLY_MIN,            GATE_EXTRA_MAX,         GATE_EXTRA_NAMES_MAX,      GATE_RECORD_BYTES,
-        GATE_RECORDS_MAX,          GATE_WINDOW,            GATE_REQUEST_LIFE_DEFAULT, GATE_IDLE_DEFAULT,
-        GATE_SESSION_LIFE_DEFAULT, GATE_SESSION_LIFE_MAX,  GATE_HASH_SHA_256,         GATE_INVALIDATION_SHA_256_BYTES,
+        GATE_VALUE_MAX,            GATE_METHOD_MAX,        GATE_LINES_MAX,            GATE_PATH_MAX,
+        GATE_BODY_MAX,             GATE_REPLY_MIN,         GATE_EXTRA_MAX,            GATE_EXTRA_NAMES_MAX,
+        GATE_RECORD_BYTES,         GATE_RECORDS_MAX,       GATE_WINDOW,               GATE_REQUEST_LIFE_DEFAULT,
+        GATE_IDLE_DEFAULT,         GATE_SESSION_LIFE_DEFAULT, GATE_SESSION_LIFE_MAX,
+        GATE_HASH_SHA_256,         GATE_INVALIDATION_SHA_256_BYTES,
         GATE_HASH_SHA_512,         GATE_INVALIDATION_SHA_512_BYTES,
     };
     for (size_t i = 0; i < sizeof constants / sizeof constants[0]; i++) printf("%ld\n", constants[i]);

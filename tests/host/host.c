@@ -31,14 +31,14 @@
 #define UNTOUCHED 0xa5
 #define DEEPEST 12288
 
-/* Of a line: a judge and its thirteen arguments. */
-#define MOST_WORDS 14
+/* Of a line: a judge and its fourteen arguments. */
+#define MOST_WORDS 15
 
 enum place { AT_END, AT_BEGIN, ON_HEAP };
 
 enum kind { SETUP, JUDGE, ONE, END, KINDS };
 
-enum which { EXTRA, SERVER_KEY, SESSION_KEY, IV, SESSION_ID, VALUE, HEAD, ASIDE, PATH, BODY, TABLE, RECORD, REPLY, RUNS };
+enum which { EXTRA, SERVER_KEY, SESSION_KEY, IV, SESSION_ID, VALUE, METHOD, HEAD, ASIDE, PATH, BODY, TABLE, RECORD, REPLY, RUNS };
 
 struct run {
     const char *name;
@@ -51,9 +51,9 @@ struct run {
 static struct run runs[RUNS] = {
     {"extra names", 0, NULL, NULL, 0}, {"server key", 0, NULL, NULL, 0}, {"session key", 0, NULL, NULL, 0},
     {"IV", 0, NULL, NULL, 0},          {"session id", 0, NULL, NULL, 0}, {"value", 0, NULL, NULL, 0},
-    {"head", 0, NULL, NULL, 0},        {"set-aside", 0, NULL, NULL, 0},  {"path", 0, NULL, NULL, 0},
-    {"body", 0, NULL, NULL, 0},        {"table", 1, NULL, NULL, 0},      {"record", 1, NULL, NULL, 0},
-    {"reply", 1, NULL, NULL, 0},
+    {"method", 0, NULL, NULL, 0},      {"head", 0, NULL, NULL, 0},       {"set-aside", 0, NULL, NULL, 0},
+    {"path", 0, NULL, NULL, 0},        {"body", 0, NULL, NULL, 0},       {"table", 1, NULL, NULL, 0},
+    {"record", 1, NULL, NULL, 0},      {"reply", 1, NULL, NULL, 0},
 };
 
 static enum place place;
@@ -299,7 +299,7 @@ static void read_site(void) {
 
 static void read_request(void) {
     for (enum which i = VALUE; i <= BODY; i++) lend_next(i);
-    const gate_request request = {lent(VALUE), lent(HEAD), lent(ASIDE), lent(PATH), lent(BODY)};
+    const gate_request request = {lent(VALUE), lent(METHOD), lent(HEAD), lent(ASIDE), lent(PATH), lent(BODY)};
     call.request = request;
 }
 
@@ -354,7 +354,7 @@ static void play(char *line) {
         size_t words;
         void (*play)(void);
     } kinds[] = {{"table", 2, set_table},   {"reply", 3, set_reply}, {"setup", 13, play_setup},
-                 {"judge", 14, play_judge}, {"one", 14, play_one},   {"end", 2, play_end}};
+                 {"judge", 15, play_judge}, {"one", 15, play_one},   {"end", 2, play_end}};
     split(line);
     const char *kind = words[next_word++];
     for (size_t i = 0; i < sizeof kinds / sizeof kinds[0]; i++) {

@@ -6,7 +6,7 @@ import model
 import record as rec
 
 ORDERS = model.Orders._fields
-REQUEST = [*ORDERS, *"clock server_key value head aside path body".split()]
+REQUEST = [*ORDERS, *"clock server_key value method head aside path body".split()]
 ARGUMENTS = {
     "setup": [*ORDERS, *"clock server_key session_key iv session_id value".split()],
     "judge": REQUEST,

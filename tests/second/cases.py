@@ -65,13 +65,13 @@ equal("11, t 1000, lt 1010",
       model.idle_too_long(model.Orders(0, 4, b"", 0, 0, 0), {b"t": b"\3\xe8", b"lt": b"\3\xf2"}), False)
 
 TEXT_12 = bytes.fromhex(
-    "323a 0104 2c 323a 0103 2c 303a 2c 313a 05 2c 323a 03e8 2c 323a 03de 2c 313a 61 2c 313a 2f 2c 303a 2c"
+    "333a 474554 2c 323a 0104 2c 323a 0103 2c 303a 2c 313a 05 2c 323a 03e8 2c 323a 03de 2c 313a 61 2c 313a 2f 2c 303a 2c"
 )
 FIELDS_12 = {b"h": b"\1\4", b"ah": b"\1\3", b"n": b"\5", b"t": b"\3\xe8", b"lt": b"\3\xde"}
 
-equal("12, signed text of the model", model.signed_text(FIELDS_12, [b"a"], b"/", b""), TEXT_12)
+equal("12, signed text of the model", model.signed_text(b"GET", FIELDS_12, [b"a"], b"/", b""), TEXT_12)
 equal("12, signed text of the client",
-      client.joined(client.signed_parts(list(FIELDS_12.items()), [b"Host: a\r\n"], [], b"/", b"")), TEXT_12)
+      client.joined(client.signed_parts(b"GET", list(FIELDS_12.items()), [b"Host: a\r\n"], [], b"/", b"")), TEXT_12)
 
 # The primitives, by published vectors: RFC 4231 case 1, and test case 14 of the GCM specification
 
@@ -120,8 +120,8 @@ def text_of(fields):
 TOKEN = b"32:" + SESSION_KEY + b",2:id,4:2000,"
 
 
-def request(records=(FRESH, rec.FREE), orders=ORDERS, clock=1_000, head=b"Host: a\r\n", path=b"/", token=TOKEN,
-            text=TEXT_12, sign=hashlib.sha512, server_key=SERVER_KEY, reply=REPLY, closing=b"", **changed):
+def request(records=(FRESH, rec.FREE), orders=ORDERS, clock=1_000, method=b"GET", head=b"Host: a\r\n", path=b"/",
+            token=TOKEN, text=TEXT_12, sign=hashlib.sha512, server_key=SERVER_KEY, reply=REPLY, closing=b"", **changed):
     """The request with one thing or two changed; further names are fields."""
     run = AESGCM(SERVER_KEY).encrypt(IV, token, None)
     fields = {b"s": run[:-16], b"iv": IV, b"tag": run[-16:], **FIELDS_12}
@@ -129,7 +129,7 @@ def request(records=(FRESH, rec.FREE), orders=ORDERS, clock=1_000, head=b"Host: 
     fields.update({key.encode(): run for key, run in changed.items()})
     value = text_of(fields) + closing
     table = rec.table_of(records)
-    return model.judge(orders, clock, server_key, value, head, b"", path, b"", table, reply), table, reply
+    return model.judge(orders, clock, server_key, value, method, head, b"", path, b"", table, reply), table, reply
 
 
 def setting_up(records=(rec.FREE,), orders=ORDERS, clock=1_000, value=b"r:AQQ=", session_id=b"id"):
@@ -244,6 +244,21 @@ freed(10, request(records=(FRESH_256,), clock=2_000))
 IDLE_256 = {**UNDER_256, "text": UNDER_256["text"].replace(b"2:\3\xde", b"1:\0"), "lt": b"\0", "orders": ORDERS._replace(idle=999)}
 freed(13, request(records=(FRESH_256,), **IDLE_256), hashlib.sha256, 46)
 row(8, request(**IDLE_256), "h other than the record's, before 13")
+
+
+# The method. That of case 12 is GET.
+
+accepted("a method of 16 bytes", request(method=b"M" * 16, text=TEXT_12.replace(b"3:GET", b"16:" + b"M" * 16)), TAKEN)
+for wrong_size in (0, 17, 19):
+    row(1, request(method=b"M" * wrong_size), f"a method of {wrong_size} bytes")
+for no_token in (b"GE T", b"GET ", b"G/T", b"\0", b"\x7f", b"\xff"):
+    row(6, request(method=no_token), f"method {no_token}")
+row(4, request(method=b"GE T", t=b"\0\3\xe8"), "before the method's bytes")
+row(5, request(method=b"GE T", x=b"\0"), "before the method's bytes")
+row(6, request(method=b"GE T", head=b"Host: a\r\nhost: a\r\n"), "before a name twice")
+row(11, request(method=b"DELETE"), "another method than was signed")
+row(11, request(method=b"get"), "the method in other case")
+row(11, request(text=TEXT_12[6:]), "no method signed")
 
 
 @case("setup: the longest reply has 459 bytes")

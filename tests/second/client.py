@@ -9,6 +9,7 @@ import base64
 import hashing
 from model import NAMES, Orders
 
+METHODS = [b"GET", b"GET", b"POST", b"POST", b"PUT", b"DELETE", b"HEAD", b"PATCH", b"get", b"M-SEARCH", b"X", b"VERSION-CONTROL"]
 UNLISTED = [b"X-Dealer", b"X-Farm", b"x-order.no", b"Part", b"Z", b"Content-Type", b"X_Trace", b"Accept-Parts", b"~x~"]
 
 
@@ -85,12 +86,12 @@ def header(name, head, aside):
     return b""
 
 
-def signed_parts(fields, head, aside, path, body):
+def signed_parts(method, fields, head, aside, path, body):
     """The parts of the signed text by name, in order; coverage is what the request itself says."""
     carried = {}
     for key, contents in fields:
         carried.setdefault(key, contents)
-    parts = [(b"h", carried.get(b"h", b"")), (b"ah", carried.get(b"ah", b"")), (b"eah", carried.get(b"eah", b""))]
+    parts = [(b"method", method), (b"h", carried.get(b"h", b"")), (b"ah", carried.get(b"ah", b"")), (b"eah", carried.get(b"eah", b""))]
     if b"n" in carried:
         parts.append((b"n", carried[b"n"]))
     parts += [(b"t", carried.get(b"t", b"")), (b"lt", carried.get(b"lt", b""))]

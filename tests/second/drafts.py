@@ -1,6 +1,6 @@
 """Calls in the making. A draft is a good call; faults alter it at named stages, and what comes later follows suit.
 
-The stages of a request: plan (orders, times, nonce, lines, path, body), token (its three parts), token text (what gets
+The stages of a request: plan (orders, times, nonce, method, lines, path, body), token (its three parts), token text (what gets
 sealed), fields (what will be signed), parts and text (of the signature), signed (the fields with c), pieces, value,
 lent (the runs as handed over). A setup has plan, fields, pieces, value, lent; an ending has plan and lent.
 """
@@ -131,6 +131,7 @@ class Request(Valued):
     lt: int = 0
     n: int = 0  # carried if the orders say so
     hash: int = hashing.SHA_512  # that it names and signs with
+    method: bytes = b"GET"
     head_lines: list = field(default_factory=list)
     aside_lines: list = field(default_factory=list)
     path: bytes = b"/"
@@ -217,7 +218,7 @@ class Request(Valued):
             self.fields = self.unsigned_fields()
             rng.shuffle(self.fields)
         if name == "parts":
-            self.parts = client.signed_parts(self.fields, self.head_lines, self.aside_lines, self.path, self.body)
+            self.parts = client.signed_parts(self.method, self.fields, self.head_lines, self.aside_lines, self.path, self.body)
         if name == "text":
             self.text = client.joined(self.parts)
         if name == "signed":
@@ -245,7 +246,7 @@ class Request(Valued):
         return fields
 
     def call(self):
-        runs = (self.value, self.head, self.aside, self.path, self.body)
+        runs = (self.value, self.method, self.head, self.aside, self.path, self.body)
         return Call(self.kind, (*self.numbers_and_keys(), *runs), self.table, self.reply)
 
 

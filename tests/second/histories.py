@@ -219,6 +219,7 @@ class History:
             t=t,
             lt=lt,
             n=nonce,
+            method=rng.choice(client.METHODS),
             head_lines=head,
             aside_lines=aside,
             path=rng.choice([b"/", b"/parts/belt?n=11", b"/a%20b", b"*", b"/" + b"p" * rng.randrange(60)]),

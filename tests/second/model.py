@@ -23,6 +23,7 @@ LONGEST_SESSION_LIFE = 2_592_000
 
 MOST_RECORDS = 64
 MOST_VALUE = 4_096
+MOST_METHOD = 16
 MOST_LINES = 16_384
 MOST_PATH = 2_048
 MOST_BODY = 65_536
@@ -121,7 +122,7 @@ def setup(orders, clock, server_key, session_key, iv, session_id, value, table, 
     return Outcome(0, len(text), written(reply, text), rec.table_of(records))
 
 
-def judge(orders, clock, server_key, value, head, aside, path, body, table, reply):
+def judge(orders, clock, server_key, value, method, head, aside, path, body, table, reply):
     """Judge a request. Checks 1 to 12, 8 against the record, 13 to 16, in this order."""
 
     def refused(number):
@@ -137,6 +138,7 @@ def judge(orders, clock, server_key, value, head, aside, path, body, table, repl
     if (
         key_size_bad(server_key)
         or value_size_bad(value)
+        or method_size_bad(method)
         or lines_size_bad(head)
         or lines_size_bad(aside)
         or path_size_bad(path)
@@ -157,7 +159,7 @@ def judge(orders, clock, server_key, value, head, aside, path, body, table, repl
         return refused(5)
     field = dict(fields)
     head_lines, aside_lines = lines_of(head), lines_of(aside)
-    if head_lines is None or aside_lines is None:
+    if method_bad(method) or head_lines is None or aside_lines is None:
         return refused(6)
     if covered_name_twice(orders, head_lines) or covered_name_twice(orders, aside_lines):
         return refused(7)
@@ -169,7 +171,7 @@ def judge(orders, clock, server_key, value, head, aside, path, body, table, repl
     place = rec.place_of(records, field[b"iv"])
     if expired(clock, token):
         return invalidated(10, token, place)
-    text = signed_text(field, covered_values(orders, head_lines, aside_lines), path, body)
+    text = signed_text(method, field, covered_values(orders, head_lines, aside_lines), path, body)
     if signature_differs(field, token, text):
         return refused(11)
     if place is None:
@@ -188,9 +190,9 @@ def judge(orders, clock, server_key, value, head, aside, path, body, table, repl
     return Outcome(0, len(token.session_id), written(reply, token.session_id), rec.table_of(records))
 
 
-def judge_one(orders, clock, server_key, value, head, aside, path, body, record, reply):
+def judge_one(orders, clock, server_key, value, method, head, aside, path, body, record, reply):
     """The thin entry: 'It answers as a table of that one record would.'"""
-    return judge(orders, clock, server_key, value, head, aside, path, body, record, reply)
+    return judge(orders, clock, server_key, value, method, head, aside, path, body, record, reply)
 
 
 def end(iv, table):
@@ -229,6 +231,10 @@ def session_id_size_bad(session_id):
 def value_size_bad(value):
     """No lower end: an empty value is 4 (docs/DECISIONS.md)."""
     return len(value) > MOST_VALUE
+
+
+def method_size_bad(method):
+    return not 1 <= len(method) <= MOST_METHOD
 
 
 def lines_size_bad(block):
@@ -365,7 +371,12 @@ def request_fields_wrong(fields):
     return keys.count(b"eah") > 1 or keys.count(b"n") != (own_mask & 1)
 
 
-# 6 and 7: head and set-aside lines
+# 6 and 7: the method, head and set-aside lines
+
+
+def method_bad(method):
+    """'A byte that no token has is 6.'"""
+    return any(byte not in TOKEN_CHARACTERS for byte in method)
 
 
 def lines_of(block):
@@ -468,9 +479,9 @@ def expired(clock, token):
 # 11: the signature
 
 
-def signed_text(field, values, path, body):
-    """In netstrings: 'h, ah, eah (empty if absent), n if carried, t, lt …, covered values …, path, body'."""
-    parts = [field[b"h"], field[b"ah"], field.get(b"eah", b"")]
+def signed_text(method, field, values, path, body):
+    """In netstrings: the method, 'h, ah, eah (empty if absent), n if carried, t, lt …, covered values …, path, body'."""
+    parts = [method, field[b"h"], field[b"ah"], field.get(b"eah", b"")]
     if b"n" in field:
         parts.append(field[b"n"])
     parts += [field[b"t"], field[b"lt"]]

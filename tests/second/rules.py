@@ -23,6 +23,7 @@ SIZES = (
     ("IV", model.IV, model.IV),
     ("session id", 1, model.MOST_SESSION_ID),
     ("X-S-Armor value", 0, model.MOST_VALUE),
+    ("method", 1, model.MOST_METHOD),
     ("head, set-aside lines, each", 0, model.MOST_LINES),
     ("path", 1, model.MOST_PATH),
     ("body", 0, model.MOST_BODY),

@@ -22,13 +22,13 @@ typedef struct {
 
 uint32_t gate_setup(uint64_t mask, uint64_t hashes, IN(extra), LIMITS, IN(server_key), IN(session_key), IN(iv), IN(session_id),
                     IN(value), OUT(table), OUT(reply));
-uint32_t gate_judge(uint64_t mask, uint64_t hashes, IN(extra), LIMITS, IN(server_key), IN(value), IN(head), IN(aside), IN(path),
-                    IN(body), OUT(table), OUT(reply));
+uint32_t gate_judge(uint64_t mask, uint64_t hashes, IN(extra), LIMITS, IN(server_key), IN(value), IN(method), IN(head),
+                    IN(aside), IN(path), IN(body), OUT(table), OUT(reply));
 uint32_t gate_end(IN(iv), OUT(table));
 
 enum { SETUP, JUDGE, END };
 
-enum { MOST_CALLS = 64, MOST_RUNS = 7, TURNS = 15, STACK = 1 << 18, PAINT = 0xa5 };
+enum { MOST_CALLS = 64, MOST_RUNS = 8, TURNS = 15, STACK = 1 << 18, PAINT = 0xa5 };
 
 static const double TURN = 0.02;
 
@@ -72,7 +72,7 @@ static run bytes(void) {
 }
 
 static void read_call(call *c, int kind) {
-    size_t left = kind == SETUP ? 5 : kind == JUDGE ? 6 : 1, at = 0;
+    size_t left = kind == SETUP ? 5 : kind == JUDGE ? 7 : 1, at = 0;
     c->kind = kind;
     if (kind != END) {
         c->mask = number();
@@ -122,7 +122,7 @@ static uint32_t answer(const call *c) {
     case SETUP:
         return gate_setup(ORDERS, RUN(1), RUN(2), RUN(3), RUN(4), RUN(5), table, c->table.len, reply, sizeof reply);
     case JUDGE:
-        return gate_judge(ORDERS, RUN(1), RUN(2), RUN(3), RUN(4), RUN(5), RUN(6), table, c->table.len, reply, sizeof reply);
+        return gate_judge(ORDERS, RUN(1), RUN(2), RUN(3), RUN(4), RUN(5), RUN(6), RUN(7), table, c->table.len, reply, sizeof reply);
     default:
         return gate_end(RUN(0), table, c->table.len);
     }

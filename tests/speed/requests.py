@@ -67,7 +67,7 @@ class Maker:
             kind="judge", table=self.table(records, iv, known=known), iv=iv, place=records // 2, reply=REPLY, hash=known,
             orders=model.Orders(mask, hashing.BOTH, extra, 0, 0, 0), clock=CLOCK, server_key=self.run(32),
             key=self.run(32), session_id=self.text(32), expiry=expiry, t=CLOCK - 2, lt=lt, n=1_001,
-            head_lines=self.lines(covered) if lines is None else lines, path=b"/order/17?part=4711", body=self.run(body),
+            method=b"POST", head_lines=self.lines(covered) if lines is None else lines, path=b"/order/17?part=4711", body=self.run(body),
         )
         return drafts.build(draft, [], self.rng)
 

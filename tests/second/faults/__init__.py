@@ -6,6 +6,7 @@ from faults import (  # noqa: F401  (each enters its faults as it is read)
     grammar,
     hashes,
     lines,
+    methods,
     orders,
     sealed,
     sessions,

@@ -8,13 +8,17 @@ from sentences.placing import KEY, code
 HIGHEST = model.HIGHEST
 
 
-def signed(mask=0, extra=b"", n=0, t=0, lt=0, key=KEY, head=b"", aside=b"", path=b"/", body=b""):
-    return code, mask, extra, n, t, lt, key, head, aside, path, body
+def signed(mask=0, extra=b"", n=0, t=0, lt=0, key=KEY, method=b"GET", head=b"", aside=b"", path=b"/", body=b""):
+    return code, mask, extra, n, t, lt, key, method, head, aside, path, body
 
 
 def cases():
-    yield "case 12: ah 3, no extras, n 5, t 1000, lt 990, Host a, path /, no body"
+    yield "case 12: a GET, ah 3, no extras, n 5, t 1000, lt 990, Host a, path /, no body"
     yield signed(mask=3, n=5, t=1_000, lt=990, head=b"Host: a\r\n")
+    yield "the method first"
+    for method in (b"P", b"POST", b"post", b"!#$%&'*+-.^_`|~1", b"M" * 16):
+        yield signed(method=method)
+        yield signed(mask=3, n=5, method=method, head=b"Host: a\r\n", body=method)
     yield "ah: masks of each length"
     for mask in (0, 1, 2, 255, 256, 65_535, 1 << 16, 1 << 24, 1 << 32, 1 << 40, 1 << 48, 1 << 55, (1 << 56) - 1):
         yield signed(mask=mask, n=7)

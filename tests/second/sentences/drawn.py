@@ -71,9 +71,11 @@ def some(place, cases, most):
 
 def signed(asked):
     """The codes of requests that are good up to their token."""
-    for mask, hashes, extra, value, *rest in arguments(asked, "mask", "hashes", "extra", "value", "head", "aside", "path", "body"):
-        head, aside, _, _ = rest
+    for mask, hashes, extra, value, *rest in arguments(asked, "mask", "hashes", "extra", "value", "method", "head", "aside", "path", "body"):
+        method, head, aside, _, _ = rest
         if number(placing.names, (mask, extra, head, aside)) != 0 or number(placing.coverage, (mask, hashes, extra, value)) != 9:
+            continue
+        if number(placing.method, (method,)) != 0:
             continue
         field = dict(model.fields_of(value))
         n, t, lt = (encoding.number(field.get(key, b"\0")) for key in (b"n", b"t", b"lt"))

@@ -60,6 +60,11 @@ def talked_down(*alterations):
     return request_call(replaced("plan", "hash", hashing.SHA_256), *alterations)
 
 
+def changed(method):
+    """A POST that is lent with another method."""
+    return request_call(replaced("lent", "method", method), method=b"POST")
+
+
 ONLY_512 = ordered(3, hashes=hashing.SHA_512)
 
 
@@ -99,6 +104,12 @@ EDGES = (
     ("a covered name in the head and among the set-aside lines", request_call(head=HOST, aside=b"host: b \r\n"), 0),
     ("a covered name twice in the head", request_call(head=HOST + HOST), 7),
     ("a head whose last line lacks CR LF", request_call(replaced("lent", "head", HOST[:-2])), 6),
+    ("a method of 16 bytes", request_call(method=b"M" * 16), 0),
+    ("a method of 17 bytes", request_call(method=b"M" * 17), 1),
+    ("no method", request_call(method=b""), 1),
+    ("a method with a space in it", request_call(method=b"GE T"), 6),
+    ("a `POST` that was changed to `DELETE` on the way", changed(b"DELETE"), 11),
+    ("a `POST` that was changed to `post` on the way", changed(b"post"), 11),
     ("a body that was altered on the way", request_call(replaced("lent", "body", b"belts=12"), body=b"belts=11"), 11),
     ("a setup with `r:AQQ=`, SHA-512", setup_call(value=b"r:AQQ="), 0),
     ("a setup with `r:AQQ=;`", setup_call(value=b"r:AQQ=;"), 0),
@@ -137,15 +148,15 @@ def exchange(offered):
     reply = outcome.reply[:outcome.length]
     carried = client.parse_reply(reply)
     head = [client.line(b"Host", b"portal.example"), client.line(b"Cookie", b" seat=4 "), client.line(b"X-Dealer", b"Brandt")]
-    path, body = b"/orders", b"belts=11"
+    method, path, body = b"POST", b"/orders", b"belts=11"
     fields = [(name, carried[name]) for name in (b"s", b"iv", b"tag", b"h", b"ah", b"eah")]
     fields += [(b"n", client.encoded_number(7)), (b"t", client.encoded_number(1_505_773_183)), (b"lt", client.encoded_number(1_505_773_123))]
-    parts = client.signed_parts(fields, head, [], path, body)
+    parts = client.signed_parts(method, fields, head, [], path, body)
     code = hashing.code(client.decoded_mask(carried[b"h"]), key, client.joined(parts))
     fields.append((b"c", code))
     request = drafts.Call(
         "judge",
-        (*orders, 1_505_773_190, server_key, client.header_value(fields), b"".join(head), b"", path, body),
+        (*orders, 1_505_773_190, server_key, client.header_value(fields), method, b"".join(head), b"", path, body),
         outcome.table,
         (model.LEAST_REPLY, 0),
     )
@@ -174,8 +185,9 @@ def example_lines():
     yield from (part_row(*part) for part in DEALER.parts)
     yield from (f"| `{name.decode()}` | {shown(contents)} | {coded(contents)} |" for name, contents in DEALER.fields[3:9])
     yield f"    {client.header_value(DEALER.fields).decode()}"
-    yield f"{part_row(*SCANNER.parts[0])} {coded(SCANNER.parts[0][1])} |"
+    h = dict(SCANNER.parts)[b"h"]
+    yield f"{part_row(b'h', h)} {coded(h)} |"
     for one in (DEALER, SCANNER):
-        key, known = calls.named(one.setup)["session_key"], client.decoded_mask(one.parts[0][1])
+        key, known = calls.named(one.setup)["session_key"], client.decoded_mask(dict(one.parts)[b"h"])
         yield f"    {one.code.hex()}"
         yield f"    {model.invalidation(known, key).decode()}"

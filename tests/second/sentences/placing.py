@@ -207,6 +207,22 @@ def vouched(value, orders, clock):
     return request_call(at("fields", carry), at("value", close), orders=orders, clock=clock, hash=named)
 
 
+# The method
+
+
+def method(run):
+    call = request_call(method=run)
+    yield "by gate_judge", call, (0, 1, 6)
+    yield "by the thin entry", call._replace(kind="one"), (0, 1, 6)
+
+
+def changed(signed, lent):
+    """A request that is signed with one method and lent with another."""
+    call = request_call(replaced("lent", "method", lent), method=signed)
+    yield f"{signed.decode()} to {lent.decode()}, by gate_judge", call, (11,)
+    yield f"{signed.decode()} to {lent.decode()}, by the thin entry", call._replace(kind="one"), (11,)
+
+
 # Lines
 
 
@@ -261,10 +277,10 @@ def written(part):
 # The code
 
 
-def code(mask, extra, n, t, lt, key, head, aside, path, body):
+def code(mask, extra, n, t, lt, key, method, head, aside, path, body):
     """Under each hash, within limits that nothing exceeds."""
     request = {"orders": ordered(mask, extra, HIGHEST, HIGHEST), "n": n, "t": t, "lt": lt, "key": key}
-    request |= {"head": head, "aside": aside, "path": path, "body": body}
+    request |= {"method": method, "head": head, "aside": aside, "path": path, "body": body}
 
     def alter(draft):
         c = dict(draft.fields)[b"c"]
