@@ -1,4 +1,5 @@
--- The sizes of what is lent: document 01, 'Orders, records and sizes', and number 1, and document 02, K3, for the method. Extra names have no size here: too long ones are bad orders.
+-- The sizes of what is lent: document 01, 'Orders, records and sizes', and number 1, and document 02, K3, for the method. Extra names have no size
+-- here: too long ones are bad orders.
 -- Assumes nothing.
 use mathlib.Core.Bool.{Bool, _&&_}
 use mathlib.Core.List.{List}

@@ -1,5 +1,6 @@
--- The signed text that judging uses is document 01's, with the method before it (document 02, K3), of the bytes that the request carries: 'h, ah, eah (empty if absent), n if carried, t, lt (all
--- as decoded bytes), covered values by rising bit, extra values in eah order, path, body'. So for every request that passed checks 1 to 9.
+-- The signed text that judging uses is document 01's, with the method in front (document 02, K3), of the bytes that the request carries: 'h, ah,
+-- eah (empty if absent), n if carried, t, lt (all as decoded bytes), covered values by rising bit, extra values in eah order, path, body'. So for
+-- every request that passed checks 1 to 9.
 -- Assumes nothing.
 use mathlib.Core.Path.{_≡_, refl, ap, _∙_}
 use mathlib.Core.Bool.{Bool, true, false, cond}
