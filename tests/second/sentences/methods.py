@@ -8,7 +8,7 @@ def cases():
     yield "1 to 16 token characters: each length"
     for length in (*range(20), 255, 256, 257, 272, 65_537):
         yield method, b"M" * length
-    yield "a byte that no token has: each byte alone, after another, and as the last of 16"
+    yield "a byte that no token has: each byte alone, inside, and as the last of 16"
     for byte in range(256):
         yield method, b"%c" % byte
         yield method, b"G%cT" % byte
