@@ -75,7 +75,7 @@ def signed(asked):
         method, head, aside, _, _ = rest
         if number(placing.names, (mask, extra, head, aside)) != 0 or number(placing.coverage, (mask, hashes, extra, value)) != 9:
             continue
-        if number(placing.method, (method,)) != 0:
+        if model.method_bad(method):
             continue
         field = dict(model.fields_of(value))
         n, t, lt = (encoding.number(field.get(key, b"\0")) for key in (b"n", b"t", b"lt"))

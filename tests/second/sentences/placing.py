@@ -210,10 +210,10 @@ def vouched(value, orders, clock):
 # The method
 
 
-def method(run):
+def method(run, number):
     call = request_call(method=run)
-    yield "by gate_judge", call, (0, 1, 6)
-    yield "by the thin entry", call._replace(kind="one"), (0, 1, 6)
+    yield "by gate_judge", call, (number,)
+    yield "by the thin entry", call._replace(kind="one"), (number,)
 
 
 def changed(signed, lent):
