@@ -21,7 +21,7 @@ use Rattle.cells.proofs.Tests.{both}
 use Rattle.hashes.specs.declared.Hash.{Hash}
 use Rattle.hashes.specs.Hashes.{hashMask, digestSize, named}
 use Rattle.hashes.proofs.Hashes.{mask-named, mask-small, allowed-mask, chosen-common}
-use Rattle.hmac.proofs.Streaming.{length-hmac, bytes-hmac}
+use Rattle.hmac.proofs.Output.{length-hmac, bytes-hmac}
 use Rattle.gcm.specs.Gcm.{sealed}
 use Rattle.gcm.proofs.Opening.{length-crypted, length-tag}
 use Rattle.gcm.proofs.SealedBytes.{bytes-crypted, bytes-tag}

@@ -1,4 +1,4 @@
--- The laws of this crate: those of Streaming serve callers too, and the others its own functions.
+-- The laws of this crate: those of Output serve callers too, and the others its own functions.
 pub mod KeyBlock
-pub mod Streaming
+pub mod Output
 pub mod Examples

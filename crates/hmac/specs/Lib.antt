@@ -1,3 +1,2 @@
--- HMAC as RFC 2104 has it, over any hash function, and what a state that takes in a text stands for.
+-- HMAC as RFC 2104 has it, over any hash function.
 pub mod Hmac
-pub mod InnerKeyed

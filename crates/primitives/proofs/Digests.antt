@@ -8,7 +8,7 @@ use Rattle.cells.specs.Runs.{fronted}
 use Rattle.cells.proofs.Runs.{fronted-whole}
 use Rattle.hashes.specs.declared.Hash.{Hash}
 use Rattle.hashes.specs.Hashes.{digestSize}
-use Rattle.hmac.proofs.Streaming.{digest-front}
+use Rattle.hmac.proofs.Output.{digest-front}
 
 pub fills : (h : Hash) (n : ℕ) (xs out : List ℕ) {left : List ℕ} → n ≡ digestSize h → length xs ≡ 64 → length out ≡ digestSize h
     → left ≡ fronted (take n xs) out → left ≡ take (digestSize h) xs

@@ -7,7 +7,6 @@ ghost use Rattle.primitives.specs.Digests.{digestCall, hmacCall};
 ghost use Rattle.primitives.specs.Sealing.{sizesFit, sealAnswer, sealCall, openCall};
 use gcm::Opened;
 use hashes::Hash;
-use hmac::Hmac;
 use sha2::State;
 
 // 2 ^ 60: a text to hash is shorter, which is far above what memory holds.
@@ -61,9 +60,9 @@ fn code(hash: Hash, key: &[u8], text: &[u8], out: &mut [u8]) -> u32
     if LIMIT <= text.len() {
         return 1;
     }
-    let state = Hmac::new(hash, key);
-    let taken = state.absorb(text);
-    let code = taken.finish();
+    let fresh = hmac::begin(hash, key);
+    let taken = fresh.absorb(text);
+    let code = hmac::finish(hash, key, taken);
     cells::put_front(out, &code[..size]);
     0
 }

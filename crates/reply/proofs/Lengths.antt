@@ -11,7 +11,7 @@ use Rattle.hashes.specs.declared.Hash.{Hash}
 use Rattle.hashes.specs.declared.Hash.the-variants.{Sha256, Sha512}
 use Rattle.hashes.specs.Hashes.{hashMask}
 use Rattle.hmac.specs.Hmac.{hmacOf}
-use Rattle.hmac.proofs.Streaming.{length-hmac}
+use Rattle.hmac.proofs.Output.{length-hmac}
 use Rattle.cells.specs.Text.{codes}
 use Rattle.armor.specs.Numerals.{shortest, numberBytes, maskBytes}
 use Rattle.armor.specs.Value.{Field, field, fieldText, following}

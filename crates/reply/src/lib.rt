@@ -9,7 +9,6 @@ ghost use Rattle.cells.specs.Text.{codes};
 ghost use Rattle.armor.specs.Value.{field, fieldText, following};
 ghost use Rattle.reply.specs.Replies.{extraField, tokenFields, orderFields, setupReply, invalidation};
 use hashes::Hash;
-use hmac::Hmac;
 
 // Writes the reply of a setup to the front of out; how long it is.
 pub fn setup(
@@ -34,9 +33,9 @@ pub fn invalidate(out: &mut [u8], hash: Hash, key: &[u8]) -> usize
     requires { ⌜ (1024 ≤ length (now out)) × (length (now key) ≡ 32) ⌝ }
     ensures { λ r. ⌜ (r ≡ length (invalidation hash (now (key .entry)))) × (now (out .exit) ≡ fronted (invalidation hash (now (key .entry))) (now (out .entry))) ⌝ }
 {
-    let fresh = Hmac::new(hash, key);
+    let fresh = hmac::begin(hash, key);
     let taken = fresh.absorb(b"Session Expired");
-    let code = taken.finish();
+    let code = hmac::finish(hash, key, taken);
     let n = hashes::size(hash);
     armor::put_field(out, 0, b"i", &code[..n])
 }

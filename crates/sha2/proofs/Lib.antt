@@ -1,4 +1,5 @@
 -- The laws of this crate: those of Output and Streaming serve callers too, and the others its own functions.
+pub mod ChMaj
 pub mod Schedule
 pub mod Rounds
 pub mod Fitting

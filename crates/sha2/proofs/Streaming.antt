@@ -5,7 +5,7 @@ use mathlib.Core.List.{List, [], _++_, append-assoc}
 use Prim.Native.Nat.{ℕ, zero, suc, _+_, _-_, _*_, _/_, _%_, _≤_, _<_}
 use native.Mathlib.Nat.{add-zero, add-suc, mul-zero}
 use native.Mathlib.Omega.{arith}
-use lib.ListN.{length, take, drop, length-append, length-drop, drop-of-length-le}
+use lib.ListN.{length, take, drop, length-append, length-drop, take-append-drop, drop-of-length-le}
 use lib.Seq.{take-append-le, drop-append-le, drop-drop, take-all, length-take-le}
 use Rattle.cells.specs.Runs.{spliced, part}
 use Rattle.cells.proofs.Runs.{front-spliced}
@@ -21,7 +21,7 @@ use Rattle.sha2.specs.InnerWords.{Fit}
 use Rattle.sha2.proofs.Fitting.{blocks-fit}
 
 -- what blocks of the two sizes ask of numbers, where n bytes were taken in and p more come: the part stays within the block that was
--- begun, ends it, or comes where none was
+-- begun, ends it or a later one, or comes where none was
 pub record Counts (size n p : ℕ) : Type 0 where
   pub fits : size ≤ 128
   pub whole : size * (n / size) ≤ n
@@ -29,7 +29,7 @@ pub record Counts (size n p : ℕ) : Type 0 where
   pub rest : n - size * (n / size) ≡ n % size
   pub blocks : (n + p) / size ≡ n / size + (n % size + p) / size
   pub stays : n % size + p < size → ((n % size + p) / size ≡ 0) × ((n + p) % size ≡ n % size + p)
-  pub ends : n % size + p ≡ size → ((n % size + p) / size ≡ 1) × ((n + p) % size ≡ 0)
+  pub ends : (k : ℕ) → n % size + p ≡ size * k → ((n % size + p) / size ≡ k) × ((n + p) % size ≡ 0)
   pub starts : n % size ≡ 0 → ((n % size + p) / size ≡ p / size) × ((n + p) % size ≡ p - size * (p / size))
 
 pub counts : (h : Hash) (n p : ℕ) → Counts (blockSize h) n p
@@ -124,6 +124,28 @@ took-in s r part k ek eh el ev et =
               ∙ ap (λ (x : ℕ). drop x all) at;
         }
 
+-- the hash value after whole blocks that l begins with: the one that was begun, and what was pending
+pub closed-by : (h : Hash) (s : State) (part m l : List ℕ) (v : Words) (k : ℕ) → blockSize (s .hash) * k ≡ s .length % blockSize (s .hash) + length part
+    → length (s .tail) ≡ 128
+    → take (blockSize (s .hash) * k) l ≡ pending s part
+    → (Fit (s .hash) (s .value) → v ≡ afterBlocks (s .hash) (s .value) l k)
+    → Taken h s m
+    → v ≡ afterBlocks h (initial h) (m ++ part) (length (m ++ part) / blockSize h)
+closed-by h s part m l v k ek full front ev p =
+    let r : State = record { hash = s .hash; value = v; tail = s .tail; length = s .length + length part } in
+    let size = blockSize (s .hash) in
+    let numbers = counts (s .hash) (s .length) (length part) in
+    let long : length (pending s part) ≡ size * k =
+    length-append (take (s .length % size) (s .tail)) part ∙ omega (arith, length-take-le (s .length % size) (s .tail) (omega (arith, numbers .begun, numbers .fits)))
+    in
+    let same : afterBlocks (s .hash) (s .value) l k ≡ afterBlocks (s .hash) (s .value) (pending s part) k =
+    ap (λ (x : List ℕ). afterBlocks (s .hash) (s .value) x k) (sym (take-append-drop (size * k) l) ∙ ap (λ (x : List ℕ). x ++ drop (size * k) l) front)
+    ∙ blocks-before (s .hash) (s .value) (pending s part) (drop (size * k) l) k (omega arith)
+    in
+    let ends = numbers .ends k (sym ek) in
+    took-in s r part k (sym (ends .0)) refl refl (λ fit. ev fit ∙ same)
+    (ap (λ (x : ℕ). take x (s .tail)) (ends .1) ∙ sym (drop-of-length-le (pending s part) {i = size * k} (omega arith))) .appended h m p .hashed
+
 -- one part after the other
 pub took-in-turn : (s t r : State) (a b : List ℕ) → TookIn s a t → TookIn t b r → TookIn s (a ++ b) r
 took-in-turn s t r a b p q =
@@ -156,7 +178,7 @@ module _ (s r : State) (part : List ℕ) (full : length (s .tail) ≡ 128) (eh :
       let h = s .hash in
       let at = s .length % blockSize h in
       let numbers = counts h (s .length) (length part) in
-      let ends = numbers .ends within in
+      let ends = numbers .ends 1 (omega (arith, over h 0 1)) in
       let room : at ≤ 128 = omega (arith, numbers .begun, numbers .fits) in
       let long : length (pending s part) ≡ blockSize h = length-append (take at (s .tail)) part ∙ omega (arith, length-take-le at (s .tail) (omega arith)) in
       let front : take (blockSize h) (r .tail) ≡ pending s part =

@@ -5,4 +5,4 @@ pub mod Block
 pub mod Hash
 pub mod InnerTaken
 pub mod InnerWords
-pub mod InnerScheduled
+pub mod InnerTurned

@@ -2,13 +2,13 @@
 ghost use mathlib.Core.Path.{_≡_};
 ghost use mathlib.Core.List.{List};
 ghost use Prim.Native.Nat.{ℕ, _+_, _*_, _%_, _^_, _≤_, _<_};
-ghost use lib.ListN.{length, take};
+ghost use lib.ListN.{length, getD, take};
 ghost use Rattle.hashes.specs.declared.Hash.the-variants.{Sha256};
 ghost use Rattle.sha2.specs.declared.Words as Declared;
 ghost use Rattle.sha2.specs.Constants as Constants;
 ghost use Rattle.sha2.specs.Block as Block;
 ghost use Rattle.sha2.specs.Hash as Hash;
-ghost use Rattle.sha2.specs.InnerScheduled.{Scheduled};
+ghost use Rattle.sha2.specs.InnerTurned.{Turned};
 ghost use Rattle.sha2.specs.InnerWords.{wide, Fit};
 use crate::Words;
 use crate::word256::big_sigma0;
@@ -31,125 +31,10 @@ struct Narrow {
     h: u32,
 }
 
-// 4.2.2.
-const K: [u32; 64] = [
-    0x428a2f98,
-    0x71374491,
-    0xb5c0fbcf,
-    0xe9b5dba5,
-    0x3956c25b,
-    0x59f111f1,
-    0x923f82a4,
-    0xab1c5ed5,
-    0xd807aa98,
-    0x12835b01,
-    0x243185be,
-    0x550c7dc3,
-    0x72be5d74,
-    0x80deb1fe,
-    0x9bdc06a7,
-    0xc19bf174,
-    0xe49b69c1,
-    0xefbe4786,
-    0x0fc19dc6,
-    0x240ca1cc,
-    0x2de92c6f,
-    0x4a7484aa,
-    0x5cb0a9dc,
-    0x76f988da,
-    0x983e5152,
-    0xa831c66d,
-    0xb00327c8,
-    0xbf597fc7,
-    0xc6e00bf3,
-    0xd5a79147,
-    0x06ca6351,
-    0x14292967,
-    0x27b70a85,
-    0x2e1b2138,
-    0x4d2c6dfc,
-    0x53380d13,
-    0x650a7354,
-    0x766a0abb,
-    0x81c2c92e,
-    0x92722c85,
-    0xa2bfe8a1,
-    0xa81a664b,
-    0xc24b8b70,
-    0xc76c51a3,
-    0xd192e819,
-    0xd6990624,
-    0xf40e3585,
-    0x106aa070,
-    0x19a4c116,
-    0x1e376c08,
-    0x2748774c,
-    0x34b0bcb5,
-    0x391c0cb3,
-    0x4ed8aa4a,
-    0x5b9cca4f,
-    0x682e6ff3,
-    0x748f82ee,
-    0x78a5636f,
-    0x84c87814,
-    0x8cc70208,
-    0x90befffa,
-    0xa4506ceb,
-    0xbef9a3f7,
-    0xc67178f2,
-];
-
-// Words 0 to 15 of the schedule: the block's own.
-fn load(w: &mut [u32; 64], block: &[u8])
-    requires { ⌜ (length (now w) ≡ 64) × (length (now block) ≡ 64) ⌝ }
-    ensures { λ _. ⌜ Scheduled Sha256 (now (w .exit)) (now (block .entry)) 16 ⌝ }
-{
-    let mut t = 0;
-    while t < 16 {
-        w[t] = cells::load32(block, 4 * t);
-        t += 1;
-    }
-}
-
 fn mix(w2: u32, w7: u32, w15: u32, w16: u32) -> u32
     ensures { λ r. ⌜ r ≡ Block.mix Sha256 w2 w7 w15 w16 ⌝ }
 {
     add(add(add(small_sigma1(w2), w7), small_sigma0(w15)), w16)
-}
-
-// Word t + j of the schedule, from four before it.
-fn next_word(w: &mut [u32; 64], t: usize, j: usize)
-    requires { ⌜ (16 ≤ t + j) × (t + j < 64) ⌝ }
-    ensures { λ _. ⌜ ((block : List ℕ) → Scheduled Sha256 (now (w .entry)) block (t + j) → Scheduled Sha256 (now (w .exit)) block (t + (j + 1))) ⌝ }
-{
-    let i = t + j;
-    w[i] = mix(w[i - 2], w[i - 7], w[i - 15], w[i - 16]);
-}
-
-// Words t to t + 7.
-fn eight_words(w: &mut [u32; 64], t: usize)
-    requires { ⌜ (16 ≤ t) × (t + 8 ≤ 64) ⌝ }
-    ensures { λ _. ⌜ ((block : List ℕ) → Scheduled Sha256 (now (w .entry)) block t → Scheduled Sha256 (now (w .exit)) block (t + 8)) ⌝ }
-{
-    next_word(w, t, 0);
-    next_word(w, t, 1);
-    next_word(w, t, 2);
-    next_word(w, t, 3);
-    next_word(w, t, 4);
-    next_word(w, t, 5);
-    next_word(w, t, 6);
-    next_word(w, t, 7);
-}
-
-// Words 16 to 63. Eight a turn, like the rounds: the compiler then keeps words that were just made in registers.
-fn extend(w: &mut [u32; 64])
-    ensures { λ _. ⌜ ((block : List ℕ) → Scheduled Sha256 (now (w .entry)) block 16 → Scheduled Sha256 (now (w .exit)) block 64) ⌝ }
-{
-    let mut q = 2;
-    while q < 8 {
-        eight_words(w, 8 * q);
-        q += 1;
-    }
 }
 
 fn round(v: Narrow, k: u32, w: u32) -> Narrow
@@ -169,41 +54,119 @@ fn round(v: Narrow, k: u32, w: u32) -> Narrow
     }
 }
 
-// Round t + j.
-fn turn(v: Narrow, k: &[u32; 64], w: &[u32; 64], t: usize, j: usize) -> Narrow
-    requires { ⌜ t + j < 64 ⌝ }
-    ensures { λ r. ⌜ ((v0 : Declared.Words) → wide v ≡ Block.rounds Sha256 (now (k .entry)) (now (w .entry)) v0 (t + j) → wide r ≡ Block.rounds Sha256 (now (k .entry)) (now (w .entry)) v0 (t + (j + 1))) ⌝ }
+// Round t with one of the block's own words, which takes its place among the sixteen.
+fn first_turn(v: Narrow, w: &mut [u32; 16], block: &[u8], t: usize, k: u32) -> Narrow
+    requires { ⌜ (t < 16) × (length (now block) ≡ 64) × (k ≡ getD (Constants.K Sha256) t 0) ⌝ }
+    ensures { λ r. ⌜ ((v0 : Declared.Words) → Turned Sha256 (now (block .entry)) v0 t (wide v) (now (w .entry)) → Turned Sha256 (now (block .entry)) v0 (t + 1) (wide r) (now (w .exit))) ⌝ }
 {
-    round(v, k[t + j], w[t + j])
+    let x = cells::load32(block, 4 * t);
+    w[t] = x;
+    round(v, k, x)
 }
 
-// Rounds t to t + 7.
-fn eight_rounds(v: Narrow, k: &[u32; 64], w: &[u32; 64], t: usize) -> Narrow
-    requires { ⌜ t + 8 ≤ 64 ⌝ }
-    ensures { λ r. ⌜ ((v0 : Declared.Words) → wide v ≡ Block.rounds Sha256 (now (k .entry)) (now (w .entry)) v0 t → wide r ≡ Block.rounds Sha256 (now (k .entry)) (now (w .entry)) v0 (t + 8)) ⌝ }
+// Round t with a word that is made from four before it, in the place of the one that is sixteen back.
+fn turn(v: Narrow, w: &mut [u32; 16], t: usize, k: u32) -> Narrow
+    requires { ⌜ (16 ≤ t) × (t < 64) × (k ≡ getD (Constants.K Sha256) t 0) ⌝ }
+    ensures { λ r. ⌜ ((block : List ℕ) (v0 : Declared.Words) → Turned Sha256 block v0 t (wide v) (now (w .entry)) → Turned Sha256 block v0 (t + 1) (wide r) (now (w .exit))) ⌝ }
+{
+    let x = mix(
+        w[(t - 2) % 16],
+        w[(t - 7) % 16],
+        w[(t - 15) % 16],
+        w[(t - 16) % 16],
+    );
+    w[t % 16] = x;
+    round(v, k, x)
+}
+
+// The rounds, each with its constant of 4.2.2.
+fn rounds_0_15(v: Narrow, w: &mut [u32; 16], block: &[u8]) -> Narrow
+    requires { ⌜ length (now block) ≡ 64 ⌝ }
+    ensures { λ r. ⌜ ((v0 : Declared.Words) → Turned Sha256 (now (block .entry)) v0 0 (wide v) (now (w .entry)) → Turned Sha256 (now (block .entry)) v0 16 (wide r) (now (w .exit))) ⌝ }
 {
     let mut v = v;
-    v = turn(v, k, w, t, 0);
-    v = turn(v, k, w, t, 1);
-    v = turn(v, k, w, t, 2);
-    v = turn(v, k, w, t, 3);
-    v = turn(v, k, w, t, 4);
-    v = turn(v, k, w, t, 5);
-    v = turn(v, k, w, t, 6);
-    turn(v, k, w, t, 7)
+    v = first_turn(v, w, block, 0, 0x428a2f98);
+    v = first_turn(v, w, block, 1, 0x71374491);
+    v = first_turn(v, w, block, 2, 0xb5c0fbcf);
+    v = first_turn(v, w, block, 3, 0xe9b5dba5);
+    v = first_turn(v, w, block, 4, 0x3956c25b);
+    v = first_turn(v, w, block, 5, 0x59f111f1);
+    v = first_turn(v, w, block, 6, 0x923f82a4);
+    v = first_turn(v, w, block, 7, 0xab1c5ed5);
+    v = first_turn(v, w, block, 8, 0xd807aa98);
+    v = first_turn(v, w, block, 9, 0x12835b01);
+    v = first_turn(v, w, block, 10, 0x243185be);
+    v = first_turn(v, w, block, 11, 0x550c7dc3);
+    v = first_turn(v, w, block, 12, 0x72be5d74);
+    v = first_turn(v, w, block, 13, 0x80deb1fe);
+    v = first_turn(v, w, block, 14, 0x9bdc06a7);
+    first_turn(v, w, block, 15, 0xc19bf174)
 }
 
-// The sixty-four rounds.
-fn rounds(v: Narrow, k: &[u32; 64], w: &[u32; 64]) -> Narrow
-    ensures { λ r. ⌜ wide r ≡ Block.rounds Sha256 (now (k .entry)) (now (w .entry)) (wide v) 64 ⌝ }
+fn rounds_16_31(v: Narrow, w: &mut [u32; 16]) -> Narrow
+    ensures { λ r. ⌜ ((block : List ℕ) (v0 : Declared.Words) → Turned Sha256 block v0 16 (wide v) (now (w .entry)) → Turned Sha256 block v0 32 (wide r) (now (w .exit))) ⌝ }
 {
-    let mut x = v;
-    let mut q = 0;
-    while q < 8 {
-        x = eight_rounds(x, k, w, 8 * q);
-        q += 1;
-    }
-    x
+    let mut v = v;
+    v = turn(v, w, 16, 0xe49b69c1);
+    v = turn(v, w, 17, 0xefbe4786);
+    v = turn(v, w, 18, 0x0fc19dc6);
+    v = turn(v, w, 19, 0x240ca1cc);
+    v = turn(v, w, 20, 0x2de92c6f);
+    v = turn(v, w, 21, 0x4a7484aa);
+    v = turn(v, w, 22, 0x5cb0a9dc);
+    v = turn(v, w, 23, 0x76f988da);
+    v = turn(v, w, 24, 0x983e5152);
+    v = turn(v, w, 25, 0xa831c66d);
+    v = turn(v, w, 26, 0xb00327c8);
+    v = turn(v, w, 27, 0xbf597fc7);
+    v = turn(v, w, 28, 0xc6e00bf3);
+    v = turn(v, w, 29, 0xd5a79147);
+    v = turn(v, w, 30, 0x06ca6351);
+    turn(v, w, 31, 0x14292967)
+}
+
+fn rounds_32_47(v: Narrow, w: &mut [u32; 16]) -> Narrow
+    ensures { λ r. ⌜ ((block : List ℕ) (v0 : Declared.Words) → Turned Sha256 block v0 32 (wide v) (now (w .entry)) → Turned Sha256 block v0 48 (wide r) (now (w .exit))) ⌝ }
+{
+    let mut v = v;
+    v = turn(v, w, 32, 0x27b70a85);
+    v = turn(v, w, 33, 0x2e1b2138);
+    v = turn(v, w, 34, 0x4d2c6dfc);
+    v = turn(v, w, 35, 0x53380d13);
+    v = turn(v, w, 36, 0x650a7354);
+    v = turn(v, w, 37, 0x766a0abb);
+    v = turn(v, w, 38, 0x81c2c92e);
+    v = turn(v, w, 39, 0x92722c85);
+    v = turn(v, w, 40, 0xa2bfe8a1);
+    v = turn(v, w, 41, 0xa81a664b);
+    v = turn(v, w, 42, 0xc24b8b70);
+    v = turn(v, w, 43, 0xc76c51a3);
+    v = turn(v, w, 44, 0xd192e819);
+    v = turn(v, w, 45, 0xd6990624);
+    v = turn(v, w, 46, 0xf40e3585);
+    turn(v, w, 47, 0x106aa070)
+}
+
+fn rounds_48_63(v: Narrow, w: &mut [u32; 16]) -> Narrow
+    ensures { λ r. ⌜ ((block : List ℕ) (v0 : Declared.Words) → Turned Sha256 block v0 48 (wide v) (now (w .entry)) → Turned Sha256 block v0 64 (wide r) (now (w .exit))) ⌝ }
+{
+    let mut v = v;
+    v = turn(v, w, 48, 0x19a4c116);
+    v = turn(v, w, 49, 0x1e376c08);
+    v = turn(v, w, 50, 0x2748774c);
+    v = turn(v, w, 51, 0x34b0bcb5);
+    v = turn(v, w, 52, 0x391c0cb3);
+    v = turn(v, w, 53, 0x4ed8aa4a);
+    v = turn(v, w, 54, 0x5b9cca4f);
+    v = turn(v, w, 55, 0x682e6ff3);
+    v = turn(v, w, 56, 0x748f82ee);
+    v = turn(v, w, 57, 0x78a5636f);
+    v = turn(v, w, 58, 0x84c87814);
+    v = turn(v, w, 59, 0x8cc70208);
+    v = turn(v, w, 60, 0x90befffa);
+    v = turn(v, w, 61, 0xa4506ceb);
+    v = turn(v, w, 62, 0xbef9a3f7);
+    turn(v, w, 63, 0xc67178f2)
 }
 
 fn sum(v: Narrow, x: Narrow) -> Narrow
@@ -222,14 +185,15 @@ fn sum(v: Narrow, x: Narrow) -> Narrow
 }
 
 // The hash value v after the block.
-fn after_block(v: Narrow, k: &[u32; 64], block: &[u8]) -> Narrow
-    requires { ⌜ (now k ≡ Constants.K Sha256) × (length (now block) ≡ 64) ⌝ }
+fn after_block(v: Narrow, block: &[u8]) -> Narrow
+    requires { ⌜ length (now block) ≡ 64 ⌝ }
     ensures { λ r. ⌜ wide r ≡ Block.afterBlock Sha256 (wide v) (now (block .entry)) ⌝ }
 {
-    let mut w = [0u32; 64];
-    load(&mut w, block);
-    extend(&mut w);
-    let x = rounds(v, k, &w);
+    let mut w = [0u32; 16];
+    let mut x = rounds_0_15(v, &mut w, block);
+    x = rounds_16_31(x, &mut w);
+    x = rounds_32_47(x, &mut w);
+    x = rounds_48_63(x, &mut w);
     sum(v, x)
 }
 
@@ -276,16 +240,12 @@ pub fn after_blocks(v: Words, m: &[u8], n: usize) -> Words
     requires { ⌜ 64 * n ≤ length (now m) ⌝ }
     ensures { λ r. ⌜ (Fit Sha256 v → r ≡ Hash.afterBlocks Sha256 v (now (m .entry)) n) ⌝ }
 {
-    if n == 0 {
-        return v;
-    }
-    let k = K;
     let mut x = narrowed(v);
     let mut i = 0;
     while i < n {
         let at = 64 * i;
         let end = at + 64;
-        x = after_block(x, &k, &m[at..end]);
+        x = after_block(x, &m[at..end]);
         i += 1;
     }
     widened(x)

@@ -221,21 +221,22 @@ impl State {
         self.append(part)
     }
 
-    // The hash of the message that was taken in, at the front.
+    // The hash of the message that was taken in, at the front. The block that was begun and the padding lie side by side, so that no state is made of them.
     pub fn finish(self) -> [u8; 64]
         requires { ⌜ self .length < 2 ^ 61 ⌝ }
         ensures { λ r. ⌜ ((h : Declared.Hash) (m : List ℕ) → Taken h self m → take (digestSize h) r ≡ sha2 h m) ⌝ }
     {
         let hash = self.hash;
         let length = self.length;
-        let zeros = zeros(hash, length);
-        let two_words = block_size(hash) / 8;
-        let mut padding = [0u8; 144];
-        padding[0] = 128;
-        cells::put64(&mut padding, zeros + two_words - 7, 8 * length);
-        let end = zeros + two_words + 1;
-        let s = self.append(&padding[..end]);
-        let value = s.value;
-        digest(hash, value)
+        let value = self.value;
+        let tail = self.tail;
+        let begun = begun(hash, length);
+        let end = begun + 1 + zeros(hash, length) + block_size(hash) / 8;
+        let mut last = [0u8; 256];
+        cells::put_front(&mut last, &tail[..begun]);
+        last[begun] = 128;
+        cells::put64(&mut last, end - 8, 8 * length);
+        let closed = after_blocks(hash, value, &last, blocks_in(hash, end));
+        digest(hash, closed)
     }
 }

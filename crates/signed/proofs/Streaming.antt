@@ -5,9 +5,9 @@ use mathlib.Core.List.{List, [], _∷_, _++_, map, map-append, append-assoc, app
 use Prim.Native.Nat.{ℕ, _+_, _/_}
 use native.Mathlib.Omega.{arith}
 use lib.ListN.{length, length-append}
-use Rattle.hmac.specs.declared.Hmac.{Hmac}
-use Rattle.hmac.specs.InnerKeyed.{TookIn}
-use Rattle.hmac.proofs.Streaming.{took-in-turn}
+use Rattle.sha2.specs.declared.State.{State}
+use Rattle.sha2.specs.InnerTaken.{TookIn}
+use Rattle.sha2.proofs.Streaming.{took-in-turn}
 use Rattle.netstring.specs.Netstring.{netstring, netstrings}
 use Rattle.netstring.proofs.Determined.{netstrings-append}
 use Rattle.hashes.specs.declared.Hash.{Hash}
@@ -23,12 +23,12 @@ use Rattle.signed.specs.SignedText.{carried, signedParts, signedText, no
 use Rattle.signed.specs.InnerStreamed.{Room, TookParts, openingParts, valuesFrom}
 
 -- no parts
-pub took-none : (s : Hmac) → TookParts s [] s
+pub took-none : (s : State) → TookParts s [] s
 unfolding netstrings
-took-none s = record { inner-counted = omega arith; outer-counted = refl; appended = λ h key text k. rw append-nil k }
+took-none s = record { is = refl; counted = omega arith; appended = λ h m taken. rw append-nil taken }
 
 -- some parts, and then others
-pub took-then : {s t r : Hmac} (xs ys : List (List ℕ)) → TookParts s xs t → TookParts t ys r → TookParts s (xs ++ ys) r
+pub took-then : {s t r : State} (xs ys : List (List ℕ)) → TookParts s xs t → TookParts t ys r → TookParts s (xs ++ ys) r
 took-then {s = s} {t = t} {r = r} xs ys p q =
     subst (λ (l : List ℕ). TookIn s l r) (sym (netstrings-append xs ys)) (took-in-turn s t r (netstrings xs) (netstrings ys) p q)
 
@@ -39,10 +39,10 @@ pub size-append : (xs ys : List (List ℕ)) → size (xs ++ ys) ≡ size xs + si
 size-append xs ys = ap length (netstrings-append xs ys) ∙ length-append (netstrings xs) (netstrings ys)
 
 -- room for parts in a row
-pub room-first : (s : Hmac) (xs ys : List (List ℕ)) → Room s (xs ++ ys) → Room s xs
+pub room-first : (s : State) (xs ys : List (List ℕ)) → Room s (xs ++ ys) → Room s xs
 room-first s xs ys h = omega (arith, size-append xs ys)
 
-pub room-rest : {s t : Hmac} (xs ys : List (List ℕ)) → Room s (xs ++ ys) → TookParts s xs t → Room t ys
+pub room-rest : {s t : State} (xs ys : List (List ℕ)) → Room s (xs ++ ys) → TookParts s xs t → Room t ys
 room-rest xs ys h p = omega (arith, size-append xs ys)
 
 pub netstrings-one : (part : List ℕ) → netstrings (part ∷ []) ≡ netstring part

@@ -3,8 +3,8 @@
 use mathlib.Core.List.{List, [], _∷_, _++_, map}
 use Prim.Native.Nat.{ℕ, _+_, _^_, _<_}
 use lib.ListN.{length}
-use Rattle.hmac.specs.InnerKeyed.{TookIn}
-use Rattle.hmac.specs.declared.Hmac.{Hmac}
+use Rattle.sha2.specs.InnerTaken.{TookIn}
+use Rattle.sha2.specs.declared.State.{State}
 use Rattle.netstring.specs.Netstring.{netstrings}
 use Rattle.hashes.specs.declared.Hash.{Hash}
 use Rattle.hashes.specs.Hashes.{hashMask}
@@ -16,11 +16,11 @@ use Rattle.lines.specs.Values.{coveredValue}
 use Rattle.signed.specs.SignedText.{carried, nonceOf}
 
 -- s has room for the netstrings of these parts
-abbrev pub Room : Hmac → List (List ℕ) → Type 0
-Room s parts = s .inner .length + length (netstrings parts) < 2 ^ 61
+abbrev pub Room : State → List (List ℕ) → Type 0
+Room s parts = s .length + length (netstrings parts) < 2 ^ 61
 
 -- s took them in, and became r
-abbrev pub TookParts : Hmac → List (List ℕ) → Hmac → Type 0
+abbrev pub TookParts : State → List (List ℕ) → State → Type 0
 TookParts s parts r = TookIn s (netstrings parts) r
 
 -- the method, h, ah, eah, n if carried, t and lt

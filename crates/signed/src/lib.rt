@@ -13,9 +13,9 @@ ghost use Rattle.names.specs.InnerWalk.{Known};
 ghost use Rattle.signed.specs.SignedText.{carried, nonceOf, coveredValues, requestText};
 ghost use Rattle.signed.specs.InnerStreamed.{Room, TookParts, openingParts, valuesFrom};
 use hashes::Hash;
-use hmac::Hmac;
 use names::Next;
 use names::extra;
+use sha2::State;
 use window::Nonce;
 use window::time::Time;
 
@@ -38,16 +38,16 @@ pub fn code<'a>(
     requires { ⌜ Known (now known) × (length (now key) < 2 ^ 61) × (length (now method) ≤ 16) × (goodExtra (now extra) ≡ true) × (length (now head) ≤ 16384) × (length (now aside) ≤ 16384) × (length (now path) ≤ 2048) × (length (now body) ≤ 65536) ⌝ }
     ensures { λ r. ⌜ take (digestSize hash) r ≡ hmacOf hash (now (key .entry)) (requestText (now (method .entry)) hash mask (now (extra .entry)) (n .0) (t .0) (lt .0) (now (aside .entry)) (now (head .entry)) (now (path .entry)) (now (body .entry))) ⌝ }
 {
-    let fresh = Hmac::new(hash, key);
-    let opened = opening(fresh, method, hash, mask, extra, n, t, lt);
-    let valued = values(opened, known, mask, extra, head, aside);
-    let ended = ending(valued, path, body);
-    ended.finish()
+    let mut s = hmac::begin(hash, key);
+    s = opening(s, method, hash, mask, extra, n, t, lt);
+    s = values(s, known, mask, extra, head, aside);
+    s = ending(s, path, body);
+    hmac::finish(hash, key, s)
 }
 
 // The method, h, ah, eah, n if carried, t and lt.
 fn opening(
-    state: Hmac,
+    state: State,
     method: &[u8],
     hash: Hash,
     mask: u64,
@@ -55,20 +55,20 @@ fn opening(
     n: Nonce,
     t: Time,
     lt: Time,
-) -> Hmac
+) -> State
     requires { ⌜ Room state (openingParts (now method) hash mask (now extra) (n .0) (t .0) (lt .0)) ⌝ }
     ensures { λ r. ⌜ TookParts state (openingParts (now (method .entry)) hash mask (now (extra .entry)) (n .0) (t .0) (lt .0)) r ⌝ }
 {
-    let asked = absorb(state, method);
-    let hashed = absorb_mask(asked, hashes::mask(hash));
-    let covered = absorb_mask(hashed, mask);
-    let named = absorb(covered, extra);
-    let counted = absorb_nonce(named, mask, n);
-    let timed = absorb_number(counted, t.0);
-    absorb_number(timed, lt.0)
+    let mut s = absorb(state, method);
+    s = absorb_mask(s, hashes::mask(hash));
+    s = absorb_mask(s, mask);
+    s = absorb(s, extra);
+    s = absorb_nonce(s, mask, n);
+    s = absorb_number(s, t.0);
+    absorb_number(s, lt.0)
 }
 
-fn absorb_mask(state: Hmac, mask: u64) -> Hmac
+fn absorb_mask(state: State, mask: u64) -> State
     requires { ⌜ Room state (maskBytes mask ∷ []) ⌝ }
     ensures { λ r. ⌜ TookParts state (maskBytes mask ∷ []) r ⌝ }
 {
@@ -78,7 +78,7 @@ fn absorb_mask(state: Hmac, mask: u64) -> Hmac
     absorb(state, &bytes[..len])
 }
 
-fn absorb_number(state: Hmac, n: u32) -> Hmac
+fn absorb_number(state: State, n: u32) -> State
     requires { ⌜ Room state (numberBytes n ∷ []) ⌝ }
     ensures { λ r. ⌜ TookParts state (numberBytes n ∷ []) r ⌝ }
 {
@@ -89,7 +89,7 @@ fn absorb_number(state: Hmac, n: u32) -> Hmac
 }
 
 // The nonce, if bit 0 of the mask orders it.
-fn absorb_nonce(state: Hmac, mask: u64, n: Nonce) -> Hmac
+fn absorb_nonce(state: State, mask: u64, n: Nonce) -> State
     requires { ⌜ Room state (carried (nonceOf mask (n .0))) ⌝ }
     ensures { λ r. ⌜ TookParts state (carried (nonceOf mask (n .0))) r ⌝ }
 {
@@ -101,13 +101,13 @@ fn absorb_nonce(state: Hmac, mask: u64, n: Nonce) -> Hmac
 
 // The covered values by rising bit, and then the extra ones.
 fn values<'a>(
-    state: Hmac,
+    state: State,
     known: &[u8],
     mask: u64,
     extra: &[u8],
     head: &'a [u8],
     aside: &'a [u8],
-) -> Hmac
+) -> State
     requires { ⌜ Known (now known) × (goodExtra (now extra) ≡ true) × Room state (coveredValues mask (now extra) (now aside) (now head)) ⌝ }
     ensures { λ r. ⌜ TookParts state (coveredValues mask (now (extra .entry)) (now (aside .entry)) (now (head .entry))) r ⌝ }
 {
@@ -116,7 +116,7 @@ fn values<'a>(
 }
 
 // The values of the names of run whose bits are set in wanted.
-fn values_in<'a>(state: Hmac, run: &[u8], wanted: u64, head: &'a [u8], aside: &'a [u8]) -> Hmac
+fn values_in<'a>(state: State, run: &[u8], wanted: u64, head: &'a [u8], aside: &'a [u8]) -> State
     requires { ⌜ Room state (valuesFrom (now aside) (now head) (now run) wanted 0) ⌝ }
     ensures { λ r. ⌜ TookParts state (valuesFrom (now (aside .entry)) (now (head .entry)) (now (run .entry)) wanted 0) r ⌝ }
 {
@@ -134,7 +134,7 @@ fn values_in<'a>(state: Hmac, run: &[u8], wanted: u64, head: &'a [u8], aside: &'
     }
 }
 
-fn ending(state: Hmac, path: &[u8], body: &[u8]) -> Hmac
+fn ending(state: State, path: &[u8], body: &[u8]) -> State
     requires { ⌜ Room state (now path ∷ now body ∷ []) ⌝ }
     ensures { λ r. ⌜ TookParts state (now (path .entry) ∷ now (body .entry) ∷ []) r ⌝ }
 {
@@ -143,16 +143,17 @@ fn ending(state: Hmac, path: &[u8], body: &[u8]) -> Hmac
 }
 
 // The state that has taken in the netstring of a part too.
-fn absorb(state: Hmac, part: &[u8]) -> Hmac
+fn absorb(state: State, part: &[u8]) -> State
     requires { ⌜ Room state (now part ∷ []) ⌝ }
     ensures { λ r. ⌜ TookParts state (now (part .entry) ∷ []) r ⌝ }
 {
     let open = netstring::opening(part.len());
     let all = open.all;
     let start = open.start;
-    let opened = state.absorb(&all[start..]);
-    let held = opened.absorb(part);
-    held.absorb(b",")
+    let mut s = state;
+    s = s.absorb(&all[start..]);
+    s = s.absorb(part);
+    s.absorb(b",")
 }
 
 // Whether the first bytes of c are a code under the hash: every byte is looked at, whatever the others are.

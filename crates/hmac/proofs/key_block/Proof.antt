@@ -12,7 +12,7 @@ use Rattle.sha2.proofs.Output.{length-sha2}
 use Rattle.sha2.proofs.Streaming.{counts}
 use Rattle.hmac.specs.Hmac.{keyBlock}
 use Rattle.hmac.proofs.KeyBlock.{front-filled, digest-within}
-use Rattle.hmac.proofs.Streaming.{digest-front}
+use Rattle.hmac.proofs.Output.{digest-front}
 use Rattle.hmac.proofs.key_block.Statement.{statement}
 use Rattle.hmac.proofs.key_block.Tie as tie
 

@@ -3,11 +3,10 @@
 use borrow.Author.Needs.{needs}
 use borrow.Author.Tests.{eq-eqb, ne-eqb, lt-ltb, le-ltb}
 use mathlib.Core.Path.{_≡_, ap, _∙_}
-use mathlib.Core.List.{[]}
 use native.Mathlib.Omega.{arith}
 use lib.ListN.{length, length-take}
 use Rattle.hashes.specs.Hashes.{digestSize}
-use Rattle.hmac.proofs.Streaming.{digest-front}
+use Rattle.hmac.proofs.Output.{digest-front}
 use Rattle.primitives.specs.Answer.{answer}
 use Rattle.primitives.specs.Digests.{hmacCall}
 use Rattle.primitives.proofs.Digests.{fills}
@@ -54,7 +53,7 @@ returns-4 c =
     simp (eq-eqb _ _ size, lt-ltb _ _ (tests .before .if2 .left), lt-ltb _ _ (tests .if3 .left))
     (ap (answer 0)
     (fills h _ _ _ (first .before .size .ensures) (search needs) size (c .before .before .put-front .ensures)
-    ∙ finished .finish .ensures h _ _ (finished .before .absorb .ensures .appended h _ [] (finished .before .before .new .ensures .keyed))))
+    ∙ finished .finish .ensures _ (finished .before .absorb .ensures .appended h _ (finished .before .before .begin .ensures .1))))
 
 pub code-spec : {M : Type 1} → statement M
 code-spec =

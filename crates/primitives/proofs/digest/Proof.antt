@@ -7,7 +7,7 @@ use mathlib.Core.List.{[]}
 use native.Mathlib.Omega.{arith}
 use lib.ListN.{length, length-take}
 use Rattle.hashes.specs.Hashes.{digestSize}
-use Rattle.hmac.proofs.Streaming.{digest-front}
+use Rattle.hmac.proofs.Output.{digest-front}
 use Rattle.primitives.specs.Answer.{answer}
 use Rattle.primitives.specs.Digests.{digestCall}
 use Rattle.primitives.proofs.Digests.{fills}

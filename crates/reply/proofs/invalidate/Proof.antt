@@ -2,7 +2,7 @@
 -- Assumes nothing.
 use borrow.Author.Needs.{needs}
 use mathlib.Core.Path.{_≡_, ap, subst, _∙_}
-use mathlib.Core.List.{List, []}
+use mathlib.Core.List.{List}
 use Prim.Native.Nat.{ℕ}
 use native.Mathlib.Nat.{zero-add}
 use native.Mathlib.Omega.{arith}
@@ -12,7 +12,7 @@ use Rattle.cells.proofs.Runs.{spliced-front}
 use Rattle.cells.specs.Text.{codes}
 use Rattle.hashes.proofs.Hashes.{digest-fits}
 use Rattle.hmac.specs.Hmac.{hmacOf}
-use Rattle.hmac.proofs.Streaming.{Front, digest-front}
+use Rattle.hmac.proofs.Output.{Front, digest-front}
 use Rattle.armor.specs.Value.{field, fieldText}
 use Rattle.reply.specs.Replies.{invalidation}
 use Rattle.reply.proofs.invalidate.Statement.{statement}
@@ -32,9 +32,9 @@ returns c =
     let finish = c .before .before .before .before .before .before .before .finish in
     let code : take (c .before .before .before .before .before .before .size .result) (finish .result) ≡ hmacOf (a .hash) (a .key .now) (codes "Session Expired") =
     ap (λ (n : ℕ). take n (finish .result)) (c .before .before .before .before .before .before .size .ensures)
-    ∙ finish .ensures (a .hash) (a .key .now) _
-    (c .before .before .before .before .before .before .before .before .absorb .ensures .appended (a .hash) (a .key .now) []
-    (c .before .before .before .before .before .before .before .before .before .before .new .ensures .keyed))
+    ∙ finish .ensures _
+    (c .before .before .before .before .before .before .before .before .absorb .ensures .appended (a .hash) _
+    (c .before .before .before .before .before .before .before .before .before .before .begin .ensures .1))
     in
     let put = c .before .before .put-field in
     let laid = subst (λ (l : List ℕ). Laid (a .out .now) (put .last .0) 0 (put .result) (fieldText (field (codes "i") l))) code (put .ensures .1) in

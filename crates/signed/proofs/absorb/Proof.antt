@@ -6,10 +6,10 @@ use Prim.Native.Nat.{ℕ, _+_, _-_}
 use native.Mathlib.Omega.{arith}
 use borrow.Author.Needs.{needs}
 use lib.ListN.{length, take, drop}
-use Rattle.hmac.specs.InnerKeyed.{TookIn}
+use Rattle.sha2.specs.InnerTaken.{TookIn}
+use Rattle.sha2.proofs.Streaming.{took-in-turn}
 use Rattle.netstring.specs.Netstring.{comma}
 use Rattle.netstring.proofs.Laid.{netstring-pieces, length-pieces, opening-piece}
-use Rattle.hmac.proofs.Streaming.{took-in-turn}
 use Rattle.signed.proofs.Streaming.{size, size-one, netstrings-one}
 use Rattle.signed.proofs.absorb.Statement.{statement}
 use Rattle.signed.proofs.absorb.Tie as tie

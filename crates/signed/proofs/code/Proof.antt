@@ -5,13 +5,18 @@ use mathlib.Core.Path.{subst}
 use mathlib.Core.List.{List, [], _∷_, _++_}
 use Prim.Native.Nat.{ℕ, _+_, _≤_}
 use native.Mathlib.Omega.{arith}
-use Rattle.hmac.specs.InnerKeyed.{Keyed}
+use Rattle.sha2.specs.Hash.{blockSize, sha2}
+use Rattle.sha2.specs.InnerTaken.{Taken}
+use Rattle.hmac.specs.Hmac.{innerKey}
 use Rattle.signed.specs.SignedText.{coveredValues}
 use Rattle.signed.specs.InnerStreamed.{openingParts}
 use Rattle.signed.proofs.Streaming.{size, took-then, parts-joined}
 use Rattle.signed.proofs.Short.{request-short}
 use Rattle.signed.proofs.code.Statement.{statement}
 use Rattle.signed.proofs.code.Tie as tie
+
+abbrev key : tie.Start → List ℕ
+key s = innerKey (sha2 (s .args .hash)) (blockSize (s .args .hash)) (s .args .key .now)
 
 abbrev opens : tie.Start → List (List ℕ)
 opens s = openingParts (s .args .method .now) (s .args .hash) (s .args .mask) (s .args .extra .now) (s .args .n .0) (s .args .t .0) (s .args .lt .0)
@@ -29,15 +34,14 @@ short s = let a = s .args in
 returns : tie.Need-returns
 returns c =
     let s = c .before .before .before .before .before .before .before .before .before .before .before .before .before in
-    let made = c .before .before .before .before .new .ensures in
     let took =
     took-then (opens s) (held s ++ ends s) (c .before .before .before .opening .ensures)
     (took-then (held s) (ends s) (c .before .before .values .ensures) (c .before .ending .ensures)) in
-    c .finish .ensures (s .args .hash) (s .args .key .now) _
-    (subst (λ (text : List ℕ). Keyed (s .args .hash) (c .before .ending .result) (s .args .key .now) text)
+    c .finish .ensures _
+    (subst (λ (text : List ℕ). Taken (s .args .hash) (c .before .ending .result) (key s ++ text))
     (parts-joined (s .args .hash) (s .args .mask) (s .args .n .0) (s .args .t .0) (s .args .lt .0) (s .args .method .now) (s .args .extra .now) (s .args .aside .now) (s .args .head .now)
     (s .args .path .now) (s .args .body .now))
-    (took .appended (s .args .hash) (s .args .key .now) [] (made .keyed)))
+    (took .appended (s .args .hash) (key s) (c .before .before .before .before .begin .ensures .1)))
 
 pub code-spec : {M : Type 1} → statement M
 code-spec =
@@ -46,5 +50,6 @@ code-spec =
     (λ c κs. let s = c .before .before .before .before .before .before .before .before .before .before in
     (s .pre .0, s .pre .3, omega (arith, short s)))
     (λ c κs. omega (arith, short (c .before .before .before .before .before .before .before .before .before .before .before)))
-    (λ c κs. (omega (arith, short (c .before .before .before .before .before .before .before .before .before .before .before .before)), search needs))
+    (λ c κs. let s = c .before .before .before .before .before .before .before .before .before .before .before .before in
+    (s .pre .1, omega (arith, short s)))
     returns)

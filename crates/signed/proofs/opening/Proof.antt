@@ -13,7 +13,7 @@ use Rattle.signed.proofs.opening.Statement.{statement}
 use Rattle.signed.proofs.opening.Tie as tie
 
 -- there is room for one part after the other
-room : (s : tie.Start) → s .args .state .inner .length + size (s .args .method .now ∷ []) + size (maskBytes (hashMask (s .args .hash)) ∷ []) + size (maskBytes (s .args .mask) ∷ [])
+room : (s : tie.Start) → s .args .state .length + size (s .args .method .now ∷ []) + size (maskBytes (hashMask (s .args .hash)) ∷ []) + size (maskBytes (s .args .mask) ∷ [])
     + size (s .args .extra .now ∷ []) + size (carried (nonceOf (s .args .mask) (s .args .n .0))) + size (numberBytes (s .args .t .0) ∷ []) + size (numberBytes (s .args .lt .0) ∷ []) < 2 ^ 61
 room s = omega (arith, s .pre, opening-size (s .args .hash) (s .args .mask) (s .args .n .0) (s .args .t .0) (s .args .lt .0) (s .args .method .now) (s .args .extra .now))
 

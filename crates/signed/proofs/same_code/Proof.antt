@@ -7,7 +7,7 @@ use native.Mathlib.Omega.{arith}
 use lib.ListN.{length, take}
 use lib.Seq.{length-take-le}
 use Rattle.cells.specs.Runs.{same}
-use Rattle.hmac.proofs.Streaming.{Front, digest-front}
+use Rattle.hmac.proofs.Output.{Front, digest-front}
 use Rattle.signed.proofs.same_code.Statement.{statement}
 use Rattle.signed.proofs.same_code.Tie as tie
 

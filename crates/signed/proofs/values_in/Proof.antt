@@ -5,7 +5,7 @@ use mathlib.Core.List.{[], _∷_}
 use Prim.Native.Nat.{_+_, _-_, _≤_}
 use native.Mathlib.Omega.{arith}
 use lib.ListN.{length}
-use Rattle.hmac.specs.declared.Hmac.{Hmac}
+use Rattle.sha2.specs.declared.State.{State}
 use Rattle.names.specs.InnerWalk.{FirstName}
 use Rattle.signed.specs.InnerStreamed.{Room, TookParts, valuesFrom}
 use Rattle.signed.proofs.Streaming.{room-first, room-rest, took-none, took-then}
@@ -16,7 +16,7 @@ abbrev Inv-loop : tie.InvT-loop
 Inv-loop run wanted head aside taken₀ left₀ at₀ taken left at =
     (at ≤ length run + 1)
     × Room taken (valuesFrom aside head run left at)
-    × ((r : Hmac) → TookParts taken (valuesFrom aside head run left at) r → TookParts taken₀ (valuesFrom aside head run wanted 0) r)
+    × ((r : State) → TookParts taken (valuesFrom aside head run left at) r → TookParts taken₀ (valuesFrom aside head run wanted 0) r)
 
 abbrev μ-loop : tie.MeasureT-loop
 μ-loop run wanted head aside taken₀ left₀ at₀ taken left at = length run + 1 - at

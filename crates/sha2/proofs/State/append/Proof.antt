@@ -9,7 +9,7 @@ use lib.ListN.{length, take, length-drop, take-append-drop}
 use lib.Seq.{length-take-le}
 use Rattle.hashes.specs.declared.Hash.{Hash}
 use Rattle.sha2.specs.Hash.{blockSize}
-use Rattle.sha2.proofs.Streaming.{counts, rest-of, took-in-turn}
+use Rattle.sha2.proofs.Streaming.{counts, over, rest-of, took-in-turn}
 use Rattle.sha2.proofs.State.append.Statement.{statement}
 use Rattle.sha2.proofs.State.append.Tie as tie
 
@@ -52,7 +52,7 @@ whole-requires-2 c κs =
     let first : length (take missing part) ≡ missing = length-take-le missing part (omega arith) in
     let took = c .before .complete .ensures in
     let numbers = counts h (self .length) missing in
-    let ends = numbers .ends (omega (arith, size, begun, numbers .begun)) in (
+    let ends = numbers .ends 1 (omega (arith, size, begun, numbers .begun, over h 0 1)) in (
       ap (λ (x : Hash). c .before .complete .result .length % blockSize x) (took .is)
           ∙ ap (λ (x : ℕ). x % blockSize h) (took .counted ∙ ap (λ (x : ℕ). self .length + x) first)
           ∙ ends .1,
