@@ -140,7 +140,7 @@ impl State {
 
     // Part ends before the block that was begun does.
     fn keep(self, part: &[u8]) -> State
-        requires { ⌜ (self .length % blockSize (self .hash) + length (now part) < blockSize (self .hash)) × (self .length + length (now part) < 2 ^ 62) ⌝ }
+        requires { ⌜ (self .length % blockSize (self .hash) + length (now part) < blockSize (self .hash)) × (self .length + length (now part) < 2 ^ 61) ⌝ }
         ensures { λ r. ⌜ TookIn self (now (part .entry)) r ⌝ }
     {
         let hash = self.hash;
@@ -158,7 +158,7 @@ impl State {
 
     // Part ends with the block that was begun.
     fn complete(self, part: &[u8]) -> State
-        requires { ⌜ (self .length % blockSize (self .hash) + length (now part) ≡ blockSize (self .hash)) × (self .length + length (now part) < 2 ^ 62) ⌝ }
+        requires { ⌜ (self .length % blockSize (self .hash) + length (now part) ≡ blockSize (self .hash)) × (self .length + length (now part) < 2 ^ 61) ⌝ }
         ensures { λ r. ⌜ TookIn self (now (part .entry)) r ⌝ }
     {
         let hash = self.hash;
@@ -177,7 +177,7 @@ impl State {
 
     // No block is begun: part's whole blocks are hashed where they lie.
     fn whole(self, part: &[u8]) -> State
-        requires { ⌜ (self .length % blockSize (self .hash) ≡ 0) × (self .length + length (now part) < 2 ^ 62) ⌝ }
+        requires { ⌜ (self .length % blockSize (self .hash) ≡ 0) × (self .length + length (now part) < 2 ^ 61) ⌝ }
         ensures { λ r. ⌜ TookIn self (now (part .entry)) r ⌝ }
     {
         let hash = self.hash;
@@ -196,8 +196,9 @@ impl State {
         }
     }
 
-    fn append(self, part: &[u8]) -> State
-        requires { ⌜ self .length + length (now part) < 2 ^ 62 ⌝ }
+    // The state that has taken in part too.
+    pub fn absorb(self, part: &[u8]) -> State
+        requires { ⌜ self .length + length (now part) < 2 ^ 61 ⌝ }
         ensures { λ r. ⌜ TookIn self (now (part .entry)) r ⌝ }
     {
         let hash = self.hash;
@@ -213,15 +214,7 @@ impl State {
         s.whole(&part[missing..])
     }
 
-    // The state that has taken in part too.
-    pub fn absorb(self, part: &[u8]) -> State
-        requires { ⌜ self .length + length (now part) < 2 ^ 61 ⌝ }
-        ensures { λ r. ⌜ TookIn self (now (part .entry)) r ⌝ }
-    {
-        self.append(part)
-    }
-
-    // The hash of the message that was taken in, at the front. The block that was begun and the padding lie side by side, so that no state is made of them.
+    // The hash of the message that was taken in, at the front. The block that was begun and the padding lie side by side: no state takes in the padding.
     pub fn finish(self) -> [u8; 64]
         requires { ⌜ self .length < 2 ^ 61 ⌝ }
         ensures { λ r. ⌜ ((h : Declared.Hash) (m : List ℕ) → Taken h self m → take (digestSize h) r ≡ sha2 h m) ⌝ }

@@ -1,4 +1,4 @@
--- `sha2::State::append` meets its contract: the end of the block that was begun, and then the rest.
+-- `sha2::State::absorb` meets its contract: the end of the block that was begun, and then the rest.
 -- Assumes nothing.
 use borrow.Author.Needs.{needs}
 use mathlib.Core.Path.{_≡_, sym, ap, _∙_}
@@ -10,8 +10,8 @@ use lib.Seq.{length-take-le}
 use Rattle.hashes.specs.declared.Hash.{Hash}
 use Rattle.sha2.specs.Hash.{blockSize}
 use Rattle.sha2.proofs.Streaming.{counts, over, rest-of, took-in-turn}
-use Rattle.sha2.proofs.State.append.Statement.{statement}
-use Rattle.sha2.proofs.State.append.Tie as tie
+use Rattle.sha2.proofs.State.absorb.Statement.{statement}
+use Rattle.sha2.proofs.State.absorb.Tie as tie
 
 sub-missing : tie.Need-sub-missing
 sub-missing c =
@@ -68,7 +68,7 @@ returns-3 c =
     (took-in-turn (start .args .self) (c .before .before .complete .result) (c .whole2 .result) (take missing part) _ (c .before .before .complete .ensures)
     (c .whole2 .ensures))
 
-pub append-spec : {M : Type 1} → statement M
-append-spec =
+pub absorb-spec : {M : Type 1} → statement M
+absorb-spec =
     tie.close (tie.spec (λ c κs. search needs) (λ c κs. search needs) (λ c. search needs) (λ c κs. search needs) sub-missing keep-requires (λ c. search needs)
     slice-aggregate-complete complete-requires (λ c. search needs) (λ c. search needs) (λ c. search needs) whole-requires-2 returns-3)
