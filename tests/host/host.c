@@ -26,10 +26,11 @@
 #define GUARD ((size_t)1 << 16)
 #define ROOM ((size_t)1 << 18)
 
-/* Room for a call's stack, the byte that it is filled with beforehand, and how deep a call may go. */
+/* Room for a call's stack, the byte that it is filled with beforehand, and how deep a call may go: the 6,144 bytes that its
+   machine code is held to, and what this host puts before them. */
 #define STACK ((size_t)1 << 16)
 #define UNTOUCHED 0xa5
-#define DEEPEST 12288
+#define DEEPEST (6144 + 512)
 
 /* Of a line: a judge and its fourteen arguments. */
 #define MOST_WORDS 15

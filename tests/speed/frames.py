@@ -1,4 +1,5 @@
-"""python3 tests/speed/frames.py PROGRAM: from the program's machine code, the most stack that each gate call can take.
+"""python3 tests/speed/frames.py PROGRAM [MOST]: from the program's machine code, the most stack that each gate call can take.
+With MOST, a number of bytes, the exit status is 1 where a call can take more.
 
 A call's need is its own frame, its return address and the largest need of what it calls; no function of ours calls itself or
 calls through a pointer. What the C library's memcpy and memset take is left out: they push nothing.
@@ -9,7 +10,7 @@ import subprocess
 import sys
 
 WORD = 8
-CALLS = ["gate_setup", "gate_judge", "gate_end"]
+CALLS = ["gate_setup", "gate_judge", "gate_judge_one", "gate_end"]
 
 
 def number(text):
@@ -70,12 +71,16 @@ def deepest(function, own, called):
     return best, way
 
 
-def main(program):
+def main(program, most=None):
     own, called = frames(listing(program))
+    needs = []
     for name in CALLS:
-        need, way = deepest(name, own, called)
-        print(f"{name} at most {need} bytes: " + ", ".join(f"{function} {size}" for function, size in way))
+        if name in own:
+            need, way = deepest(name, own, called)
+            print(f"{name} at most {need} bytes: " + ", ".join(f"{function} {size}" for function, size in way))
+            needs.append(need)
+    return 1 if not needs or (most and max(needs) > int(most)) else 0
 
 
 if __name__ == "__main__":
-    main(sys.argv[1])
+    sys.exit(main(*sys.argv[1:]))

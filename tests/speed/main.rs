@@ -1,4 +1,7 @@
-//! Times `prim_sha512` and `prim_sha256` beside plain Rust ones, in turns within one run, and sealing and opening a token's 118 bytes.
+//! Times `prim_sha512` and `prim_sha256` beside plain Rust ones, and beside those of another library where it is built with one, in
+//! turns within one run, and sealing and opening a token's 118 bytes.
+#![allow(unknown_lints, unexpected_cfgs)]
+
 mod plain;
 
 use std::hint::black_box;
@@ -20,6 +23,16 @@ const IV: [u8; 12] = [2; 12];
 const TOKEN: usize = 118;
 
 type Hash = unsafe extern "C" fn(*const u8, usize, *mut u8, usize) -> u32;
+
+#[cfg(other)]
+extern "C" {
+    fn other_sha512(text: *const u8, text_len: usize, out: *mut u8, out_len: usize) -> u32;
+    fn other_sha256(text: *const u8, text_len: usize, out: *mut u8, out_len: usize) -> u32;
+}
+#[cfg(other)]
+const OTHERS: [Option<Hash>; 2] = [Some(other_sha512), Some(other_sha256)];
+#[cfg(not(other))]
+const OTHERS: [Option<Hash>; 2] = [None, None];
 
 fn digest<const N: usize>(hash: Hash, message: &[u8]) -> [u8; N] {
     let mut digest = [0; N];
@@ -68,28 +81,26 @@ fn sealing() {
     println!("{TOKEN} bytes: sealed in {:.1} us, opened in {:.1} us", best_seal * 1e6, best_open * 1e6);
 }
 
-fn hashing<const N: usize>(name: &str, message: &[u8], hash: Hash, plain: impl Fn(&[u8]) -> [u8; N]) {
+fn hashing<const N: usize>(name: &str, message: &[u8], hash: Hash, other: Option<Hash>, plain: impl Fn(&[u8]) -> [u8; N]) {
     assert_eq!(digest(hash, message), plain(message));
-    let (mut best_ours, mut best_plain) = (f64::MAX, f64::MAX);
+    let (mut best_ours, mut best_plain, mut best_other) = (f64::MAX, f64::MAX, f64::MAX);
     for _ in 0..20 {
         best_ours = best_ours.min(time(|| digest::<N>(hash, black_box(message))));
         best_plain = best_plain.min(time(|| plain(black_box(message))));
+        if let Some(other) = other {
+            best_other = best_other.min(time(|| digest::<N>(other, black_box(message))));
+        }
     }
-    let rate = |seconds: f64| message.len() as f64 / seconds / 1e6;
-    println!(
-        "{name}, {} bytes: ours {:.0} MB/s, plain Rust {:.0} MB/s, ratio {:.2}",
-        message.len(),
-        rate(best_ours),
-        rate(best_plain),
-        best_plain / best_ours
-    );
+    let told = |who: &str, best: f64| format!("{who} {:.0} MB/s, ratio {:.2}", message.len() as f64 / best / 1e6, best / best_ours);
+    print!("{name}, {} bytes: ours {:.0} MB/s, {}", message.len(), message.len() as f64 / best_ours / 1e6, told("plain Rust", best_plain));
+    println!("{}", other.map_or(String::new(), |_| format!(", {}", told("the other", best_other))));
 }
 
 fn main() {
     sealing();
     for size in [4096, 65536] {
         let message: Vec<u8> = (0..size).map(|i| (i * 7 % 251) as u8).collect();
-        hashing("SHA-512", &message, prim_sha512, plain::sha512);
-        hashing("SHA-256", &message, prim_sha256, plain::sha256);
+        hashing("SHA-512", &message, prim_sha512, OTHERS[0], plain::sha512);
+        hashing("SHA-256", &message, prim_sha256, OTHERS[1], plain::sha256);
     }
 }
