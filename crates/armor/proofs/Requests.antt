@@ -8,23 +8,25 @@ use mathlib.Core.Option.{some, Option, none}
 use Prim.Native.Nat.{ℕ, _<_, _≤_}
 use native.Mathlib.Omega.{arith}
 use lib.Dec.{eqb, lit<}
-use lib.ListN.{length}
+use lib.ListN.{length, take}
 use borrow.Author.Tests.{eqb-true, eqb-false, leb-true, not-true}
+use Rattle.cells.specs.Runs.{part}
 use Rattle.armor.specs.declared.scanning.Seen.{Seen}
 use Rattle.armor.specs.declared.Answer.{Answer}
+use Rattle.armor.specs.declared.Request.{Request}
 use Rattle.armor.specs.declared.SetupRead.{SetupRead}
 use Rattle.armor.specs.declared.scanning.ScanRead.{ScanRead}
 use Rattle.armor.specs.Numerals.{maskOf}
 use Rattle.armor.specs.Keys.{sized, obeys, keys, ruleAt, keyT, keyLt, keyN, keyH, keyAh, keyR, keyS, keyC, keyIv, keyTag, keyEah, otherKey, mask}
 use Rattle.armor.specs.Value.{Field, allGood, grammar, carried}
 use Rattle.armor.specs.Fields.{times, the, rightTimes, nonceBit, requestFields, setupFields}
-use Rattle.armor.specs.InnerAnswers.{requestFrom, requestAnswer, setupFrom, setupAnswer}
+use Rattle.armor.specs.InnerAnswers.{requestFrom, requestAnswer, setupFrom, setupAnswer, Lies}
 use Rattle.armor.specs.InnerScan.{Sound, Sizes, Ready, Noted, countIn, isSome, Scanned}
 use Rattle.cells.proofs.Tests.{tested, both}
 use Rattle.armor.proofs.Numerals.{first, second}
 use Rattle.armor.proofs.Keys.{from-at}
 use Rattle.armor.proofs.Value.{grammar-exactly}
-use Rattle.armor.proofs.Texts.{number-room, mask-room, sized-room, either-room}
+use Rattle.armor.proofs.Texts.{Written, number-room, mask-room, sized-room, either-room}
 use Rattle.armor.proofs.Fields.{noted, obeyed-once, none-held, count-bit, counted, counts-are}
 
 -- how often each key stands
@@ -97,6 +99,24 @@ module _ (fs : List Field) (good : allGood fs ≡ true) (right : requestFields f
 -- c is at most as long as the longer of its two sizes
 pub signature-room : {fs : List Field} → Sizes fs → length (the keyC fs) ≤ 64
 signature-room sizes = ⊎-elim (λ e. omega arith) (λ e. omega arith) (sizes .c)
+
+-- contents that were written one behind the other lie in the run
+pub lying : {q : Request} {run₀ run₁ run₂ run₃ run : List ℕ} (fs : List Field) → Sizes fs → q .«s_len» ≡ length (the keyS fs) → q .«c_len» ≡ length (the keyC fs)
+    → Written run₀ run₁ 0 (the keyS fs) → Written run₁ run₂ 118 (the keyC fs) → Written run₂ run₃ 182 (the keyIv fs) → Written run₃ run 194 (the keyTag fs)
+    → Lies fs q run
+lying {run = run} fs sizes token signature one two three four =
+    let s = length (the keyS fs) in
+    let c = length (the keyC fs) in
+    let iv = length (the keyIv fs) in
+    let short = sizes .s .1 in
+    let room = signature-room sizes in
+    let twelve = sizes .iv in
+    record {
+      token = ap (λ (n : ℕ). take n run) token ∙ four .kept 0 s (omega arith) ∙ three .kept 0 s (omega arith) ∙ two .kept 0 s (omega arith) ∙ one .here;
+      signature = ap (part run 118) signature ∙ four .kept 118 c (omega arith) ∙ three .kept 118 c (omega arith) ∙ two .here;
+      vector = ap (part run 182) (sym twelve) ∙ four .kept 182 iv (omega arith) ∙ three .here;
+      tag = ap (part run 194) (sym (sizes .tag)) ∙ four .here;
+    }
 
 -- what is ready to be read
 pub ready : {v : List ℕ} {seen : Seen} → Sound v seen → requestFields (carried v) ≡ true → Ready v seen

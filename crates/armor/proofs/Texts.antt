@@ -3,16 +3,18 @@
 use mathlib.Core.Path.{_≡_, refl, sym, ap, ap₂, _∙_}
 use mathlib.Core.Logic.{_⊎_, inl, inr}
 use mathlib.Core.Bool.{Bool, true, false, _&&_, _||_, and-false}
-use mathlib.Core.List.{List, [], _∷_}
-use Prim.Native.Nat.{ℕ, _-_, _<_, _≤_}
+use mathlib.Core.List.{List, [], _∷_, _++_, append-assoc}
+use Prim.Native.Nat.{ℕ, _+_, _-_, _<_, _≤_}
+use native.Mathlib.Nat.{zero-add}
 use native.Mathlib.Omega.{arith}
 use lib.Dec.{eqb, leb}
-use lib.ListN.{length, getD, take, drop, replicate, length-replicate}
-use lib.Seq.{take-at}
+use lib.ListN.{length, getD, take, drop, length-append, length-drop, length-take, take-append-drop}
+use lib.Seq.{take-at, drop-at, length-take-le}
 use borrow.Author.Tests.{eqb-true, ne-eqb, leb-true, leb-false, le-leb, lt-leb}
-use Rattle.cells.specs.Runs.{fronted}
+use Rattle.cells.specs.Runs.{fronted, part}
 use Rattle.cells.specs.Numbers
-use Rattle.cells.proofs.Runs.{length-fronted, fronted-whole}
+use Rattle.cells.proofs.Cuts.{part-part}
+use Rattle.cells.proofs.Runs.{length-fronted, length-part}
 use Rattle.base64.specs.declared.Measured.{Measured}
 use Rattle.base64.specs.declared.Decoded.{Decoded}
 use Rattle.base64.specs.Decoding.{Decoding, nothing, bytes, decoded}
@@ -113,9 +115,6 @@ pub front-taken : (run out : List ℕ) (n : ℕ) {left : List ℕ} → left ≡ 
 unfolding fronted
 front-taken run out n e s = ap (take n) e ∙ take-at run (drop (length run) out) n (sym s)
 
-pub filled-whole : (n : ℕ) (bs : List ℕ) {left : List ℕ} → length bs ≡ n → left ≡ fronted bs (replicate n 0) → left ≡ bs
-filled-whole n bs e p = p ∙ fronted-whole bs (replicate n 0) (e ∙ sym (length-replicate {A = ℕ} n 0))
-
 pub obeys-run : (rule : Rule) (text run : List ℕ) → decoded text ≡ bytes run → textObeys rule text ≡ (leb 1 (length run) && obeys rule run)
 unfolding textObeys
 obeys-run rule text run e = ap (decodedObeys rule) e
@@ -164,3 +163,38 @@ mask-taken [] out n one e s = absurd (omega arith)
 mask-taken (b ∷ bs) out n one e s =
     ap Numbers.number
     (ap (λ (l : List ℕ). take (n - 1) (drop 1 l)) e ∙ take-at bs (drop (length (b ∷ bs)) out) (n - 1) (omega arith))
+
+-- ys is xs with a run written from index a on: what stands before it stays
+pub record Written (xs ys : List ℕ) (a : ℕ) (run : List ℕ) : Type 0 where
+  pub long : length ys ≡ length xs
+  pub here : part ys a (length run) ≡ run
+  pub kept : (at k : ℕ) → at + k ≤ a → part ys at k ≡ part xs at k
+
+-- a part of the front
+front-part : (xs rest : List ℕ) (a at k : ℕ) → a ≤ length xs → at + k ≤ a → part (take a xs ++ rest) at k ≡ part (take a xs) at k
+front-part xs rest a at k h j =
+    let long = length-take-le a xs h in
+    let room : a ≤ length (take a xs ++ rest) = omega (arith, length-append (take a xs) rest) in
+    ap (λ (i : ℕ). part (take a xs ++ rest) i k) (sym (zero-add at))
+    ∙ sym (part-part (take a xs ++ rest) 0 a at k (omega arith) j)
+    ∙ ap (λ (l : List ℕ). part l at k) (take-at (take a xs) rest a long)
+
+-- what a part leaves that was lent to be filled from its front
+pub written : (xs run : List ℕ) (a n : ℕ) {left : List ℕ} → a + n ≤ length xs → length run ≤ n → left ≡ fronted run (part xs a n)
+    → Written xs (take a xs ++ (left ++ drop n (drop a xs))) a run
+unfolding fronted
+written xs run a n {left} room fits e =
+    let more = drop (length run) (part xs a n) in
+    let rest = drop n (drop a xs) in
+    let size : length left ≡ n = ap length e ∙ length-fronted run (part xs a n) (omega (arith, length-part xs a n room)) ∙ length-part xs a n room in
+    record {
+      long = simp (length-append, length-take, length-drop) (omega arith);
+      here = ap (take (length run)) (drop-at (take a xs) (left ++ rest) a (length-take-le a xs (omega arith)))
+          ∙ ap (λ (l : List ℕ). take (length run) (l ++ rest)) e
+          ∙ ap (take (length run)) (append-assoc run more rest)
+          ∙ take-at run (more ++ rest) (length run) refl;
+      kept = λ at k j.
+          front-part xs (left ++ rest) a at k (omega arith) j
+          ∙ sym (front-part xs (drop a xs) a at k (omega arith) j)
+          ∙ ap (λ (l : List ℕ). part l at k) (take-append-drop a xs);
+    }

@@ -7,7 +7,7 @@ use mathlib.Core.Option.{Option, none, some}
 use Prim.Native.Nat.{ℕ, _≤_}
 use lib.Dec.{eqb}
 use lib.ListN.{length, take}
-use Rattle.cells.specs.Runs.{cut}
+use Rattle.cells.specs.Runs.{cut, part}
 use Rattle.cells.specs.Numbers.{number}
 use Rattle.base64.specs.Encoding.{encoded}
 use Rattle.armor.specs.declared.Answer.{Answer}
@@ -41,16 +41,12 @@ setupFrom (some fs) = cond (setupFields fs) (SetupRead.Mask (maskOf (the keyR fs
 unfoldable pub setupAnswer : List ℕ → SetupRead
 setupAnswer v = setupFrom (grammar v)
 
--- a request holds what its fields do
+-- a request holds what its fields do, the bytes of four of them apart
 pub record Holds (v : List ℕ) (fs : List Field) (q : Request) : Type 0 where
-  pub token : take (q .«s_len») (q .s) ≡ the keyS fs
   pub token-size : q .«s_len» ≡ length (the keyS fs)
   pub token-fits : q .«s_len» ≤ 118
-  pub signature : take (q .«c_len») (q .c) ≡ the keyC fs
   pub signature-size : q .«c_len» ≡ length (the keyC fs)
   pub signature-fits : q .«c_len» ≤ 64
-  pub vector : q .iv ≡ the keyIv fs
-  pub tag : q .tag ≡ the keyTag fs
   pub time : q .t .0 ≡ number (the keyT fs)
   pub last-time : q .lt .0 ≡ number (the keyLt fs)
   pub nonce : q .n .0 ≡ number (the keyN fs)
@@ -61,6 +57,14 @@ pub record Holds (v : List ℕ) (fs : List Field) (q : Request) : Type 0 where
   pub extra-within : q .«eah_end» ≤ length v
   pub extra : cut v (q .«eah_start») (q .«eah_end») ≡ encoded (the keyEah fs)
 
-pub record ReadsRequest (v : List ℕ) (r : RequestRead) : Type 0 where
+-- the bytes of those four lie in a run
+pub record Lies (fs : List Field) (q : Request) (run : List ℕ) : Type 0 where
+  pub token : take (q .«s_len») run ≡ the keyS fs
+  pub signature : part run 118 (q .«c_len») ≡ the keyC fs
+  pub vector : part run 182 12 ≡ the keyIv fs
+  pub tag : part run 194 16 ≡ the keyTag fs
+
+pub record ReadsRequest (v run : List ℕ) (r : RequestRead) : Type 0 where
   pub is : r .answer ≡ requestAnswer v
   pub holds : r .answer ≡ Answer.Good → Holds v (carried v) (r .request)
+  pub lies : r .answer ≡ Answer.Good → Lies (carried v) (r .request) run

@@ -7,7 +7,7 @@ ghost use Rattle.cells.specs.Numbers.{number};
 ghost use Rattle.armor.specs.Numerals.{maskOf};
 ghost use Rattle.armor.specs.Value.{carried};
 ghost use Rattle.armor.specs.Fields.{the, rightTimes, requestFields};
-ghost use Rattle.armor.specs.InnerAnswers.{Holds};
+ghost use Rattle.armor.specs.InnerAnswers.{Holds, Lies};
 ghost use Rattle.armor.specs.InnerScan.{countIn, Sound, Noted, Ready, HoldsNumbers};
 use super::Request;
 use super::key;
@@ -96,29 +96,22 @@ fn numbers_of(value: &[u8], seen: Seen) -> Numbers
     }
 }
 
-pub fn request_of(value: &[u8], seen: Seen) -> Request
-    requires { ⌜ Ready (now value) seen ⌝ }
-    ensures { λ r. ⌜ Holds (now (value .entry)) (carried (now (value .entry))) r ⌝ }
+// What a request carries: the byte fields go to their places in the run, of which Request tells, the rest into the answer.
+pub fn request_of(value: &[u8], seen: Seen, fields: &mut [u8]) -> Request
+    requires { ⌜ Ready (now value) seen × (length (now fields) ≡ 210) ⌝ }
+    ensures { λ r. ⌜ Holds (now (value .entry)) (carried (now (value .entry))) r × Lies (carried (now (value .entry))) r (now (fields .exit)) ⌝ }
 {
-    let mut s = [0u8; 118];
-    let s_len = content(value, seen, key::S, &mut s);
-    let mut c = [0u8; 64];
-    let c_len = content(value, seen, key::C, &mut c);
-    let mut iv = [0u8; 12];
-    content(value, seen, key::IV, &mut iv);
-    let mut tag = [0u8; 16];
-    content(value, seen, key::TAG, &mut tag);
+    let s_len = content(value, seen, key::S, &mut fields[..118]);
+    let c_len = content(value, seen, key::C, &mut fields[118..182]);
+    content(value, seen, key::IV, &mut fields[182..194]);
+    content(value, seen, key::TAG, &mut fields[194..210]);
     let numbers = numbers_of(value, seen);
     let t = numbers.t;
     let lt = numbers.lt;
     let n = numbers.n;
     Request {
-        s,
         s_len,
-        c,
         c_len,
-        iv,
-        tag,
         t,
         lt,
         n,

@@ -24,14 +24,11 @@ pub enum Answer {
     Fields,
 }
 
-// What a good request carries. The text of eah stands in the value from eah_start to eah_end.
+// What a good request carries. The text of eah stands in the value from eah_start to eah_end. The bytes of s, c, iv and tag lie once, in a
+// run of 210 bytes that the caller lends: s from byte 0 on, c from 118, iv from 182 and tag from 194.
 pub struct Request {
-    pub s: [u8; 118],
     pub s_len: usize,
-    pub c: [u8; 64],
     pub c_len: usize,
-    pub iv: [u8; 12],
-    pub tag: [u8; 16],
     pub t: Time,
     pub lt: Time,
     pub n: Nonce,
@@ -72,12 +69,8 @@ pub fn read_setup(value: &[u8]) -> SetupRead
 
 fn no_request() -> Request {
     Request {
-        s: [0u8; 118],
         s_len: 0,
-        c: [0u8; 64],
         c_len: 0,
-        iv: [0u8; 12],
-        tag: [0u8; 16],
         t: Time(0),
         lt: Time(0),
         n: Nonce(0),
@@ -89,10 +82,10 @@ fn no_request() -> Request {
     }
 }
 
-// What a request carries.
-pub fn read_request(value: &[u8]) -> RequestRead
-    requires { ⌜ length (now value) ≤ 4096 ⌝ }
-    ensures { λ r. ⌜ ReadsRequest (now (value .entry)) r ⌝ }
+// What a request carries, its byte fields in the run.
+pub fn read_request(value: &[u8], fields: &mut [u8]) -> RequestRead
+    requires { ⌜ (length (now value) ≤ 4096) × (length (now fields) ≡ 210) ⌝ }
+    ensures { λ r. ⌜ ReadsRequest (now (value .entry)) (now (fields .exit)) r ⌝ }
 {
     let scan = scanning::scan_value(value);
     if !scan.good {
@@ -110,6 +103,6 @@ pub fn read_request(value: &[u8]) -> RequestRead
     }
     RequestRead {
         answer: Answer::Good,
-        request: contents::request_of(value, seen),
+        request: contents::request_of(value, seen, fields),
     }
 }

@@ -5,8 +5,7 @@ ghost use Prim.Native.Nat.{_≤_, _<_};
 ghost use lib.ListN.{length};
 ghost use Rattle.names.specs.InnerWalk.{Known};
 ghost use Rattle.orders.specs.Orders.{orders};
-ghost use Rattle.table.specs.Table.{places, Within, Placed};
-ghost use Rattle.table.specs.Session.{placeOf};
+ghost use Rattle.table.specs.Table.{places, Within};
 ghost use Rattle.stages.specs.Request.{requestOf};
 ghost use Rattle.stages.specs.Parts.{invalidates};
 ghost use Rattle.stages.specs.InnerStages.{tells};
@@ -14,13 +13,11 @@ ghost use Rattle.gate.specs.State.{holding};
 ghost use Rattle.gate.specs.InnerDecisions.{Decides, leftBy, AnswerIs};
 use super::entry;
 use super::sizes;
-use armor::Request;
 use orders::Numbers;
 use stages::reading;
 use stages::settling;
 use stages::settling::Decision;
 use table::place;
-use table::place::Place;
 use table::session;
 use window::time::Time;
 
@@ -58,12 +55,23 @@ pub fn decide<'a>(
     if entry.number != 0 {
         return settling::refused(entry.number);
     }
-    let read = reading::read(known, numbers, extra, value, method, head, aside);
+    // The request's byte fields lie here as armor::Request tells, for every stage.
+    let mut fields = [0u8; 210];
+    let read = reading::read(
+        known,
+        numbers,
+        extra,
+        value,
+        method,
+        head,
+        aside,
+        &mut fields,
+    );
     if read.number != 0 {
         return settling::refused(read.number);
     }
     let request = read.request;
-    let place = place_of(table, request);
+    let place = place::find(table, &fields[182..194]);
     let held = session::held_at(table, place);
     settling::settle(
         known,
@@ -72,6 +80,7 @@ pub fn decide<'a>(
         clock,
         server_key,
         request,
+        &fields,
         entry.limits,
         method,
         head,
@@ -81,14 +90,6 @@ pub fn decide<'a>(
         place,
         held,
     )
-}
-
-// Where the request's session stands.
-fn place_of(table: &[u8], request: Request) -> Place
-    ensures { λ r. ⌜ Placed (placeOf (now (table .entry)) (request .iv)) (places (now (table .entry))) r ⌝ }
-{
-    let iv = request.iv;
-    place::find(table, &iv)
 }
 
 // Whether a number frees the session's record and tells the client.

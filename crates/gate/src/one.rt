@@ -14,7 +14,6 @@ ghost use Rattle.gate.specs.InnerDecisions.{Decides};
 use super::entry;
 use super::judge;
 use super::sizes;
-use armor::Request;
 use orders::Numbers;
 use stages::reading;
 use stages::settling;
@@ -105,12 +104,23 @@ fn decide<'a>(
     if entry.number != 0 {
         return settling::refused(entry.number);
     }
-    let read = reading::read(known, numbers, extra, value, method, head, aside);
+    // The request's byte fields lie here as armor::Request tells, for every stage.
+    let mut fields = [0u8; 210];
+    let read = reading::read(
+        known,
+        numbers,
+        extra,
+        value,
+        method,
+        head,
+        aside,
+        &mut fields,
+    );
     if read.number != 0 {
         return settling::refused(read.number);
     }
     let request = read.request;
-    let place = place_of(record, request);
+    let place = place_of(record, &fields[182..194]);
     settling::settle(
         known,
         numbers,
@@ -118,6 +128,7 @@ fn decide<'a>(
         clock,
         server_key,
         request,
+        &fields,
         entry.limits,
         method,
         head,
@@ -140,11 +151,10 @@ fn record_number(record: Record) -> u32
 }
 
 // The record's place in a table of its own, if it is the session's.
-fn place_of(record: Record, request: Request) -> Place
-    ensures { λ r. ⌜ r ≡ placeOf (recordBytes «record») (request .iv) ⌝ }
+fn place_of(record: Record, iv: &[u8]) -> Place
+    ensures { λ r. ⌜ r ≡ placeOf (recordBytes «record») (now (iv .entry)) ⌝ }
 {
-    let iv = request.iv;
-    if record.is_of(&iv) {
+    if record.is_of(iv) {
         return Place::At(0);
     }
     Place::Nowhere

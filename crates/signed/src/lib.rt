@@ -156,11 +156,10 @@ fn absorb(state: State, part: &[u8]) -> State
     s.absorb(b",")
 }
 
-// Whether the first bytes of c are a code under the hash: every byte is looked at, whatever the others are.
-pub fn same_code(c: [u8; 64], len: usize, code: [u8; 64], hash: Hash) -> bool
-    requires { ⌜ len ≤ 64 ⌝ }
-    ensures { λ r. ⌜ r ≡ same (take len c) (take (digestSize hash) code) ⌝ }
+// Whether c is a code under the hash: every byte is looked at, whatever the others are.
+pub fn same_code(c: &[u8], code: [u8; 64], hash: Hash) -> bool
+    ensures { λ r. ⌜ r ≡ same (now (c .entry)) (take (digestSize hash) code) ⌝ }
 {
     let size = hashes::size(hash);
-    cells::same(&c[..len], &code[..size])
+    cells::same(c, &code[..size])
 }

@@ -4,20 +4,21 @@ use mathlib.Core.Path.{_≡_, refl, sym, ap, subst, _∙_}
 use mathlib.Core.Bool.{Bool, true, false, true≢false, cond, not}
 use mathlib.Core.List.{List, []}
 use mathlib.Core.Option.{Option, none, some, Option·getD}
-use Prim.Native.Nat.{ℕ, _≤_, _<_}
+use Prim.Native.Nat.{ℕ, _+_, _-_, _≤_, _<_}
 use native.Mathlib.Omega.{arith}
 use borrow.Author.Tests.{le-leb, lt-leb}
 use lib.Dec.{eqb}
 use lib.ListN.{take}
-use Rattle.cells.specs.Runs.{same}
+use Rattle.cells.specs.Runs.{part, cut, same}
 use Rattle.hashes.specs.declared.Hash.{Hash}
 use Rattle.hashes.specs.Hashes.{hashMask}
 use Rattle.hmac.specs.Hmac.{hmacOf}
 use Rattle.armor.specs.declared.Answer.{Answer}
 use Rattle.armor.specs.declared.Request.{Request as ArmorRequest}
 use Rattle.armor.specs.Value.{Field, grammar, carried}
-use Rattle.armor.specs.Fields.{requestFields}
-use Rattle.armor.specs.InnerAnswers.{answerNumber, requestFrom, requestAnswer, Holds}
+use Rattle.armor.specs.Keys.{keyC}
+use Rattle.armor.specs.Fields.{the, requestFields}
+use Rattle.armor.specs.InnerAnswers.{answerNumber, requestFrom, requestAnswer, Holds, Lies}
 use Rattle.signed.specs.SignedText.{requestText}
 use Rattle.table.specs.declared.session.Record.{Record}
 use Rattle.table.specs.declared.place.Place.{Place}
@@ -86,11 +87,11 @@ fields-told v right e = record { grammar = there (grammar v) right e; fields = r
     rightly (some fs) b z = same-side (requestFields fs) b (ap answerNumber z)
 
 -- what the token and the signature come to, of a request that was read and whose token was unsealed
-module _ (q : Request) (r : ArmorRequest) (h : Holds (q .value) (carried (q .value)) r) (u : Unsealed)
-    (told : Unseals (openedToken (q .server-key) (r .iv) (take (r .«s_len») (r .s)) (r .tag)) u) where
+module _ (q : Request) (r : ArmorRequest) (run : List ℕ) (h : Holds (q .value) (carried (q .value)) r) (lies : Lies (carried (q .value)) r run) (u : Unsealed)
+    (told : Unseals (openedToken (q .server-key) (part run 182 12) (take (r .«s_len») run) (part run 194 16)) u) where
   opens : Unseals (openedOf q) u
   unfolding openedOf ivOf fieldsOf
-  opens = rw (← (h .token), ← (h .vector), ← (h .tag)) told
+  opens = rw (← (lies .token), ← (lies .vector), ← (lies .tag)) told
 
   pub unopened : u .good ≡ false → Vouches q (record { number = 9; token = u })
   unfolding tokenPart
@@ -106,17 +107,20 @@ module _ (q : Request) (r : ArmorRequest) (h : Holds (q .value) (carried (q .val
     lapsed late =
         record { is = simp (sym (opens .is) ∙ good, ← (held .expiry), le-leb (u .expiry .0) (q .clock) late); holds = λ z. held }
 
-    module _ (lasts : q .clock < u .expiry .0) (hash : Hash) (named : hashOf q ≡ hash) (code : List ℕ)
+    module _ (lasts : q .clock < u .expiry .0) (hash : Hash) (named : hashOf q ≡ hash) (end : ℕ) (ends : end ≡ 118 + r .«c_len») (code : List ℕ)
         (made : code ≡ hmacOf hash (u .key) (requestText (q .method) hash (q .orders .numbers .mask) (q .orders .extra) (r .n .0) (r .t .0) (r .lt .0) (q .aside) (q .head) (q .path) (q .body))) where
-      compared : first (vouchingPart q) ≡ cond (not (same (take (r .«c_len») (r .c)) code)) 11 0
+      signature : cut run 118 end ≡ the keyC (carried (q .value))
+      signature = let size : end - 118 ≡ r .«c_len» = omega arith in ap (part run 118) size ∙ lies .signature
+
+      compared : first (vouchingPart q) ≡ cond (not (same (cut run 118 end) code)) 11 0
       unfolding tokenPart signaturePart signatureOf codeOf textOf nonceOf timeOf lastTimeOf fieldsOf
       compared =
-          simp (sym (opens .is) ∙ good, ← (held .expiry), lt-leb (u .expiry .0) (q .clock) lasts, ← (held .key), named, ← (h .signature), ← (h .nonce), ← (h .time), ← (h .last-time), ← made)
+          simp (sym (opens .is) ∙ good, ← (held .expiry), lt-leb (u .expiry .0) (q .clock) lasts, ← (held .key), named, ← signature, ← (h .nonce), ← (h .time), ← (h .last-time), ← made)
 
-      pub unsigned : same (take (r .«c_len») (r .c)) code ≡ false → Vouches q (record { number = 11; token = u })
+      pub unsigned : same (cut run 118 end) code ≡ false → Vouches q (record { number = 11; token = u })
       unsigned z = record { is = sym (compared ∙ simp z); holds = λ n. held }
 
-      pub vouched : same (take (r .«c_len») (r .c)) code ≡ true → Vouches q (record { number = 0; token = u })
+      pub vouched : same (cut run 118 end) code ≡ true → Vouches q (record { number = 0; token = u })
       vouched z = record { is = sym (compared ∙ simp z); holds = λ n. held }
 
 module _ (q : Request) (table : List ℕ) where

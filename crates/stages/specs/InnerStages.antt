@@ -9,7 +9,7 @@ use lib.Dec.{eqb}
 use lib.ListN.{length, take}
 use Rattle.hashes.specs.declared.Hash.{Hash}
 use Rattle.armor.specs.Value.{carried}
-use Rattle.armor.specs.InnerAnswers.{Holds}
+use Rattle.armor.specs.InnerAnswers.{Holds, Lies}
 use Rattle.armor.specs.declared.Request.{Request as ArmorRequest}
 use Rattle.orders.specs.Orders.{Orders, limitsOf}
 use Rattle.orders.specs.declared.Limits.{Limits}
@@ -33,24 +33,25 @@ CoversIs o value method head aside number =
     (clock : ℕ) (server-key path body reply : List ℕ) → number ≡ first (coveringPart (requestOf o clock server-key value method head aside path body reply))
 
 -- 4 to 8: the number, and where it is 0 what the value carries
-pub record Reads (q : Request) (r : Reading) : Type 0 where
+pub record Reads (q : Request) (run : List ℕ) (r : Reading) : Type 0 where
   pub is : r .number ≡ first (readingPart q)
   pub holds : r .number ≡ 0 → Holds (q .value) (carried (q .value)) (r .request)
+  pub lies : r .number ≡ 0 → Lies (carried (q .value)) (r .request) run
 
-abbrev pub ReadIs : Orders → List ℕ → List ℕ → List ℕ → List ℕ → Reading → Type 0
-ReadIs o value method head aside r =
-    (clock : ℕ) (server-key path body reply : List ℕ) → Reads (requestOf o clock server-key value method head aside path body reply) r
+abbrev pub ReadIs : Orders → List ℕ → List ℕ → List ℕ → List ℕ → List ℕ → Reading → Type 0
+ReadIs o value method head aside run r =
+    (clock : ℕ) (server-key path body reply : List ℕ) → Reads (requestOf o clock server-key value method head aside path body reply) run r
 
 -- 9 to 11: the number, and the token unless it is 9
 pub record Vouches (q : Request) (r : Vouched) : Type 0 where
   pub is : r .number ≡ first (vouchingPart q)
   pub holds : (r .number ≡ 9 → ⊥) → IsToken (tokenOf q) (r .token)
 
-abbrev pub VouchIs : Orders → ℕ → List ℕ → ArmorRequest → Hash → List ℕ → List ℕ → List ℕ → List ℕ → List ℕ → Vouched → Type 0
-VouchIs o clock server-key request hash method head aside path body r =
+abbrev pub VouchIs : Orders → ℕ → List ℕ → ArmorRequest → List ℕ → Hash → List ℕ → List ℕ → List ℕ → List ℕ → List ℕ → Vouched → Type 0
+VouchIs o clock server-key request run hash method head aside path body r =
     (value reply : List ℕ)
     → let q = requestOf o clock server-key value method head aside path body reply in
-    Holds value (carried value) request → hashOf q ≡ hash → Vouches q r
+    Holds value (carried value) request → Lies (carried value) request run → hashOf q ≡ hash → Vouches q r
 
 -- 12 to 16: the number, and where it is 0 and nonces are ordered the next record
 pub record Admits (q : Request) (table : List ℕ) (r : Admitted) : Type 0 where
@@ -108,8 +109,8 @@ pub record Settles (q : Request) (table : List ℕ) (d : Decision) : Type 0 wher
   pub orders : d .number ≡ 0 → d .nonces ≡ ordered q
   pub next : d .number ≡ 0 → ordered q ≡ true → d .next ≡ nextOf q table
 
-abbrev pub SettleIs : Orders → ℕ → List ℕ → ArmorRequest → Limits → List ℕ → List ℕ → List ℕ → List ℕ → List ℕ → Place → Record → Decision → Type 0
-SettleIs o clock server-key request within method head aside path body place held d =
+abbrev pub SettleIs : Orders → ℕ → List ℕ → ArmorRequest → List ℕ → Limits → List ℕ → List ℕ → List ℕ → List ℕ → List ℕ → Place → Record → Decision → Type 0
+SettleIs o clock server-key request run within method head aside path body place held d =
     (value reply table : List ℕ)
     → let q = requestOf o clock server-key value method head aside path body reply in
-    Holds value (carried value) request → within ≡ limitsOf o → StandsAt q table place held → Settles q table d
+    Holds value (carried value) request → Lies (carried value) request run → within ≡ limitsOf o → StandsAt q table place held → Settles q table d

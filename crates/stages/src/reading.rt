@@ -15,7 +15,7 @@ use armor::Request;
 use names::token::is_token;
 use orders::Numbers;
 
-// The number that the checks come to, and where it is 0 what the value carries.
+// The number that the checks come to, and where it is 0 what the value carries, its byte fields in the run that armor tells of.
 pub struct Reading {
     pub number: u32,
     pub request: Request,
@@ -29,11 +29,12 @@ pub fn read(
     method: &[u8],
     head: &[u8],
     aside: &[u8],
+    fields: &mut [u8],
 ) -> Reading
-    requires { ⌜ Known (now known) × (goodExtra (now extra) ≡ true) × (length (now value) ≤ 4096) ⌝ }
-    ensures { λ r. ⌜ ReadIs (orders numbers (now (extra .entry))) (now (value .entry)) (now (method .entry)) (now (head .entry)) (now (aside .entry)) r ⌝ }
+    requires { ⌜ Known (now known) × (goodExtra (now extra) ≡ true) × (length (now value) ≤ 4096) × (length (now fields) ≡ 210) ⌝ }
+    ensures { λ r. ⌜ ReadIs (orders numbers (now (extra .entry))) (now (value .entry)) (now (method .entry)) (now (head .entry)) (now (aside .entry)) (now (fields .exit)) r ⌝ }
 {
-    let heard = armor::read_request(value);
+    let heard = armor::read_request(value, fields);
     let request = heard.request;
     let answer = heard.answer;
     match answer {

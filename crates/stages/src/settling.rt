@@ -39,6 +39,7 @@ pub fn settle<'a>(
     clock: Time,
     server_key: &[u8],
     request: Request,
+    fields: &[u8],
     limits: Limits,
     method: &[u8],
     head: &'a [u8],
@@ -48,8 +49,8 @@ pub fn settle<'a>(
     place: Place,
     held: Record,
 ) -> Decision
-    requires { ⌜ Known (now known) × (goodExtra (now extra) ≡ true) × (length (now «server_key») ≡ 32) × (request .«s_len» ≤ 118) × (request .«c_len» ≤ 64) × (length (now method) ≤ 16) × (length (now head) ≤ 16384) × (length (now aside) ≤ 16384) × (length (now path) ≤ 2048) × (length (now body) ≤ 65536) ⌝ }
-    ensures { λ r. ⌜ SettleIs (orders numbers (now (extra .entry))) (clock .0) (now («server_key» .entry)) request limits (now (method .entry)) (now (head .entry)) (now (aside .entry)) (now (path .entry)) (now (body .entry)) place held r ⌝ }
+    requires { ⌜ Known (now known) × (goodExtra (now extra) ≡ true) × (length (now «server_key») ≡ 32) × (request .«s_len» ≤ 118) × (request .«c_len» ≤ 64) × (length (now fields) ≡ 210) × (length (now method) ≤ 16) × (length (now head) ≤ 16384) × (length (now aside) ≤ 16384) × (length (now path) ≤ 2048) × (length (now body) ≤ 65536) ⌝ }
+    ensures { λ r. ⌜ SettleIs (orders numbers (now (extra .entry))) (clock .0) (now («server_key» .entry)) request (now (fields .entry)) limits (now (method .entry)) (now (head .entry)) (now (aside .entry)) (now (path .entry)) (now (body .entry)) place held r ⌝ }
 {
     let hash = hashes::named(request.h);
     let vouched = vouching::vouch(
@@ -59,6 +60,7 @@ pub fn settle<'a>(
         clock,
         server_key,
         request,
+        fields,
         hash,
         method,
         head,

@@ -26,6 +26,7 @@ pub fn vouch<'a>(
     clock: Time,
     server_key: &[u8],
     request: Request,
+    fields: &[u8],
     hash: Hash,
     method: &[u8],
     head: &'a [u8],
@@ -33,14 +34,17 @@ pub fn vouch<'a>(
     path: &[u8],
     body: &[u8],
 ) -> Vouched
-    requires { ⌜ Known (now known) × (goodExtra (now extra) ≡ true) × (length (now «server_key») ≡ 32) × (request .«s_len» ≤ 118) × (request .«c_len» ≤ 64) × (length (now method) ≤ 16) × (length (now head) ≤ 16384) × (length (now aside) ≤ 16384) × (length (now path) ≤ 2048) × (length (now body) ≤ 65536) ⌝ }
-    ensures { λ r. ⌜ VouchIs (orders numbers (now (extra .entry))) (clock .0) (now («server_key» .entry)) request hash (now (method .entry)) (now (head .entry)) (now (aside .entry)) (now (path .entry)) (now (body .entry)) r ⌝ }
+    requires { ⌜ Known (now known) × (goodExtra (now extra) ≡ true) × (length (now «server_key») ≡ 32) × (request .«s_len» ≤ 118) × (request .«c_len» ≤ 64) × (length (now fields) ≡ 210) × (length (now method) ≤ 16) × (length (now head) ≤ 16384) × (length (now aside) ≤ 16384) × (length (now path) ≤ 2048) × (length (now body) ≤ 65536) ⌝ }
+    ensures { λ r. ⌜ VouchIs (orders numbers (now (extra .entry))) (clock .0) (now («server_key» .entry)) request (now (fields .entry)) hash (now (method .entry)) (now (head .entry)) (now (aside .entry)) (now (path .entry)) (now (body .entry)) r ⌝ }
 {
-    let iv = request.iv;
-    let s = request.s;
+    // Where iv, s, tag and c lie in the run: armor::Request.
     let s_len = request.s_len;
-    let tag = request.tag;
-    let token = token::unseal(server_key, &iv, &s[..s_len], &tag);
+    let token = token::unseal(
+        server_key,
+        &fields[182..194],
+        &fields[..s_len],
+        &fields[194..210],
+    );
     if !token.good {
         return Vouched { number: 9, token };
     }
@@ -67,8 +71,8 @@ pub fn vouch<'a>(
         path,
         body,
     );
-    let c = request.c;
-    if !signed::same_code(c, request.c_len, code, hash) {
+    let end = 118 + request.c_len;
+    if !signed::same_code(&fields[118..end], code, hash) {
         return Vouched { number: 11, token };
     }
     Vouched { number: 0, token }

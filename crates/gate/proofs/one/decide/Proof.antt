@@ -55,38 +55,41 @@ unfolding entryPart
 entered c = entry-passed _ _ _ (passed c)
 
 read-requires : tie.Need-read-requires
-read-requires c κs = (begun (c .before .before) .pre, good-extra _ (entered c .orders), sized (asked (begun (c .before .before))) _ (entered c .sizes) .value)
+read-requires c κs =
+    (begun (c .before .before .before) .pre, good-extra _ (entered (c .before) .orders), sized (asked (begun (c .before .before .before))) _ (entered (c .before) .sizes) .value, search needs)
 
 returns-2 : tie.Need-returns-2
 returns-2 c =
-    unread (asked (begun (c .before .before .before .before .before .before))) (lent (begun (c .before .before .before .before .before .before))) _ (c .before .before .before .read .result .number) (passed (c .before .before .before .before)) (c .refused2 .ensures)
-    (c .before .before .before .read .ensures _ _ _ _ _ .is) (c .before .if2 .taken)
+    unread (asked (begun (c .before .before .before .before .before .before .before .before))) (lent (begun (c .before .before .before .before .before .before .before .before))) _ (c .before .before .before .before .read .result .number) (passed (c .before .before .before .before .before .before)) (c .refused2 .ensures)
+    (c .before .before .before .before .read .ensures _ _ _ _ _ .is) (c .before .if2 .taken)
 
 -- the session's place, and what its record holds
-stands : (c : tie.After-place-of) → StandsAt (asked (begun (c .before .before .before .before .before .before .before))) (lent (begun (c .before .before .before .before .before .before .before)) .table) (c .place-of .result) (begun (c .before .before .before .before .before .before .before) .args .«record»)
+stands : (c : tie.After-place-of) → StandsAt (asked (begun (c .before .before .before .before .before .before .before .before .before .before .before))) (lent (begun (c .before .before .before .before .before .before .before .before .before .before .before)) .table) (c .place-of .result) (begun (c .before .before .before .before .before .before .before .before .before .before .before) .args .«record»)
 unfolding ivOf fieldsOf
 stands c =
-    let q = asked (begun (c .before .before .before .before .before .before .before)) in
-    let held = c .before .before .before .before .read .ensures (q .clock) (q .server-key) (q .path) (q .body) (q .reply) .holds (c .before .before .if2 .left) in
-    record { at = rw (← (held .vector)) (sym (c .place-of .ensures)); holds = one-held _ (fits (begun (c .before .before .before .before .before .before .before))) _ _ (c .place-of .ensures) }
+    let q = asked (begun (c .before .before .before .before .before .before .before .before .before .before .before)) in
+    let lies = c .before .before .before .before .before .before .before .read .ensures (q .clock) (q .server-key) (q .path) (q .body) (q .reply) .lies (c .before .before .before .before .if2 .left) in
+    record { at = rw (← (lies .vector)) (sym (c .place-of .ensures)); holds = one-held _ (fits (begun (c .before .before .before .before .before .before .before .before .before .before .before))) _ _ (c .place-of .ensures) }
 
 settle-requires : tie.Need-settle-requires
 settle-requires c κs =
-    let size = sized (asked (begun (c .before .before .before .before .before .before .before))) _ (entered (c .before .before .before .before .before) .sizes) in
-    let held = c .before .before .before .before .read .ensures 0 [] [] [] [] .holds (c .before .before .if2 .left) in
-    (begun (c .before .before .before .before .before .before .before) .pre, good-extra _ (entered (c .before .before .before .before .before) .orders), size .key, held .token-fits, held .signature-fits, size .method, size .head, size .aside, size .path, size .body)
+    let size = sized (asked (begun (c .before .before .before .before .before .before .before .before .before .before .before .before))) _ (entered (c .before .before .before .before .before .before .before .before .before .before) .sizes) in
+    let held = c .before .before .before .before .before .before .before .before .read .ensures 0 [] [] [] [] .holds (c .before .before .before .before .before .if2 .left) in
+    (begun (c .before .before .before .before .before .before .before .before .before .before .before .before) .pre, good-extra _ (entered (c .before .before .before .before .before .before .before .before .before .before) .orders), size .key, held .token-fits, held .signature-fits, search needs, size .method, size .head, size .aside, size .path, size .body)
 
 returns-3 : tie.Need-returns-3
 unfolding ivOf fieldsOf
 returns-3 c =
-    let q = asked (begun (c .before .before .before .before .before .before .before .before)) in
-    let read = c .before .before .before .before .before .read .ensures (q .clock) (q .server-key) (q .path) (q .body) (q .reply) in
-    let held = read .holds (c .before .before .before .if2 .left) in
-    decided-by q (lent (begun (c .before .before .before .before .before .before .before .before))) _ (passed (c .before .before .before .before .before .before)) (sym (read .is) ∙ c .before .before .before .if2 .left) (sized q _ (entered (c .before .before .before .before .before .before) .sizes) .reply)
-    (one-within _ (fits (begun (c .before .before .before .before .before .before .before .before))) _)
-    (c .settle .ensures _ _ _ held (entry (c .before .before .before .before .before .before .before .before) .limits (c .before .before .before .before .before .before .if1 .left)) (stands (c .before)))
+    let q = asked (begun (c .before .before .before .before .before .before .before .before .before .before .before .before .before)) in
+    let read = c .before .before .before .before .before .before .before .before .before .read .ensures (q .clock) (q .server-key) (q .path) (q .body) (q .reply) in
+    let held = read .holds (c .before .before .before .before .before .before .if2 .left) in
+    let lies = read .lies (c .before .before .before .before .before .before .if2 .left) in
+    decided-by q (lent (begun (c .before .before .before .before .before .before .before .before .before .before .before .before .before))) _ (passed (c .before .before .before .before .before .before .before .before .before .before .before)) (sym (read .is) ∙ c .before .before .before .before .before .before .if2 .left) (sized q _ (entered (c .before .before .before .before .before .before .before .before .before .before .before) .sizes) .reply)
+    (one-within _ (fits (begun (c .before .before .before .before .before .before .before .before .before .before .before .before .before))) _)
+    (c .settle .ensures _ _ _ held lies (entry (c .before .before .before .before .before .before .before .before .before .before .before .before .before) .limits (c .before .before .before .before .before .before .before .before .before .before .before .if1 .left)) (stands (c .before .before)))
 
 pub decide-spec : {M : Type 1} → statement M
 decide-spec =
-    tie.close (tie.spec (λ c κs. search needs) (λ c κs. search needs) (λ c κs. search needs) (λ c κs. search needs) returns read-requires
-    (λ c κs. search needs) returns-2 (λ c κs. search needs) settle-requires returns-3)
+    tie.close (tie.spec (λ c κs. search needs) (λ c κs. search needs) (λ c κs. search needs) (λ c κs. search needs) returns (λ c. search needs)
+    read-requires (λ c κs. search needs) returns-2 (λ c. search needs) (λ c. search needs) (λ c. search needs) (λ c κs. search needs)
+    (λ c. search needs) settle-requires returns-3)

@@ -11,10 +11,10 @@ fits c =
     record { used = search needs; iv = search needs; expiry = search needs; any = search needs; highest = search needs; bits = search needs; hash = search needs }
 
 returns : tie.Need-returns
-returns c = rw (one-found _ (fits (c .before .before .before .before)) _, ← (c .before .is-of .ensures), c .if1 .taken)
+returns c = rw (one-found _ (fits (c .before .before .before)) _, ← (c .before .is-of .ensures), c .if1 .taken)
 
 returns-2 : tie.Need-returns-2
-returns-2 c = rw (one-found _ (fits (c .before .before .before .before)) _, ← (c .before .is-of .ensures), c .if1 .left)
+returns-2 c = rw (one-found _ (fits (c .before .before .before)) _, ← (c .before .is-of .ensures), c .if1 .left)
 
 pub place-of-spec : {M : Type 1} → statement M
-place-of-spec = tie.close (tie.spec (λ c. search needs) (λ c κs. search needs) returns returns-2)
+place-of-spec = tie.close (tie.spec (λ c κs. search needs) returns returns-2)
