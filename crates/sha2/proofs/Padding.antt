@@ -44,7 +44,7 @@ two-words Sha512 x small =
     let e : x / 2 ^ (8 * 8) ≡ 0 = omega arith in
     bytesOf-append 8 8 x ∙ ap (λ (y : ℕ). bytesOf 8 y ++ bytesOf 8 x) e
 
--- an array of zeros, with the bytes xs at its front, 128 after them, and eight bytes after z + e zeros more
+-- an array of zeros, with the bytes xs at its front, 128 after them, and others from an index on
 abbrev laid : List ℕ → ℕ → List ℕ → List ℕ
 laid xs at last = spliced (set (fronted xs (replicate 256 0)) (length xs) 128) at last
 

@@ -79,7 +79,7 @@ fn turn(v: Narrow, w: &mut [u32; 16], t: usize, k: u32) -> Narrow
     round(v, k, x)
 }
 
-// The rounds, each with its constant of 4.2.2.
+// The rounds, each with its constant of 4.2.2: a table of them would lie on the stack.
 fn rounds_0_15(v: Narrow, w: &mut [u32; 16], block: &[u8]) -> Narrow
     requires { ⌜ length (now block) ≡ 64 ⌝ }
     ensures { λ r. ⌜ ((v0 : Declared.Words) → Turned Sha256 (now (block .entry)) v0 0 (wide v) (now (w .entry)) → Turned Sha256 (now (block .entry)) v0 16 (wide r) (now (w .exit))) ⌝ }

@@ -66,7 +66,7 @@ fn turn(v: Words, w: &mut [u64; 16], t: usize, k: u64) -> Words
     round(v, k, x)
 }
 
-// The rounds, each with its constant of 4.2.3.
+// The rounds, each with its constant of 4.2.3: a table of them would lie on the stack.
 fn rounds_0_15(v: Words, w: &mut [u64; 16], block: &[u8]) -> Words
     requires { ⌜ length (now block) ≡ 128 ⌝ }
     ensures { λ r. ⌜ ((v0 : Declared.Words) → Turned Sha512 (now (block .entry)) v0 0 v (now (w .entry)) → Turned Sha512 (now (block .entry)) v0 16 r (now (w .exit))) ⌝ }

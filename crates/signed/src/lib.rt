@@ -38,6 +38,7 @@ pub fn code<'a>(
     requires { ⌜ Known (now known) × (length (now key) < 2 ^ 61) × (length (now method) ≤ 16) × (goodExtra (now extra) ≡ true) × (length (now head) ≤ 16384) × (length (now aside) ≤ 16384) × (length (now path) ≤ 2048) × (length (now body) ≤ 65536) ⌝ }
     ensures { λ r. ⌜ take (digestSize hash) r ≡ hmacOf hash (now (key .entry)) (requestText (now (method .entry)) hash mask (now (extra .entry)) (n .0) (t .0) (lt .0) (now (aside .entry)) (now (head .entry)) (now (path .entry)) (now (body .entry))) ⌝ }
 {
+    // One variable: each state with a name of its own lies on the stack by itself.
     let mut s = hmac::begin(hash, key);
     s = opening(s, method, hash, mask, extra, n, t, lt);
     s = values(s, known, mask, extra, head, aside);

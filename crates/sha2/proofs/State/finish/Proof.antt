@@ -1,8 +1,8 @@
 -- `sha2::State::finish` meets its contract: the block that was begun and the padding are whole blocks, side by side.
 -- Assumes nothing.
 use borrow.Author.Needs.{needs}
-use mathlib.Core.Path.{_≡_, refl, sym, ap, ap₂, _∙_, subst}
-use mathlib.Core.List.{List, _++_}
+use mathlib.Core.Path.{_≡_, sym, ap, ap₂, _∙_, subst}
+use mathlib.Core.List.{List}
 use Prim.Native.Nat.{ℕ, _+_, _-_, _*_, _/_, _%_, _≤_}
 use native.Mathlib.Omega.{arith}
 use lib.ListN.{length, take, set, replicate, length-set}
@@ -13,11 +13,10 @@ use Rattle.hashes.specs.declared.Hash.{Hash}
 use Rattle.hashes.specs.Hashes.{digestSize}
 use Rattle.sha2.specs.Constants.{initial}
 use Rattle.sha2.specs.Hash.{blockSize, padding, padded, afterBlocks, digest, sha2}
-use Rattle.sha2.specs.InnerTaken.{Taken}
 use Rattle.sha2.specs.InnerWords.{Fit}
 use Rattle.sha2.proofs.Fitting.{blocks-fit}
 use Rattle.sha2.proofs.Padding.{end, closes, length-padding, padding-laid}
-use Rattle.sha2.proofs.Streaming.{counts, pending, closed-by}
+use Rattle.sha2.proofs.Streaming.{counts, closed-by}
 use Rattle.sha2.proofs.State.finish.Statement.{statement}
 use Rattle.sha2.proofs.State.finish.Tie as tie
 
