@@ -6,11 +6,12 @@ use Prim.Native.Nat.{ℕ, zero, suc, _+_, _-_, _*_, _/_, _%_, _^_, _≤_, _<_}
 use native.Mathlib.Nat.{not-suc-le-zero, le-of-suc-le-suc}
 use native.Mathlib.Decide.{decLt}
 use native.Mathlib.Omega.{arith}
-use lib.ListN.{length, getD, drop, set, length-append, List·getD-append}
-use lib.Seq.{drop-cons, lt-length-set, getD-set-same, drop-set-lt}
+use lib.ListN.{length, getD, take, drop, set, length-append, length-drop, List·getD-append}
+use lib.Seq.{take-all, drop-cons, lt-length-set, getD-set-same, drop-set-lt}
 use borrow.Author.Tests.{lt-ltb, le-ltb}
 use Rattle.cells.specs.Runs.{Bytes}
-use Rattle.cells.specs.Decimal.{decimalTo, decimal, valueAfter}
+use Rattle.cells.specs.Decimal.{decimalTo, decimal, valueAfter, Shown}
+use Rattle.cells.specs.declared.decimal.Decimal.{Decimal}
 
 -- any depth above the number serves
 to-any : (depth other n : ℕ) → n < depth → n < other → decimalTo depth n ≡ decimalTo other n
@@ -131,3 +132,7 @@ last-laid n left start all e h g = stored-digit all start (48 + left) g ∙ sym 
 pub fewer : (start left : ℕ) → left < 10 ^ suc start → 10 ≤ left → (1 ≤ start) × (left / 10 < 10 ^ start)
 fewer zero left h g = absurd (omega arith)
 fewer (suc start) left h g = omega arith
+
+-- the part of an array that shows a number
+pub shown-piece : (n : ℕ) (r : Decimal) → Shown n r → take (20 - r .start) (drop (r .start) (r .all)) ≡ decimal n
+shown-piece n r h = take-all (20 - r .start) (drop (r .start) (r .all)) (omega (arith, length-drop (r .start) (r .all), h .size)) ∙ h .shows

@@ -6,10 +6,9 @@ use Prim.Native.Nat.{ℕ, _+_, _-_, _*_, _^_, _<_, _≤_}
 use native.Mathlib.Nat.{pow-le-pow-right}
 use native.Mathlib.Numerals.{add-one}
 use native.Mathlib.Omega.{arith}
-use lib.ListN.{length, getD, take, drop, length-drop}
-use lib.Seq.{take-suc, take-all}
-use Rattle.cells.specs.Decimal.{decimal, valueAfter, Shown}
-use Rattle.cells.specs.declared.decimal.Decimal.{Decimal}
+use lib.ListN.{length, getD, take}
+use lib.Seq.{take-suc}
+use Rattle.cells.specs.Decimal.{decimal, valueAfter}
 use Rattle.cells.proofs.Digits.{value-append, value-decimal, decimal-injective}
 use Rattle.token.specs.declared.expiry.Expiry.{Expiry}
 use Rattle.token.specs.declared.expiry.Expiry.the-variants as E
@@ -30,10 +29,6 @@ bounded i v h g = omega (arith, pow-le-pow-right {n = 16} (omega arith) h)
 -- the only number whose digits they can be
 pub only-number : (digits : List ℕ) (n : ℕ) → digits ≡ decimal n → valueAfter 0 digits ≡ n
 only-number digits n e = ap (valueAfter 0) e ∙ value-decimal n
-
--- the part of an array that shows a number
-pub shown-piece : (n : ℕ) (r : Decimal) → Shown n r → take (20 - r .start) (drop (r .start) (r .all)) ≡ decimal n
-shown-piece n r h = take-all (20 - r .start) (drop (r .start) (r .all)) (omega (arith, length-drop (r .start) (r .all), h .size)) ∙ h .shows
 
 -- two answers that `expiry::read` may give are one
 pub expiry-determined : (digits : List ℕ) (a b : Expiry) → ExpiryIs digits a → ExpiryIs digits b → a ≡ b

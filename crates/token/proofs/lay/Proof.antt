@@ -8,9 +8,9 @@ use borrow.Author.Needs.{needs}
 use lib.ListN.{length, take, drop}
 use Rattle.cells.specs.InnerLaid.{Laid}
 use Rattle.cells.proofs.Laid.{laid-more}
+use Rattle.cells.proofs.Digits.{shown-piece}
 use Rattle.netstring.specs.Netstring.{netstring, netstrings}
 use Rattle.token.specs.Token.{tokenText}
-use Rattle.token.proofs.Digits.{shown-piece}
 use Rattle.token.proofs.Text.{short}
 use Rattle.token.proofs.lay.Statement.{statement}
 use Rattle.token.proofs.lay.Tie as tie
