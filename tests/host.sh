@@ -1,4 +1,4 @@
-# For tests that link a C host with our static libraries, which the kit compiles for x86-64: sets CC and RUN for this machine.
+# For tests that link a C host with our static libraries or run our programs, which the kit compiles for x86-64: sets CC and RUN for this machine.
 . tests/packages.sh
 
 case $(uname -m) in
@@ -9,7 +9,7 @@ case $(uname -m) in
   *)
     need x86_64-linux-gnu-gcc gcc-x86-64-linux-gnu libc6-dev-amd64-cross
     need qemu-x86_64 qemu-user
-    CC="x86_64-linux-gnu-gcc -static" RUN=qemu-x86_64
+    CC="x86_64-linux-gnu-gcc -static" RUN="qemu-x86_64 -L /usr/x86_64-linux-gnu"
     ;;
 esac
 

@@ -87,6 +87,12 @@ def run_rules(arguments):
     return rules.run(sys.stdout)
 
 
+def run_logs(arguments):
+    from logs import play  # here alone: the calls know nothing of it
+
+    return play.run(sys.stdout, arguments.program, arguments.seed, arguments.count)
+
+
 def report_numbers(counts):
     """True if every number 0 to 20 came up."""
     missing = [number for number in range(21) if counts.numbers[number] == 0]
@@ -130,6 +136,11 @@ def command_line():
 
     command = commands.add_parser("rules", help="hold docs/RULES.md to the model")
     command.set_defaults(run=run_rules)
+
+    command = commands.add_parser("logs", help="hold a program that counts an access log to the counter")
+    add_seed_and_count(command)
+    command.add_argument("program", nargs="+")
+    command.set_defaults(run=run_logs)
 
     command = commands.add_parser("coverage", help="count how often each number and each fault comes up")
     add_seed_and_count(command)

@@ -1,4 +1,4 @@
--- Laws of the counts: one line more, and the sum of all. A theorem: the counts and unread add up to the lines.
+-- Laws of the counts: one line more, and the sum of all.
 -- Assumes nothing.
 use mathlib.Core.Path.{_≡_, refl, sym, ap, ap₂, _∙_}
 use mathlib.Core.List.{List, [], _∷_, _++_, append-assoc, append-nil}
@@ -14,7 +14,7 @@ use lib.Seq.{ext-getD, set-out, getD-set-same, getD-set-other}
 use Rattle.cells.proofs.Tests.{tested}
 use Rattle.logs.specs.Line.{line}
 use Rattle.logs.specs.Counts.{LF, before, lines, firstOf, under, times, each, counts, sum}
-use Rattle.logs.specs.InnerState.{counted, countedAll}
+use Rattle.logs.specs.InnerLines.{counted, countedAll}
 
 -- a line goes under one of the 600
 first-below : (p : ℕ → Bool) (s n : ℕ) → 0 < s + n → firstOf p s n < s + n
@@ -44,7 +44,7 @@ pub counts-length : (ls : List (List ℕ)) → length (counts ls) ≡ 600
 unfolding counts
 counts-length ls = each-length (λ s. times s ls) 0 600
 
-counts-at : (ls : List (List ℕ)) (s : ℕ) → s < 600 → getD (counts ls) s 0 ≡ times s ls
+pub counts-at : (ls : List (List ℕ)) (s : ℕ) → s < 600 → getD (counts ls) s 0 ≡ times s ls
 unfolding counts
 counts-at ls s h = each-at (λ t. times t ls) 0 600 s h ∙ ap (λ (t : ℕ). times t ls) (zero-add s)
 
@@ -98,7 +98,7 @@ sum-set [] i h = absurd (omega (arith, h))
 sum-set (n ∷ ns) zero h = omega arith
 sum-set (n ∷ ns) (suc i) h = omega (arith, sum-set ns i (omega arith))
 
-sum-all : (ns : List ℕ) (ls : List (List ℕ)) → length ns ≡ 600 → sum (countedAll ns ls) ≡ sum ns + length ls
+pub sum-all : (ns : List ℕ) (ls : List (List ℕ)) → length ns ≡ 600 → sum (countedAll ns ls) ≡ sum ns + length ls
 unfolding countedAll
 sum-all ns [] h = sym (add-zero (sum ns))
 sum-all ns (l ∷ ls) h =
@@ -138,8 +138,3 @@ sum-lines ns text = omega (arith, sum-all-most ns (lines text), lines-within tex
 pub counts-none : counts [] ≡ replicate 600 0
 unfolding counts each times
 counts-none = refl
-
--- the counts and unread add up to the lines
-pub total : (text : List ℕ) → sum (counts (lines text)) ≡ length (lines text)
-unfolding sum
-total text = ap sum (sym (counts-all [] (lines text))) ∙ sum-all (counts []) (lines text) (counts-length []) ∙ rw counts-none (zero-add (length (lines text)))

@@ -5,5 +5,7 @@ pub mod Statuses
 pub mod Lines
 pub mod Counting
 pub mod States
+pub mod OneStatus
+pub mod Theorems
 pub mod Printing
 pub mod Examples

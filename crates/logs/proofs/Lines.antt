@@ -16,7 +16,7 @@ use Rattle.cells.proofs.Spans.{span-all}
 use Rattle.cells.proofs.Tests.{both}
 use Rattle.logs.specs.Line.{other}
 use Rattle.logs.specs.Counts.{LF, lines}
-use Rattle.logs.specs.InnerState.{Ended}
+use Rattle.logs.specs.Taken.{Ended}
 use Rattle.logs.proofs.Parts.{found}
 
 -- a line that ends, and those after it

@@ -16,7 +16,7 @@ use Rattle.cells.specs.Spans.{all, leading, Spans}
 use Rattle.cells.proofs.Tests.{tested, both}
 use Rattle.logs.specs.Line.{Kind, _then_, byte, space, date, other, oneOrMore, digit, size}
 use Rattle.logs.specs.InnerParts.{wordPart, datePart, requestPart, Past}
-use Rattle.logs.proofs.Texts.{is-other, byte-then, byte-none, byte-stops, all-then, some-then, quoted, request-quote, request-plain, request-shield, request-none}
+use Rattle.logs.proofs.Texts.{is-other, byte-then, byte-none, word-ends, date-ends, quoted, request-quote, request-plain, request-shield, request-none}
 
 -- a space, after what has to be good
 abbrev pub after : Bool → Kind → Kind
@@ -55,11 +55,11 @@ module _ (xs : List ℕ) where
       past-none (after good) end (length xs) refl
       (λ rest. rw (byte-at 32 rest end h, ← (and-assoc good (eqb (getD xs end 0) 32) (rest (drop (end + 1) xs))), t) refl)
 
-  -- a word ends at the first space
+  -- where a word ends
   pub word-past : (at end r : ℕ) → Spans (other 32) xs at end → Past (after (ltb at end)) xs end r → Past wordPart xs at r
   word-past at end r s p = record {
     is = λ rest e.
-        some-then (other 32) (space then rest) (byte-stops 32 rest) (drop at xs)
+        word-ends rest (drop at xs)
         ∙ ap₂ _&&_ size (ap (space then rest) (drop-drop (leading (other 32) (drop at xs)) at xs ∙ ap (λ (n : ℕ). drop n xs) (sym (s .is))))
         ∙ p .is rest e;
     within = p .within;
@@ -78,7 +78,7 @@ module _ (xs : List ℕ) where
       let stop : other b (getD (drop at xs) k 0) ≡ false = halts (other b) (drop at xs) (omega (arith, s .is, length-drop at xs)) in
       eqb-true (getD xs r 0) b (not-false _ (rw (s .is, ← (getD-drop at xs k 0)) stop))
 
-  -- a date ends at the first bracket
+  -- where a date ends
   date-front : (at end : ℕ) (b : Kind) → at < length xs → Spans (other 93) xs at end
       → (byte 91 then date then byte 93 then b) (drop at xs) ≡ (eqb (getD xs at 0) 91 && (byte 93 then b) (drop end xs))
   unfolding leading
@@ -89,7 +89,7 @@ module _ (xs : List ℕ) where
       (λ e. let opens = is-other 93 (getD xs at 0) (omega (arith, eqb-true (getD xs at 0) 91 e)) in
       let ends : at + 1 + k ≡ end =
       omega (arith, rw (drop-cons xs at 0 h, opens) at (s .is), ap (λ (n : ℕ). leading (other 93) (drop n xs)) (add-one at)) in
-      rw e (all-then (other 93) (byte 93 then b) (byte-stops 93 b) (drop (at + 1) xs)
+      rw e (date-ends b (drop (at + 1) xs)
       ∙ ap (byte 93 then b) (drop-drop k (at + 1) xs ∙ ap (λ (n : ℕ). drop n xs) ends)))
       (λ e. rw e refl)
 

@@ -12,7 +12,8 @@ use Rattle.cells.proofs.Runs.{front-spliced}
 use Rattle.cells.proofs.Tests.{both}
 use Rattle.logs.specs.Line.{other}
 use Rattle.logs.specs.Counts.{LF, lines, under, counts, sum}
-use Rattle.logs.specs.InnerState.{counted, countedAll, Holds, TookIn, LinesCounted}
+use Rattle.logs.specs.Taken.{Holds, TookIn}
+use Rattle.logs.specs.InnerLines.{counted, countedAll, LinesCounted}
 use Rattle.logs.specs.declared.state.State.{State}
 use Rattle.logs.proofs.Lines.{fed, fed-ends, unfed, ended-more, ended-none}
 use Rattle.logs.proofs.Counting.{counts-more, counts-all, sum-set-most, sum-lines}

@@ -110,14 +110,14 @@ module _ (p : ℕ → Bool) (r : ℕ) where
   first-missing s (suc n) is h =
       rw (is s (omega arith) (omega arith), ne-eqb s r (omega arith)) (first-missing (suc s) n (λ t l u. is t (omega arith) (omega arith)) (omega arith))
 
-  only-first : Only p r → firstOf p 100 500 ≡ r
+  pub only-first : Only p r → firstOf p 100 500 ≡ r
   only-first o = elim (decLt r 100) [
     | yes l ↦ first-missing 100 500 (λ t h k. o .is t h (omega arith)) l ∙ sym (o .none l)
     | no l ↦ first-found 100 500 (λ t h k. o .is t h (omega arith)) (omega arith) (omega (arith, o .below))
   ]
 
 -- the status at the front of the rest of a line
-status-front : (s : ℕ) (xs : List ℕ) → 100 ≤ s → s < 600 → statusPart s xs ≡ (status s (take 3 xs) && (space then size) (drop 3 xs))
+pub status-front : (s : ℕ) (xs : List ℕ) → 100 ≤ s → s < 600 → statusPart s xs ≡ (status s (take 3 xs) && (space then size) (drop 3 xs))
 status-front s xs l u =
     let three : length (decimal s) ≡ 3 = ap length (three-digits s l u) in
     given-then (decimal s) (space then size) xs ∙ ap (λ (n : ℕ). same (decimal s) (take n xs) && (space then size) (drop n xs)) three

@@ -11,7 +11,7 @@ use lib.ListN.{length, take, drop}
 use Rattle.cells.specs.Runs.{same}
 use Rattle.cells.specs.Spans.{all, leading}
 use Rattle.cells.proofs.Tests.{tested}
-use Rattle.logs.specs.Line.{Kind, _then_, byte, oneOrMore, other, requestAfter}
+use Rattle.logs.specs.Line.{Kind, _then_, byte, oneOrMore, other, space, word, date, requestAfter}
 
 -- nothing begins with a text of a kind that no text is
 never-then : (b : Kind) (xs : List ℕ) → _then_ (λ ys. false) b xs ≡ false
@@ -58,25 +58,32 @@ module _ (d : ℕ) (b : Kind) where
   byte-none = refl
 
   -- no other byte
-  pub byte-stops : (x : ℕ) (xs : List ℕ) → other d x ≡ true → (byte d then b) (x ∷ xs) ≡ false
+  byte-stops : (x : ℕ) (xs : List ℕ) → other d x ≡ true → (byte d then b) (x ∷ xs) ≡ false
   unfolding other
   byte-stops x xs e = byte-then x xs ∙ rw (not-true (eqb x d) e) refl
 
 -- bytes that pass, before what begins with none that does
 module _ (p : ℕ → Bool) (b : Kind) (stops : (x : ℕ) (xs : List ℕ) → p x ≡ true → b (x ∷ xs) ≡ false) where
-  pub all-then : (xs : List ℕ) → (all p then b) xs ≡ b (drop (leading p xs) xs)
+  all-then : (xs : List ℕ) → (all p then b) xs ≡ b (drop (leading p xs) xs)
   unfolding _then_ all leading
   all-then [] = refl
   all-then (x ∷ xs) =
       ap (λ (t : Bool). b (x ∷ xs) || t) (gated (p x) (all p) b xs)
       ∙ tested (p x) (λ e. rw (stops x xs e, e) (all-then xs)) (λ e. rw e (or-false (b (x ∷ xs))))
 
-  pub some-then : (xs : List ℕ) → (oneOrMore p then b) xs ≡ (ltb 0 (leading p xs) && b (drop (leading p xs) xs))
+  some-then : (xs : List ℕ) → (oneOrMore p then b) xs ≡ (ltb 0 (leading p xs) && b (drop (leading p xs) xs))
   unfolding _then_ oneOrMore all leading
   some-then [] = refl
   some-then (x ∷ xs) =
       gated (p x) (all p) b xs
       ∙ tested (p x) (λ e. rw (e, lt-ltb 0 (suc (leading p xs)) (omega arith)) (all-then xs)) (λ e. rw e refl)
+
+-- a word ends at the first space, a date at the first bracket
+pub word-ends : (b : Kind) (xs : List ℕ) → (word then space then b) xs ≡ (ltb 0 (leading (other 32) xs) && (space then b) (drop (leading (other 32) xs) xs))
+word-ends b = some-then (other 32) (space then b) (byte-stops 32 b)
+
+pub date-ends : (b : Kind) (xs : List ℕ) → (date then byte 93 then b) xs ≡ (byte 93 then b) (drop (leading (other 93) xs) xs)
+date-ends b = all-then (other 93) (byte 93 then b) (byte-stops 93 b)
 
 -- a byte, and another
 pub not-other : (b x : ℕ) → x ≡ b → other b x ≡ false
@@ -98,7 +105,7 @@ module _ (rest : Kind) where
   request-front x xs =
       ap₂ (λ (s t : Bool). s || t) (byte-then 34 rest x xs) (gated (other 34 x) (requestAfter (eqb x 92)) (byte 34 then rest) xs)
 
-  request-more : (x : ℕ) (xs : List ℕ) → (x ≡ 34 → ⊥) → quoted false (x ∷ xs) ≡ quoted (eqb x 92) xs
+  pub request-more : (x : ℕ) (xs : List ℕ) → (x ≡ 34 → ⊥) → quoted false (x ∷ xs) ≡ quoted (eqb x 92) xs
   request-more x xs n = request-front x xs ∙ rw (ne-eqb x 34 n, is-other 34 x n) refl
 
   pub request-quote : (x : ℕ) (xs : List ℕ) → x ≡ 34 → quoted false (x ∷ xs) ≡ rest xs
@@ -108,7 +115,7 @@ module _ (rest : Kind) where
   request-plain x xs n m = request-more x xs n ∙ ap (λ (t : Bool). quoted t xs) (ne-eqb x 92 m)
 
   -- a backslash, and the byte that it shields
-  shielded-more : (xs : List ℕ) → quoted true xs ≡ quoted false (drop 1 xs)
+  pub shielded-more : (xs : List ℕ) → quoted true xs ≡ quoted false (drop 1 xs)
   unfolding _then_ requestAfter same
   shielded-more [] = refl
   shielded-more (x ∷ xs) = refl

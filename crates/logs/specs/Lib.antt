@@ -2,5 +2,6 @@
 pub mod Line
 pub mod Counts
 pub mod Printed
+pub mod Taken
 pub mod InnerParts
-pub mod InnerState
+pub mod InnerLines

@@ -7,7 +7,8 @@ ghost use lib.ListN.{length};
 ghost use Rattle.cells.specs.Spans.{all};
 ghost use Rattle.logs.specs.Line.{other};
 ghost use Rattle.logs.specs.Counts.{LF, lines, counts, sum};
-ghost use Rattle.logs.specs.InnerState.{counted, Holds, TookIn, LinesCounted};
+ghost use Rattle.logs.specs.Taken.{Holds, TookIn};
+ghost use Rattle.logs.specs.InnerLines.{counted, LinesCounted};
 use crate::line::find;
 use crate::line::status;
 

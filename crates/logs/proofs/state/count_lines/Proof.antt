@@ -9,7 +9,8 @@ use lib.ListN.{length, take, drop, length-take}
 use Rattle.cells.specs.Spans.{Spans}
 use Rattle.logs.specs.Line.{other}
 use Rattle.logs.specs.Counts.{LF, lines, sum}
-use Rattle.logs.specs.InnerState.{counted, countedAll, Ended}
+use Rattle.logs.specs.Taken.{Ended}
+use Rattle.logs.specs.InnerLines.{counted, countedAll}
 use Rattle.logs.proofs.Lines.{next-told, next-ends, ended-none, last-unended}
 use Rattle.logs.proofs.Counting.{counted-more, sum-lines}
 use Rattle.logs.proofs.state.count_lines.Statement.{statement}

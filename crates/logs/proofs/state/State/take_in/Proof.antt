@@ -11,7 +11,7 @@ use lib.Seq.{take-all, length-take-le}
 use Rattle.cells.proofs.Spans.{span-all}
 use Rattle.logs.specs.Line.{other}
 use Rattle.logs.specs.Counts.{LF}
-use Rattle.logs.specs.InnerState.{TookIn}
+use Rattle.logs.specs.Taken.{TookIn}
 use Rattle.logs.proofs.Lines.{next-line, cut-rest}
 use Rattle.logs.proofs.States.{took-more}
 use Rattle.logs.proofs.state.State.take_in.Statement.{statement}

@@ -4,20 +4,11 @@ use Prim.Native.Nat.{ℕ, _+_, _≤_, min}
 use mathlib.Core.Path.{_≡_}
 use mathlib.Core.List.{List, [], _∷_, _++_}
 use mathlib.Core.Bool.{true}
-use lib.ListN.{length, getD, take, drop, set}
+use lib.ListN.{length, take}
 use Rattle.cells.specs.Spans.{all}
 use Rattle.logs.specs.Line.{other}
-use Rattle.logs.specs.Counts.{LF, lines, under, counts, sum}
+use Rattle.logs.specs.Counts.{LF, lines, counts, sum}
 use Rattle.logs.specs.declared.state.State.{State}
-
--- one line more
-abbrev pub counted : List ℕ → List ℕ → List ℕ
-counted ns l = set ns (under l) (getD ns (under l) 0 + 1)
-
--- and some
-unfoldable pub countedAll : List ℕ → List (List ℕ) → List ℕ
-countedAll ns [] = ns
-countedAll ns (l ∷ ls) = countedAll (counted ns l) ls
 
 -- a text after which a line begins
 abbrev pub Ended : List ℕ → Type 0
@@ -39,9 +30,12 @@ pub record TookIn (s : State) (part : List ℕ) (r : State) : Type 0 where
   pub most : sum (r .counts) ≤ sum (s .counts) + length part
   pub appended : (text : List ℕ) → Holds s text → Holds r (text ++ part)
 
--- the lines of part that end in it are counted, and the next one begins at byte r
-pub record LinesCounted (ns : List ℕ) (part left : List ℕ) (r : ℕ) : Type 0 where
-  pub within : r ≤ length part
-  pub is : left ≡ countedAll ns (lines (take r part))
-  pub ends : Ended (take r part)
-  pub unended : all (other LF) (drop r part) ≡ true
+-- s took in some parts, one after the other, and became r
+abbrev pub TookInAll : State → List (List ℕ) → State → Type 0
+TookInAll s [] r = s ≡ r
+TookInAll s (part ∷ parts) r = (t : State) × TookIn s part t × TookInAll t parts r
+
+-- parts side by side
+abbrev pub joined : List (List ℕ) → List ℕ
+joined [] = []
+joined (part ∷ parts) = part ++ joined parts
