@@ -1,5 +1,5 @@
 #!/usr/bin/env python3
-"""What a reader must believe, found by following `use`: the spec files that the contracts of the exported calls and the theorems of demands rest on.
+"""What a reader must believe, found by following `use`: the spec files that the contracts of the exported calls and the theorems of demands and logs rest on.
 
 Run from the repository's root. Every such file must be named in docs/TRUST.md's table; every other spec file only names what inner functions
 keep, and its name begins with Inner. With --list, prints the files. The last line is 'N passed, M failed'."""
@@ -9,7 +9,8 @@ import sys
 
 CRATES = pathlib.Path("crates")
 EXPORTS = ["crates/gate/src/lib.rt", "crates/primitives/src/lib.rt"]
-THEOREMS = ["Untouched", "History", "Agreement", "Cases", "Determined", "Client", "Age", "Chosen", "Witnesses"]
+DEMANDS = ["Untouched", "History", "Agreement", "Cases", "Determined", "Client", "Age", "Chosen", "Witnesses"]
+THEOREMS = [*(f"crates/demands/proofs/{name}.antt" for name in DEMANDS), "crates/logs/proofs/Theorems.antt"]
 USE = re.compile(r"^(?:ghost )?use Rattle·(\w+)(?:·specs)?\.specs\.([\w.-]+?)(?: as (\w+))?(?:\.\{([^}]*)\})?;?$", re.M)
 
 
@@ -60,7 +61,7 @@ def roots():
             yield file
     yield from (CRATES / "demands/specs").glob("[!L]*.antt")
     for theorem in THEOREMS:
-        text = (CRATES / "demands/proofs" / (theorem + ".antt")).read_text()
+        text = pathlib.Path(theorem).read_text()
         told = " ".join(statements(text))
         words = set(re.split(r"[\s()×→≡,.{}]+", told))
         for file, names in uses(text):

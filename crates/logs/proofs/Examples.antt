@@ -18,14 +18,6 @@ broken : line 200 (codes "a - b [c d] \"GET \\\" 200 12") ≡ false
 unfolding _then_ oneOrMore other digit requestAfter size commonLog line decimal decimalTo same all codes
 broken = refl
 
-goes : under (codes "a - b [c d] \"GET \\\" /\" 403 12") ≡ 403
-unfolding _then_ oneOrMore other digit requestAfter size commonLog line decimal decimalTo same all codes under firstOf
-goes = refl
-
-none : under (codes "a - b [c d] \"GET \\\" /\" 603 12") ≡ 0
-unfolding _then_ oneOrMore other digit requestAfter size commonLog line decimal decimalTo same all codes under firstOf
-none = refl
-
 -- the report of document 02
 sample :
     printed (counts (lines (codes "a - - [d] \"GET /\" 200 12\nb - - [d] \"GET /\" 403 -\na - - [d] \"GET /\" 200 5\nbroken")))

@@ -48,7 +48,7 @@ module _ (ended begun : List ℕ) (ends : Ended ended) (unended : all (other LF)
       ∙ ap (λ (ls : List (List ℕ)). lines ended ++ ls) (line-ends begun more unended)
       ∙ sym (append-assoc (lines ended) (begun ∷ []) (lines more)) ∙ ap (λ (ls : List (List ℕ)). ls ++ lines more) (sym fed)
 
-  -- none after it, which makes no difference unless the text is at its end
+  -- none after it: the last line is one all the same
   pub unfed : 0 < length begun → lines (ended ++ begun) ≡ lines ((ended ++ begun) ++ LF ∷ [])
   unfed h = ends begun ∙ ap (λ (ls : List (List ℕ)). lines ended ++ ls) (line-unended begun unended h) ∙ sym fed
 

@@ -6,12 +6,12 @@ use Prim.Native.Nat.{ℕ, zero, suc, _+_, _-_, _≤_, _<_}
 use native.Mathlib.Nat.{add-zero}
 use native.Mathlib.Numerals.{add-one}
 use native.Mathlib.Omega.{arith}
-use lib.ListN.{length, getD, take, drop, drop-of-length-le}
+use lib.ListN.{length, getD, drop, drop-of-length-le}
 use lib.Seq.{drop-cons}
 use Rattle.cells.specs.Decimal.{decimal}
 use Rattle.cells.specs.Text.{codes}
 use Rattle.cells.specs.InnerLaid.{Laid}
-use Rattle.cells.proofs.Runs.{length-spliced, front-spliced}
+use Rattle.cells.proofs.Runs.{length-spliced}
 use Rattle.cells.proofs.Laid.{laid-more}
 use Rattle.logs.specs.Counts.{LF, sum}
 use Rattle.logs.specs.Printed.{row, statusRow, rows, printed}
@@ -61,9 +61,7 @@ printed-pieces counts = simp append-assoc
 
 pub laid-printed : {out one two three left : List ℕ} {first second third end : ℕ} (counts : List ℕ) → Laid out one 0 first (codes "status lines" ++ LF ∷ [])
     → Laid one two first second (rows counts 100 500) → Laid two three second third (row (codes "unread") (getD counts 0 0))
-    → Laid three left third end (row (codes "total") (sum counts)) → end ≤ length out → (end ≤ length left) × (take end left ≡ printed counts)
+    → Laid three left third end (row (codes "total") (sum counts)) → end ≤ length out → (end ≤ length left) × Laid out left 0 end (printed counts)
 laid-printed {out = out} {end = end} counts p q r s room =
-    let whole = laid-four p q r s room in (
-      omega (arith, ap length (whole .is) ∙ length-spliced out _ 0 (omega (arith, whole .ends))),
-      ap (take end) (whole .is) ∙ front-spliced out _ 0 end (omega arith) (whole .ends) ∙ printed-pieces counts,
-    )
+    let whole = rw (printed-pieces counts) at (laid-four p q r s room) in
+    (omega (arith, ap length (whole .is) ∙ length-spliced out (printed counts) 0 (omega (arith, whole .ends))), whole)

@@ -1,11 +1,11 @@
 -- Laws of the state: which text it has taken in after each step.
 -- Assumes nothing.
-use mathlib.Core.Path.{_≡_, refl, sym, ap, subst, _∙_}
+use mathlib.Core.Path.{_≡_, refl, sym, ap, _∙_}
 use mathlib.Core.List.{List, [], _∷_, _++_, append-assoc, append-nil}
 use mathlib.Core.Bool.{true}
 use Prim.Native.Nat.{ℕ, _+_, _≤_, _<_, min}
 use native.Mathlib.Omega.{arith}
-use lib.ListN.{length, getD, take, drop, set, length-append, take-append-drop}
+use lib.ListN.{length, getD, take, set, length-append}
 use Rattle.cells.specs.Spans.{all}
 use Rattle.cells.specs.InnerLaid.{Laid}
 use Rattle.cells.proofs.Runs.{front-spliced}
@@ -43,7 +43,6 @@ holds-none s told size = record {
   kept = λ h. rw size refl;
 }
 
--- the bytes of a line that is begun, and some more of it
 all-more : (xs ys : List ℕ) → all (other LF) xs ≡ true → all (other LF) ys ≡ true → all (other LF) (xs ++ ys) ≡ true
 unfolding all
 all-more [] ys h g = g
@@ -51,6 +50,7 @@ all-more (x ∷ xs) ys h g =
     let parts = both (other LF x) (all (other LF) xs) h in
     rw (parts .0) (all-more xs ys (parts .1) g)
 
+-- more of the line that is begun
 module _ (s r : State) (part : List ℕ) (unended : all (other LF) part ≡ true) (same : r .counts ≡ s .counts) where
   took-begun : ((begun : List ℕ) → s .size ≡ min (length begun) 8193 → (s .size ≤ 8192 → take (s .size) (s .begun) ≡ begun)
       → (r .size ≡ min (length begun + length part) 8193) × (r .size ≤ 8192 → take (r .size) (r .begun) ≡ begun ++ part)) → TookIn s part r

@@ -1,8 +1,7 @@
 // The text that is printed of the counts.
 ghost use mathlib.Core.Path.{_≡_};
 ghost use Prim.Native.Nat.{_+_, _^_, _≤_, _<_};
-ghost use lib.ListN.{length, getD, take};
-ghost use Rattle.cells.specs.Decimal.{decimal};
+ghost use lib.ListN.{length};
 ghost use Rattle.cells.specs.InnerLaid.{Laid};
 ghost use Rattle.logs.specs.Counts as C;
 ghost use Rattle.logs.specs.Printed as P;
@@ -15,7 +14,7 @@ pub const TEXT_SIZE: usize = 12568;
 // Writes the text to the front of out; how long it is.
 pub fn print(counts: &[u64; 600], out: &mut [u8; TEXT_SIZE]) -> usize
     requires { ⌜ C.sum (now counts) < 2 ^ 64 ⌝ }
-    ensures { λ r. ⌜ (r ≤ length (now (out .exit))) × (take r (now (out .exit)) ≡ printed (now (counts .entry))) ⌝ }
+    ensures { λ r. ⌜ (r ≤ length (now (out .exit))) × Laid (now (out .entry)) (now (out .exit)) 0 r (printed (now (counts .entry))) ⌝ }
 {
     let mut at = cells::put_at(out, 0, b"status lines\n");
     let mut s: usize = 100;

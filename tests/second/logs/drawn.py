@@ -33,6 +33,13 @@ def altered(rng, line):
     return line
 
 
+def long(rng):
+    """A good line but for its length, about the longest that is read or above it."""
+    line = good(rng)
+    more = rng.choice((*range(8_189, 8_197), 20_000, 70_000)) - len(line)
+    return line.replace(b"[", b"[" + b"d" * more, 1)
+
+
 def line(rng):
     kind = rng.randrange(20)
     if kind < 9:
@@ -43,7 +50,7 @@ def line(rng):
         return bytes(rng.choice(TELLING) for _ in range(rng.randrange(40)))
     if kind < 19:
         return rng.randbytes(rng.randrange(200))
-    return good(rng)[:-1].replace(b"[", b"[" + b"d" * rng.choice((8_000, 8_050, 8_100, 8_150, 20_000, 70_000)), 1) + b"7"
+    return long(rng)
 
 
 def log(rng):

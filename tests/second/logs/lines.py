@@ -36,7 +36,7 @@ READ = (
     ("a shielded letter", Line(request=b"\\n"), 403),
     ("what looks like the end of a line, shielded", Line(request=b'\\" 200 5'), 403),
     ("brackets and bytes of all kinds in the request", Line(request=b"[]\x00\x16\x03\xff\r\t"), 403),
-    ("no size", Line(size=b"-"), 403),
+    ("a dash for the size", Line(size=b"-"), 403),
     ("a size of 0", Line(size=b"0"), 403),
     ("a size of zeros", Line(size=b"0007"), 403),
     ("a size of 300 digits", Line(size=b"9" * 300), 403),
@@ -111,8 +111,8 @@ def padded(part, length):
 
 
 def cases():
-    yield "document 02's example", b"\n".join((
-        Line(status=b"200").text(), GOOD, Line(status=b"200", size=b"-").text(), b"broken", b"")), (200, 403, 200, None)
+    example = (Line(status=b"200").text(), GOOD, Line(status=b"200", size=b"-").text(), b"broken")
+    yield "document 02's example", b"\n".join(example) + b"\n", (200, 403, 200, None)
 
     for name, line, status in READ:
         yield name, line.text() + b"\n", (status,)
@@ -158,11 +158,12 @@ def lengths():
         for length in (8_191, 8_192, 8_193, 8_194):
             status = 403 if length <= 8_192 else None
             yield f"a line of {length:,} bytes, most of them its {part}", padded(part, length) + b"\n" + GOOD + b"\n", (status, 403)
-            yield f"the same, unended", GOOD + b"\n" + padded(part, length), (403, status)
+            yield "the same, unended", GOOD + b"\n" + padded(part, length), (403, status)
     for length in (16_384, 65_535, 65_536, 65_537, 131_072, 1_000_000):
         yield f"a line of {length:,} bytes", padded("request", length) + b"\n" + GOOD + b"\n", (None, 403)
-        yield f"the same, unended", GOOD + b"\n" + padded("request", length), (403, None)
-        yield f"{length:,} bytes and a line feed in lines of 8,192", (padded("date", 8_192) + b"\n") * (length // 8_193), (403,) * (length // 8_193)
+        yield "the same, unended", GOOD + b"\n" + padded("request", length), (403, None)
+    yield "fifty lines of 8,192 bytes", (padded("date", 8_192) + b"\n") * 50, (403,) * 50
+    yield "fifty lines of 8,193 bytes", (padded("date", 8_193) + b"\n") * 50, (None,) * 50
 
 
 def ends():
