@@ -3,16 +3,16 @@
 
 # archive NAME: target/staticlib/libNAME.a
 archive() {
-  made "target/staticlib/lib$1.a" rt staticlib "$1"
+  up_to_date "target/staticlib/lib$1.a" rt staticlib "$1"
 }
 
 # program NAME: target/bin/NAME
 program() {
-  made "target/bin/$1" rt check "$1"
+  up_to_date "target/bin/$1" rt check "$1"
 }
 
-# made FILE COMMAND..: the file, by the command
-made() {
+# up_to_date FILE COMMAND..: the file, by the command
+up_to_date() {
   mkdir -p target
   (
     flock 9

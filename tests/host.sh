@@ -9,7 +9,7 @@ case $(uname -m) in
   *)
     need x86_64-linux-gnu-gcc gcc-x86-64-linux-gnu libc6-dev-amd64-cross
     need qemu-x86_64 qemu-user
-    CC="x86_64-linux-gnu-gcc -static" RUN="qemu-x86_64 -L /usr/x86_64-linux-gnu"
+    CC=x86_64-linux-gnu-gcc RUN="qemu-x86_64 -L /usr/x86_64-linux-gnu"
     ;;
 esac
 
@@ -22,7 +22,7 @@ need_cxx() {
       ;;
     *)
       need x86_64-linux-gnu-g++ g++-x86-64-linux-gnu
-      CXX="x86_64-linux-gnu-g++ -static"
+      CXX=x86_64-linux-gnu-g++
       ;;
   esac
 }

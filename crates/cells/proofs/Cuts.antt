@@ -8,7 +8,7 @@ use native.Mathlib.Numerals.{add-one}
 use native.Mathlib.Decide.{decLt}
 use native.Mathlib.Omega.{arith}
 use lib.ListN.{List·getD-eq-default, length, getD, take, drop, take-append-drop, length-take, length-drop}
-use lib.Seq.{drop-cons, drop-drop, drop-at as drop-append, take-add, take-take, getD-take, getD-drop, length-take-le}
+use lib.Seq.{take-all, drop-cons, drop-drop, drop-at as drop-append, take-add, take-take, getD-take, getD-drop, length-take-le}
 use Rattle.cells.specs.Runs.{part, cut, Bytes}
 
 pub length-cut : (xs : List ℕ) (a e : ℕ) → e ≤ length xs → length (cut xs a e) ≡ e - a
@@ -19,6 +19,10 @@ pub cut-split : (xs : List ℕ) (a e : ℕ) → a ≤ e → drop a xs ≡ cut xs
 cut-split xs a e h =
     let end : a + (e - a) ≡ e = omega arith in
     sym (take-append-drop (e - a) (drop a xs)) ∙ rw (drop-drop (e - a) a xs, end)
+
+-- the part up to the end
+pub cut-rest : (xs : List ℕ) (a : ℕ) → cut xs a (length xs) ≡ drop a xs
+cut-rest xs a = take-all (length xs - a) (drop a xs) (omega (arith, length-drop a xs))
 
 pub drop-take : (xs : List ℕ) (a e : ℕ) → a ≤ e → e ≤ length xs → drop a (take e xs) ≡ cut xs a e
 drop-take xs a e h k =

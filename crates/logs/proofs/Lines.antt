@@ -8,10 +8,11 @@ use native.Mathlib.Numerals.{add-one}
 use native.Mathlib.Omega.{arith}
 use borrow.Author.Tests.{not-true}
 use lib.Dec.{eqb}
-use lib.ListN.{length, take, drop, length-drop}
-use lib.Seq.{take-all, take-suc, take-add}
+use lib.ListN.{length, take, drop}
+use lib.Seq.{take-suc, take-add}
 use Rattle.cells.specs.Runs.{cut}
 use Rattle.cells.specs.Spans.{all, Spans}
+use Rattle.cells.proofs.Cuts.{cut-rest}
 use Rattle.cells.proofs.Spans.{span-all}
 use Rattle.cells.proofs.Tests.{both}
 use Rattle.logs.specs.Line.{other}
@@ -67,9 +68,6 @@ module _ (text : List ℕ) (at end : ℕ) (span : Spans (other LF) text at end) 
   next-ends ends = rw next-line (fed-ends (take at text) (cut text at end) ends (span-all (other LF) text at end span))
 
 -- none is found in the rest of it
-pub cut-rest : (text : List ℕ) (at : ℕ) → cut text at (length text) ≡ drop at text
-cut-rest text at = take-all (length text - at) (drop at text) (omega (arith, length-drop at text))
-
 pub last-unended : (text : List ℕ) (at end : ℕ) → Spans (other LF) text at end → end ≡ length text → all (other LF) (drop at text) ≡ true
 last-unended text at end span e = rw (← (cut-rest text at), ← e) (span-all (other LF) text at end span)
 

@@ -10,9 +10,10 @@ use native.Mathlib.Omega.{arith}
 use borrow.Author.Tests.{leb-true, le-leb, lt-leb, eq-eqb, ne-eqb}
 use lib.Dec.{eqb, leb}
 use lib.ListN.{length, getD, take, drop, length-drop}
-use lib.Seq.{take-all, drop-drop, drop-nil}
+use lib.Seq.{drop-drop, drop-nil}
 use Rattle.cells.specs.Decimal.{decimal}
-use Rattle.cells.specs.Runs.{same}
+use Rattle.cells.specs.Runs.{cut, same}
+use Rattle.cells.proofs.Cuts.{cut-rest}
 use Rattle.cells.proofs.Digits.{decimal-small, decimal-more, decimal-injective}
 use Rattle.cells.proofs.Equality.{same-self, same-not}
 use Rattle.cells.proofs.Runs.{part-listed}
@@ -141,15 +142,12 @@ module _ (xs : List ℕ) (at : ℕ) where
   pub ending-short : length xs - at < 5 → Only (λ s. statusPart s (drop at xs)) 0
   ending-short h = no-ending (drop at xs) (too-short (drop 3 (drop at xs)) (omega (arith, length-drop 3 (drop at xs), length-drop at xs)))
 
-  module _ (h : at + 4 < length xs) (good : Bool) (is : good ≡ size (take (length xs - (at + 4)) (drop (at + 4) xs))) where
+  module _ (h : at + 4 < length xs) (good : Bool) (is : good ≡ size (cut xs (at + 4) (length xs))) where
     after-three : (space then size) (drop 3 (drop at xs)) ≡ (eqb (getD xs (at + 3) 0) 32 && good)
     after-three =
         let next : at + 3 + 1 ≡ at + 4 = omega arith in
-        let rest : take (length xs - (at + 4)) (drop (at + 4) xs) ≡ drop (at + 4) xs =
-        take-all (length xs - (at + 4)) (drop (at + 4) xs) (omega (arith, length-drop (at + 4) xs))
-        in
         ap (space then size) (drop-drop 3 at xs) ∙ byte-at xs 32 size (at + 3) (omega arith)
-        ∙ ap (λ (ys : List ℕ). eqb (getD xs (at + 3) 0) 32 && size ys) (ap (λ (n : ℕ). drop n xs) next ∙ sym rest)
+        ∙ ap (λ (ys : List ℕ). eqb (getD xs (at + 3) 0) 32 && size ys) (ap (λ (n : ℕ). drop n xs) next ∙ sym (cut-rest xs (at + 4)))
         ∙ ap (λ (t : Bool). eqb (getD xs (at + 3) 0) 32 && t) (sym is)
 
     pub ending-none : (eqb (getD xs (at + 3) 0) 32 && good) ≡ false → Only (λ s. statusPart s (drop at xs)) 0

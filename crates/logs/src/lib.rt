@@ -1,5 +1,6 @@
 // Access logs: the status of a line, the counts of a log that arrives in parts, and the text that is printed of them.
 mod line;
+mod search;
 mod state;
 mod text;
 

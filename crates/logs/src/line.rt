@@ -4,11 +4,12 @@ ghost use mathlib.Core.List.{[], _∷_};
 ghost use mathlib.Core.Bool.{_&&_};
 ghost use Prim.Native.Nat.{_≤_, _<_};
 ghost use lib.ListN.{length, drop};
-ghost use Rattle.cells.specs.Spans.{all, Spans, Passed};
+ghost use Rattle.cells.specs.Spans.{all};
 ghost use Rattle.logs.specs.Line as L;
-ghost use Rattle.logs.specs.Line.{_then_, space, other, status, digit};
+ghost use Rattle.logs.specs.Line.{_then_, space, status, digit};
 ghost use Rattle.logs.specs.Counts.{under};
 ghost use Rattle.logs.specs.InnerParts.{wordPart, datePart, requestPart, statusPart, Past, Only};
+use crate::search::find;
 
 // The status that a line goes under, or 0: unread. Where a part is missing the place of the next one is the line's end, where no part stands.
 pub fn status(line: &[u8]) -> usize
@@ -130,46 +131,4 @@ fn is_digit(b: u8) -> bool
     ensures { λ r. ⌜ r ≡ digit b ⌝ }
 {
     (48 <= b) & (b <= 57)
-}
-
-// Where the first b from byte at on stands, or the end.
-pub fn find(run: &[u8], at: usize, b: u8) -> usize
-    requires { ⌜ at ≤ length (now run) ⌝ }
-    ensures { λ r. ⌜ Spans (other b) (now (run .entry)) at r ⌝ }
-{
-    let mut i = past_sixteens(run, at, b);
-    while i < run.len() {
-        if run[i] == b {
-            return i;
-        }
-        i += 1;
-    }
-    i
-}
-
-// How far from byte at on sixteen bytes after sixteen are all other than b. The compiler looks at the sixteen at once.
-fn past_sixteens(run: &[u8], at: usize, b: u8) -> usize
-    requires { ⌜ at ≤ length (now run) ⌝ }
-    ensures { λ r. ⌜ Passed (other b) (now (run .entry)) at r ⌝ }
-{
-    let mut i = at;
-    while 16 <= run.len() - i {
-        if !all_other(&run[i..i + 16], b) {
-            return i;
-        }
-        i += 16;
-    }
-    i
-}
-
-fn all_other(run: &[u8], b: u8) -> bool
-    ensures { λ r. ⌜ r ≡ all (other b) (now (run .entry)) ⌝ }
-{
-    let mut good = true;
-    let mut i: usize = 0;
-    while i < run.len() {
-        good = good & (run[i] != b);
-        i += 1;
-    }
-    good
 }

@@ -9,8 +9,8 @@ ghost use Rattle.logs.specs.Line.{other};
 ghost use Rattle.logs.specs.Counts.{LF, lines, counts, sum};
 ghost use Rattle.logs.specs.Taken.{Holds, TookIn};
 ghost use Rattle.logs.specs.InnerLines.{counted, LinesCounted};
-use crate::line::find;
 use crate::line::status;
+use crate::search::find;
 
 // The counts by status of the lines that have ended, those unread at 0, and the line that is begun: its bytes, and how many they are. It is
 // unread where they are more than 8,192; then size is 8,193.

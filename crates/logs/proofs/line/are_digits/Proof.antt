@@ -1,4 +1,4 @@
--- `line::are_digits` meets its contract: the bytes before i are digits.
+-- `are_digits` meets its contract: the bytes before i are digits.
 -- Assumes nothing.
 use borrow.Author.Needs.{needs}
 use borrow.Author.Tests.{not-true, not-false}

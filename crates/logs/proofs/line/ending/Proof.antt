@@ -1,4 +1,4 @@
--- `line::ending` meets its contract.
+-- `ending` meets its contract.
 -- Assumes nothing.
 use borrow.Author.Needs.{needs}
 use Rattle.logs.proofs.Statuses.{ending-short, ending-none, ending-told}

@@ -1,4 +1,4 @@
--- `line::is_digit` meets its contract.
+-- `is_digit` meets its contract.
 -- Assumes nothing.
 use mathlib.Core.Path.{refl}
 use Rattle.logs.specs.Line.{digit}

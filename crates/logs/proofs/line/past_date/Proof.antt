@@ -1,4 +1,4 @@
--- `line::past_date` meets its contract.
+-- `past_date` meets its contract.
 -- Assumes nothing.
 use borrow.Author.Needs.{needs}
 use native.Mathlib.Omega.{arith}

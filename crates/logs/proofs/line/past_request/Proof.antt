@@ -1,4 +1,4 @@
--- `line::past_request` meets its contract: no quote that ends the request stands before byte i.
+-- `past_request` meets its contract: no quote that ends the request stands before byte i.
 -- Assumes nothing.
 use borrow.Author.Needs.{needs}
 use mathlib.Core.Path.{refl}

@@ -1,4 +1,4 @@
--- `line::past_space` meets its contract.
+-- `past_space` meets its contract.
 -- Assumes nothing.
 use borrow.Author.Needs.{needs}
 use Rattle.logs.proofs.Parts.{space-none, space-there, space-missing}

@@ -1,4 +1,4 @@
--- `line::past_word` meets its contract.
+-- `past_word` meets its contract.
 -- Assumes nothing.
 use borrow.Author.Needs.{needs}
 use Rattle.logs.proofs.Parts.{word-past}

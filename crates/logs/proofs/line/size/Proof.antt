@@ -1,4 +1,4 @@
--- `line::size` meets its contract.
+-- `size` meets its contract.
 -- Assumes nothing.
 use borrow.Author.Needs.{needs}
 use mathlib.Core.Path.{_∙_}

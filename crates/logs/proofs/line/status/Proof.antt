@@ -1,4 +1,4 @@
--- `line::status` meets its contract: from part to part, a line goes under the status where its parts lead.
+-- `status` meets its contract: from part to part, a line goes under the status where its parts lead.
 -- Assumes nothing.
 use borrow.Author.Needs.{needs}
 use mathlib.Core.Path.{sym}

@@ -1,4 +1,4 @@
--- `line::three` meets its contract.
+-- `three` meets its contract.
 -- Assumes nothing.
 use borrow.Author.Needs.{needs}
 use mathlib.Core.Path.{_≡_, sym, ap₂, _∙_}

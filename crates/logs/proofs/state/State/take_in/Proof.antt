@@ -8,11 +8,12 @@ use native.Mathlib.Nat.{sub-zero}
 use native.Mathlib.Omega.{arith}
 use lib.ListN.{length, take, drop, length-drop, take-append-drop}
 use lib.Seq.{take-all, length-take-le}
+use Rattle.cells.proofs.Cuts.{cut-rest}
 use Rattle.cells.proofs.Spans.{span-all}
 use Rattle.logs.specs.Line.{other}
 use Rattle.logs.specs.Counts.{LF}
 use Rattle.logs.specs.Taken.{TookIn}
-use Rattle.logs.proofs.Lines.{next-line, cut-rest}
+use Rattle.logs.proofs.Lines.{next-line}
 use Rattle.logs.proofs.States.{took-more}
 use Rattle.logs.proofs.state.State.take_in.Statement.{statement}
 use Rattle.logs.proofs.state.State.take_in.Tie as tie

@@ -6,10 +6,10 @@ use mathlib.Core.List.{List}
 use Prim.Native.Nat.{ℕ}
 use lib.ListN.{take, drop, take-append-drop}
 use Rattle.cells.specs.Spans.{all}
+use Rattle.cells.proofs.Cuts.{cut-rest}
 use Rattle.logs.specs.Line.{other}
 use Rattle.logs.specs.Counts.{LF}
 use Rattle.logs.specs.Taken.{TookIn}
-use Rattle.logs.proofs.Lines.{cut-rest}
 use Rattle.logs.proofs.States.{took-more, took-lines}
 use Rattle.logs.proofs.state.State.whole.Statement.{statement}
 use Rattle.logs.proofs.state.State.whole.Tie as tie

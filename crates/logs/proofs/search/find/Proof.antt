@@ -1,4 +1,4 @@
--- `line::find` meets its contract: the bytes from at up to i are other than b.
+-- `find` meets its contract: the bytes from at up to i are other than b.
 -- Assumes nothing.
 use borrow.Author.Needs.{needs}
 use Prim.Native.Nat.{_-_}
@@ -7,8 +7,8 @@ use Rattle.cells.specs.Spans.{Passed}
 use Rattle.cells.proofs.Spans.{passed-more, passed-stop, passed-end}
 use Rattle.logs.specs.Line.{other}
 use Rattle.logs.proofs.Texts.{not-other, is-other}
-use Rattle.logs.proofs.line.find.Statement.{statement}
-use Rattle.logs.proofs.line.find.Tie as tie
+use Rattle.logs.proofs.search.find.Statement.{statement}
+use Rattle.logs.proofs.search.find.Tie as tie
 
 abbrev Inv-loop : tie.InvT-loop
 Inv-loop run at b i₀ i = Passed (other b) run at i

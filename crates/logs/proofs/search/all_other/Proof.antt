@@ -1,4 +1,4 @@
--- `line::all_other` meets its contract: good tells of the bytes up to i, and with those from i on of all.
+-- `all_other` meets its contract: good tells of the bytes up to i, and with those from i on of all.
 -- Assumes nothing.
 use mathlib.Core.Path.{_≡_, refl, sym, _∙_}
 use mathlib.Core.Bool.{_&&_, and-assoc}
@@ -8,8 +8,8 @@ use lib.ListN.{length, drop}
 use Rattle.cells.specs.Spans.{all}
 use Rattle.cells.proofs.Spans.{all-from, all-past}
 use Rattle.logs.specs.Line.{other}
-use Rattle.logs.proofs.line.all_other.Statement.{statement}
-use Rattle.logs.proofs.line.all_other.Tie as tie
+use Rattle.logs.proofs.search.all_other.Statement.{statement}
+use Rattle.logs.proofs.search.all_other.Tie as tie
 
 abbrev Inv-loop : tie.InvT-loop
 Inv-loop run b good₀ i₀ good i = all (other b) run ≡ (good && all (other b) (drop i run))

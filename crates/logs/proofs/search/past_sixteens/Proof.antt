@@ -1,4 +1,4 @@
--- `line::past_sixteens` meets its contract: the bytes from at up to i are other than b.
+-- `past_sixteens` meets its contract: the bytes from at up to i are other than b.
 -- Assumes nothing.
 use mathlib.Core.Path.{sym, _∙_}
 use Prim.Native.Nat.{_+_, _-_}
@@ -9,8 +9,8 @@ use lib.ListN.{length}
 use Rattle.cells.specs.Spans.{Passed}
 use Rattle.cells.proofs.Spans.{passed-none, passed-part}
 use Rattle.logs.specs.Line.{other}
-use Rattle.logs.proofs.line.past_sixteens.Statement.{statement}
-use Rattle.logs.proofs.line.past_sixteens.Tie as tie
+use Rattle.logs.proofs.search.past_sixteens.Statement.{statement}
+use Rattle.logs.proofs.search.past_sixteens.Tie as tie
 
 abbrev Inv-loop : tie.InvT-loop
 Inv-loop run at b i₀ i = Passed (other b) run at i
