@@ -13,7 +13,7 @@ use lib.ListN.{length, getD, set, replicate, length-set}
 use lib.Seq.{ext-getD, set-out, getD-set-same, getD-set-other}
 use Rattle.cells.proofs.Tests.{tested}
 use Rattle.logs.specs.Line.{line}
-use Rattle.logs.specs.Counts.{LF, before, lines, firstOf, under, times, each, counts, sum}
+use Rattle.logs.specs.Counts.{firstOf, under, times, each, counts, sum}
 use Rattle.logs.specs.InnerLines.{counted, countedAll}
 
 -- a line goes under one of the 600
@@ -108,31 +108,12 @@ sum-all ns (l ∷ ls) h =
       sum-set ns (under l) (omega (arith, under-below l)),
     )
 
--- at most, of however many entries
+-- at most, however many entries there are
 pub sum-set-most : (ns : List ℕ) (i : ℕ) → sum (set ns i (getD ns i 0 + 1)) ≤ sum ns + 1
 sum-set-most ns i = elim (decLt i (length ns)) [
   | yes h ↦ omega (arith, sum-set ns i h)
   | no h ↦ omega (arith, ap sum (set-out ns i (getD ns i 0 + 1) (omega arith)))
 ]
-
-sum-all-most : (ns : List ℕ) (ls : List (List ℕ)) → sum (countedAll ns ls) ≤ sum ns + length ls
-unfolding countedAll
-sum-all-most ns [] = omega arith
-sum-all-most ns (l ∷ ls) = omega (arith, sum-all-most (counted ns l) ls, sum-set-most ns (under l))
-
--- a line has a byte, its line feed if no other
-before-length : (b : ℕ) (ls : List (List ℕ)) → length (before b ls) ≤ suc (length ls)
-before-length b [] = omega arith
-before-length b (l ∷ ls) = omega arith
-
-lines-within : (text : List ℕ) → length (lines text) ≤ length text
-unfolding lines
-lines-within [] = omega arith
-lines-within (b ∷ text) =
-    tested (eqb b LF) (λ e. rw e (omega (arith, lines-within text))) (λ e. rw e (omega (arith, before-length b (lines text), lines-within text)))
-
-pub sum-lines : (ns text : List ℕ) → sum (countedAll ns (lines text)) ≤ sum ns + length text
-sum-lines ns text = omega (arith, sum-all-most ns (lines text), lines-within text)
 
 -- none of the lines
 pub counts-none : counts [] ≡ replicate 600 0

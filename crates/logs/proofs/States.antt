@@ -6,6 +6,7 @@ use mathlib.Core.Bool.{true}
 use Prim.Native.Nat.{ℕ, _+_, _≤_, _<_, min}
 use native.Mathlib.Omega.{arith}
 use lib.ListN.{length, getD, take, set, length-append}
+use lib.Seq.{length-take-le}
 use Rattle.cells.specs.Spans.{all}
 use Rattle.cells.specs.InnerLaid.{Laid}
 use Rattle.cells.proofs.Runs.{front-spliced}
@@ -16,7 +17,7 @@ use Rattle.logs.specs.Taken.{Holds, TookIn}
 use Rattle.logs.specs.InnerLines.{counted, countedAll, LinesCounted}
 use Rattle.logs.specs.declared.state.State.{State}
 use Rattle.logs.proofs.Lines.{fed, fed-ends, unfed, ended-more, ended-none}
-use Rattle.logs.proofs.Counting.{counts-more, counts-all, sum-set-most, sum-lines}
+use Rattle.logs.proofs.Counting.{counts-more, counts-all, sum-set-most}
 
 no-bytes : (xs : List ℕ) → length xs ≡ 0 → xs ≡ []
 no-bytes [] h = refl
@@ -105,7 +106,7 @@ took-feed s r n empty told is = record {
 pub took-lines : (s r : State) (part : List ℕ) (at : ℕ) → s .size ≡ 0 → r .size ≡ 0 → LinesCounted (s .counts) part (r .counts) at → TookIn s (take at part) r
 unfolding all
 took-lines s r part at none empty done = record {
-  most = omega (arith, ap sum (done .is), sum-lines (s .counts) (take at part));
+  most = omega (arith, done .most, length-take-le at part (done .within));
   appended = λ text h. let start : h .begun ≡ [] = no-bytes (h .begun) (omega (arith, h .size)) in record {
     ended = h .ended ++ take at part;
     begun = [];

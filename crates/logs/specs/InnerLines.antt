@@ -7,7 +7,7 @@ use mathlib.Core.Bool.{true}
 use lib.ListN.{length, getD, take, drop, set}
 use Rattle.cells.specs.Spans.{all}
 use Rattle.logs.specs.Line.{other}
-use Rattle.logs.specs.Counts.{LF, lines, under}
+use Rattle.logs.specs.Counts.{LF, lines, under, sum}
 use Rattle.logs.specs.Taken.{Ended}
 
 -- one line more
@@ -23,5 +23,6 @@ countedAll ns (l ∷ ls) = countedAll (counted ns l) ls
 pub record LinesCounted (ns : List ℕ) (part left : List ℕ) (r : ℕ) : Type 0 where
   pub within : r ≤ length part
   pub is : left ≡ countedAll ns (lines (take r part))
+  pub most : sum left ≤ sum ns + r
   pub ends : Ended (take r part)
   pub unended : all (other LF) (drop r part) ≡ true
