@@ -58,41 +58,46 @@ extern "C" {
 #define GATE_SESSION_LIFE_DEFAULT 1209600
 #define GATE_SESSION_LIFE_MAX 2592000
 
+/* A request is refused when its time is further ahead of the clock than this, in seconds. */
+#define GATE_AHEAD_MAX 30
+
 /* A nonce is refused when it is this far below the highest one accepted, or further. */
 #define GATE_WINDOW 64
 
 /*
  * ---- The numbers that a call answers ----
  *
- * A request is checked for 1 to 12, then for 8 against its session's record, then for 13 to 16; a setup for 1, 2, 3, 4,
- * 5, 19, 20, 17, 18, in this order; an ending for 1, 3, 12. The first that holds is the number. Table and reply buffer
- * keep every byte and the reply has length 0, unless the line says more.
+ * A request is checked for 1 to 12, then for 8 against its session's record, then for 13, 14, 21, 15, 16; a setup for 1,
+ * 2, 3, 4, 5, 19, 20, 17, 18, in this order; an ending for 1, 3, 12. The first that holds is the number. Table and reply
+ * buffer keep every byte and the reply has length 0, unless the line says more.
  */
 enum gate_number {
-    GATE_ACCEPTED = 0,        /* done. Setup: the record is taken, the reply is for the client. Request: the reply is
-                                 the session id, and the record holds the nonce. Ending: the record is freed, no reply */
-    GATE_BAD_SIZE = 1,        /* something lent to this call has a size outside those above */
-    GATE_BAD_ORDERS = 2,      /* orders bad */
-    GATE_BAD_TABLE = 3,       /* table not well formed */
-    GATE_BAD_VALUE = 4,       /* header value breaks its grammar */
-    GATE_BAD_FIELDS = 5,      /* wrong set of fields */
-    GATE_BAD_LINE = 6,        /* head or set-aside line malformed, or a byte in the method that no token has */
-    GATE_REPEATED_NAME = 7,   /* a covered name twice among the head lines, or twice among the set-aside ones */
-    GATE_BAD_COVERAGE = 8,    /* the request covers otherwise than ordered, or its hash is not one that is allowed, not
-                                 that of its signature's length, or not its session's */
-    GATE_BAD_TOKEN = 9,       /* token fails to open, or does not hold what it must */
-    GATE_EXPIRED = 10,        /* the clock is at or past the token's expiry. Frees the record if there is one; the
-                                 reply is the invalidation */
-    GATE_BAD_SIGNATURE = 11,  /* signature differs */
-    GATE_NO_SESSION = 12,     /* no used record with this IV */
-    GATE_IDLE = 13,           /* idle for longer than the limit. Frees the record; the reply is the invalidation */
-    GATE_TOO_OLD = 14,        /* the request is older than the request life */
-    GATE_NONCE_OLD = 15,      /* nonce 64 or more below the highest */
-    GATE_NONCE_SEEN = 16,     /* nonce accepted before, less than 64 below the highest */
-    GATE_IV_TAKEN = 17,       /* setup: IV already in a used record */
-    GATE_TABLE_FULL = 18,     /* setup: no free record, and none whose expiry is at or before the clock */
-    GATE_NO_HASH = 19,        /* setup: no hash in common: none that the client has is allowed */
-    GATE_EXPIRY_TOO_LATE = 20 /* setup: expiry would pass 4,294,967,295 */
+    GATE_ACCEPTED = 0,         /* done. Setup: the record is taken, the reply is for the client. Request: the reply
+                                  is the session id, and the record holds the nonce. Ending: the record is freed, no
+                                  reply */
+    GATE_BAD_SIZE = 1,         /* something lent to this call has a size outside those above */
+    GATE_BAD_ORDERS = 2,       /* orders bad */
+    GATE_BAD_TABLE = 3,        /* table not well formed */
+    GATE_BAD_VALUE = 4,        /* header value breaks its grammar */
+    GATE_BAD_FIELDS = 5,       /* wrong set of fields */
+    GATE_BAD_LINE = 6,         /* head or set-aside line malformed, or a byte in the method that no token has */
+    GATE_REPEATED_NAME = 7,    /* a covered name twice among the head lines, or twice among the set-aside ones */
+    GATE_BAD_COVERAGE = 8,     /* the request covers otherwise than ordered, or its hash is not one that is allowed, not
+                                  that of its signature's length, or not its session's */
+    GATE_BAD_TOKEN = 9,        /* token fails to open, or does not hold what it must */
+    GATE_EXPIRED = 10,         /* the clock is at or past the token's expiry. Frees the record if there is one; the
+                                  reply is the invalidation */
+    GATE_BAD_SIGNATURE = 11,   /* signature differs */
+    GATE_NO_SESSION = 12,      /* no used record with this IV */
+    GATE_IDLE = 13,            /* idle for longer than the limit. Frees the record; the reply is the invalidation */
+    GATE_TOO_OLD = 14,         /* the request is older than the request life */
+    GATE_NONCE_OLD = 15,       /* nonce 64 or more below the highest */
+    GATE_NONCE_SEEN = 16,      /* nonce accepted before, less than 64 below the highest */
+    GATE_IV_TAKEN = 17,        /* setup: IV already in a used record */
+    GATE_TABLE_FULL = 18,      /* setup: no free record, and none whose expiry is at or before the clock */
+    GATE_NO_HASH = 19,         /* setup: no hash in common: none that the client has is allowed */
+    GATE_EXPIRY_TOO_LATE = 20, /* setup: expiry would pass 4,294,967,295 */
+    GATE_TOO_FAR_AHEAD = 21    /* the request's time is more than GATE_AHEAD_MAX ahead of the clock */
 };
 
 /* A number in a few words, for a log. */
@@ -119,6 +124,7 @@ static inline const char *gate_text(unsigned number) {
     case GATE_TABLE_FULL: return "table full";
     case GATE_NO_HASH: return "no hash in common";
     case GATE_EXPIRY_TOO_LATE: return "expiry past the last time";
+    case GATE_TOO_FAR_AHEAD: return "request too far ahead";
     default: return "no number of the gate";
     }
 }

@@ -101,7 +101,7 @@ static void records(void) {
 }
 
 static void texts(void) {
-    const unsigned none = GATE_EXPIRY_TOO_LATE + 1;
+    const unsigned none = GATE_TOO_FAR_AHEAD + 1;
     int apart = 1;
     for (unsigned i = 0; i <= none; i++) {
         for (unsigned j = 0; j < i; j++) apart = apart && strcmp(gate_text(i), gate_text(j)) != 0;
@@ -118,7 +118,7 @@ static void print_constants(void) {
         GATE_VALUE_MAX,            GATE_METHOD_MAX,        GATE_LINES_MAX,            GATE_PATH_MAX,
         GATE_BODY_MAX,             GATE_REPLY_MIN,         GATE_EXTRA_MAX,            GATE_EXTRA_NAMES_MAX,
         GATE_RECORD_BYTES,         GATE_RECORDS_MAX,       GATE_WINDOW,               GATE_REQUEST_LIFE_DEFAULT,
-        GATE_IDLE_DEFAULT,         GATE_SESSION_LIFE_DEFAULT, GATE_SESSION_LIFE_MAX,
+        GATE_IDLE_DEFAULT,         GATE_SESSION_LIFE_DEFAULT, GATE_SESSION_LIFE_MAX,  GATE_AHEAD_MAX,
         GATE_HASH_SHA_256,         GATE_INVALIDATION_SHA_256_BYTES,
         GATE_HASH_SHA_512,         GATE_INVALIDATION_SHA_512_BYTES,
     };

@@ -171,6 +171,7 @@ accepted("request of case 12", request(), TAKEN)
 accepted("closing semicolon", request(closing=b";"), TAKEN)
 accepted("age 60", aged(60), TAKEN)
 accepted("age 300 where 300 is named", aged(300, orders=NAMED), TAKEN)
+accepted("30 seconds ahead", aged(-30), TAKEN)
 row(1, request(path=b""))
 row(1, request(reply=bytes(1_023)), "reply of 1,023")
 row(2, request(orders=ORDERS._replace(mask=1 << 56 | 3)))
@@ -195,8 +196,26 @@ row(17, setting_up(records=(FRESH, rec.FREE)))
 row(18, setting_up(records=(rec.fresh(b"another iv..", 1_001),)))
 row(19, setting_up(value=b"r:AQI="))
 row(20, setting_up(clock=4_294_966_296))
+row(21, aged(-31), "31 seconds ahead")
+row(21, aged(-31, orders=NAMED), "31 seconds ahead where 300 is named")
+row(12, aged(-31, records=(rec.FREE,)), "before 21")
+freed(13, request(text=TEXT_12.replace(b"\3\xe8", b"\4\7").replace(b"2:\3\xde", b"1:\0"), t=b"\4\7", lt=b"\0", orders=ORDERS._replace(idle=1_030)))
+row(21, aged(-31, records=(TAKEN._replace(highest=69),)), "before 15")
+row(21, aged(-31, records=(TAKEN,)), "before 16")
 row(1, setting_up(session_id=bytes(65)), "at setup")
 row(5, setting_up(value=b"r:AQQ=;r:AQQ="), "at setup")
+
+
+@case("no request is both too old and too far ahead")
+def old_or_ahead():
+    times = [end + by for end in (0, 1 << 31, model.HIGHEST) for by in range(-62, 63) if 0 <= end + by <= model.HIGHEST]
+    shortest = ORDERS._replace(request_life=1)
+
+    def both(clock, t):
+        field = {b"t": client.encoded_number(t)}
+        return model.too_old(shortest, clock, field) and model.too_far_ahead(clock, field)
+
+    return not any(both(clock, t) for clock in times for t in times)
 
 
 def set_up(h, record, **asked):

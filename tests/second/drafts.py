@@ -183,6 +183,12 @@ class Request(Valued):
         self.t = self.clock - age
         self.lt = min(max(0, self.t - gap), HIGHEST)
 
+    def ahead(self, seconds):
+        """Let t minus now be so many seconds, and keep the gap between t and lt."""
+        if self.clock + seconds > HIGHEST:
+            self.at(HIGHEST - seconds)
+        self.aged(-seconds)
+
     def gap(self, seconds):
         """Let t minus lt be so many seconds."""
         if seconds > self.t:

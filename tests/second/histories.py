@@ -227,12 +227,12 @@ class History:
         )
 
     def times(self, session):
-        """Two times that pass: the age within the request life, the gap within the idle limit."""
+        """Two times that pass: the age within the request life, or at most 30 seconds ahead; the gap within the idle limit."""
         rng = self.rng
         life, idle = model.request_life(session.orders), model.idle_limit(session.orders)
         t = max(0, self.clock - min(life, rng.choice([0, 0, 1, 3, life])))
         if rng.random() < 0.1:
-            t = min(HIGHEST, self.clock + rng.choice([1, 30, 3_600]))
+            t = min(HIGHEST, self.clock + rng.choice([1, 29, 30]))
         lt = session.last
         if t - lt > idle:
             lt = t - rng.randint(0, min(t, idle))

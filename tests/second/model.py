@@ -21,6 +21,8 @@ DEFAULT_IDLE = 1_800
 DEFAULT_SESSION_LIFE = 1_209_600
 LONGEST_SESSION_LIFE = 2_592_000
 
+MOST_AHEAD = 30  # seconds of t after now
+
 MOST_RECORDS = 64
 MOST_VALUE = 4_096
 MOST_METHOD = 16
@@ -123,7 +125,7 @@ def setup(orders, clock, server_key, session_key, iv, session_id, value, table, 
 
 
 def judge(orders, clock, server_key, value, method, head, aside, path, body, table, reply):
-    """Judge a request. Checks 1 to 12, 8 against the record, 13 to 16, in this order."""
+    """Judge a request. Checks 1 to 12, 8 against the record, 13, 14, 21, 15, 16, in this order."""
 
     def refused(number):
         return Outcome(number, 0, reply, table)
@@ -182,6 +184,8 @@ def judge(orders, clock, server_key, value, method, head, aside, path, body, tab
         return invalidated(13, token, place)
     if too_old(orders, clock, field):
         return refused(14)
+    if too_far_ahead(clock, field):
+        return refused(21)
     if orders_nonces(orders):
         number, records[place] = rec.take_nonce(records[place], encoding.number(field[b"n"]))
         if number != 0:
@@ -494,7 +498,7 @@ def signature_differs(field, token, text):
     return field[b"c"] != hashing.code(own_hash(field), token.key, text)
 
 
-# 13 and 14: idleness and age, which may be below zero
+# 13, 14 and 21: idleness and age, which may be below zero
 
 
 def idle_too_long(orders, field):
@@ -503,6 +507,10 @@ def idle_too_long(orders, field):
 
 def too_old(orders, clock, field):
     return clock - encoding.number(field[b"t"]) > request_life(orders)
+
+
+def too_far_ahead(clock, field):
+    return encoding.number(field[b"t"]) - clock > MOST_AHEAD
 
 
 # 18 and 19: setup's own checks

@@ -36,7 +36,7 @@ use Rattle.names.specs.Names.{isToken}
 use Rattle.names.proofs.Sizes.{short-extra}
 use Rattle.orders.proofs.Orders.{good-mask, good-extra}
 use Rattle.window.specs.declared.Verdict.the-variants.{Accepted}
-use Rattle.window.specs.Time.{exceeds}
+use Rattle.window.specs.Time.{exceeds, mostAhead}
 use Rattle.window.specs.Window.{stepOf}
 use Rattle.window.proofs.Times.{exceeds-sum}
 use Rattle.table.specs.declared.session.Record.{Record}
@@ -325,6 +325,10 @@ module _ (s : Setup) (state : State) (done : first (setupChecks s state) ≡ 0) 
     unfolding limits clientRequest
     in-time = rw time-is (exceeds-sum clock (m .time) _ ∙ le-ltb _ _ (fair .timely))
 
+    near : exceeds (timeOf q) (q .clock) mostAhead ≡ false
+    unfolding clientRequest
+    near = rw time-is (exceeds-sum (m .time) clock _ ∙ le-ltb _ _ (fair .near))
+
     unexpired : leb (tokenOf q .expiry) (q .clock) ≡ false
     unfolding clientRequest newToken
     unexpired = rw token-is (lt-leb (expiryOf s) clock (fair .lasts))
@@ -347,7 +351,7 @@ module _ (s : Setup) (state : State) (done : first (setupChecks s state) ≡ 0) 
 
     session-none : first (sessionPart q (after .table)) ≡ 0
     unfolding sessionPart
-    session-none = rw (keeps, found-new, unidle, in-time) refl
+    session-none = rw (keeps, found-new, unidle, in-time, near) refl
 
     nonce-none : first (noncePart q (after .table)) ≡ 0
     unfolding noncePart

@@ -1,12 +1,12 @@
--- Each number of document 01 is given by some call, so no check is idle: here every number of a setup and of an ending, and 0 to 9, 8 against
--- the record and 14 of a request. 0, the second 8 and 14 are given to a client's request, by the theorems of Client, Chosen and Age; the others after 9 need a token that opens, too, and the
--- stored calls of tests/host give them.
+-- Each number of documents 01 and 02 is given by some call, so no check is idle: here every number of a setup and of an ending, and 0 to 9, 8
+-- against the record, 14 and 21 of a request. 0, the second 8, 14 and 21 are given to a client's request, by the theorems of Client, Chosen and
+-- Age; the others after 9 need a token that opens, too, and the stored calls of tests/host give them.
 -- Assumes nothing.
 use mathlib.Core.Path.{_≡_, refl, sym, ap, _∙_}
 use mathlib.Core.Bool.{Bool, true, false}
 use mathlib.Core.List.{List, [], _∷_, _++_}
 use mathlib.Core.Option.{none}
-use Prim.Native.Nat.{ℕ, _≤_, _<_, _^_}
+use Prim.Native.Nat.{ℕ, _+_, _≤_, _<_, _^_}
 use native.Mathlib.Omega.{arith}
 use lib.ListN.{length, replicate, length-append}
 use Rattle.hashes.specs.declared.Hash.the-variants.{Sha256, Sha512}
@@ -204,9 +204,9 @@ request-witnesses = record {
   nine = rw (unopened (zeros 32) (zeros 12) (zeros 16) 0);
 }
 
--- nothing but a method and a path
+-- nothing but a method and a path, made at 100
 abbrev pub plainly : Message
-plainly = record { method = codes "GET"; head = []; aside = []; path = codes "/"; body = []; time = 0; last-time = 0; nonce = 0 }
+plainly = record { method = codes "GET"; head = []; aside = []; path = codes "/"; body = []; time = 100; last-time = 0; nonce = 0 }
 
 lent-zeros : (value : List ℕ) (life : ℕ) → LentBytes (living value life)
 unfolding bytesOf
@@ -218,10 +218,10 @@ lent-zeros value life = record {
   extra = bytes-bytesOf 0 0;
 }
 
-fair : (value : List ℕ) (life clock : ℕ) → clock < 1209600 → clock ≤ limitsOf (living value life .orders) .«request_life»
+fair : (value : List ℕ) (life clock : ℕ) → clock < 1209600 → clock ≤ 100 + limitsOf (living value life .orders) .«request_life» → 100 ≤ clock + 30
     → Fair (living value life) plainly clock (zeros 1024)
 unfolding codes isToken all tokenByte hasByte same textOf goodBlock linesIn linesUpTo startsLine frontLine repeated timesNamed coveredNames chosen headerNames extraNames expiryOf limitsOf
-fair value life clock lasts timely = record {
+fair value life clock lasts timely near = record {
   method-fits = omega arith;
   head-fits = omega arith;
   aside-fits = omega arith;
@@ -238,76 +238,82 @@ fair value life clock lasts timely = record {
   lasts = omega arith;
   active = omega arith;
   timely = omega arith;
+  near = near;
 }
 
--- a client's request, made at 0, that comes at a time, and the table that its setup left
+-- a client's request, made at 100, that comes at a time, and the table that its setup left
 abbrev pub sent : List ℕ → ℕ → ℕ → Request
 sent value life clock = clientRequest (living value life) plainly clock (zeros 1024)
 
 abbrev pub left : List ℕ → ℕ → State
 left value life = setUp (living value life) (empty 1) .state
 
--- a request of this age at a request life that the orders leave at 0, and at one of 300 that they name
+-- a request of this age at a request life that the orders leave at 0, and at one of 300 that they name, and one so far ahead
 pub record AgeWitnesses : Type 0 where
-  pub sixty : judged (sent offer 0 60) (left offer 0) .number ≡ 0
-  pub sixty-one : judged (sent offer 0 61) (left offer 0) .number ≡ 14
-  pub three-hundred : judged (sent offer 300 300) (left offer 300) .number ≡ 0
-  pub three-hundred-one : judged (sent offer 300 301) (left offer 300) .number ≡ 14
+  pub sixty : judged (sent offer 0 160) (left offer 0) .number ≡ 0
+  pub sixty-one : judged (sent offer 0 161) (left offer 0) .number ≡ 14
+  pub three-hundred : judged (sent offer 300 400) (left offer 300) .number ≡ 0
+  pub three-hundred-one : judged (sent offer 300 401) (left offer 300) .number ≡ 14
+  pub thirty-ahead : judged (sent offer 0 70) (left offer 0) .number ≡ 0
+  pub thirty-one-ahead : judged (sent offer 0 69) (left offer 0) .number ≡ 21
 
 module _ (value : List ℕ) (life : ℕ) (done : setUp (living value life) (empty 1) .number ≡ 0) where
-  accepted : (clock : ℕ) → clock < 1209600 → clock ≤ limitsOf (living value life .orders) .«request_life» → judged (sent value life clock) (left value life) .number ≡ 0
-  accepted clock lasts timely =
-      client-accepted (living value life) (empty 1) plainly clock (zeros 1024) (lent-zeros value life) done (fair value life clock lasts timely)
+  accepted : (clock : ℕ) → clock < 1209600 → clock ≤ 100 + limitsOf (living value life .orders) .«request_life» → 100 ≤ clock + 30
+      → judged (sent value life clock) (left value life) .number ≡ 0
+  accepted clock lasts timely near =
+      client-accepted (living value life) (empty 1) plainly clock (zeros 1024) (lent-zeros value life) done (fair value life clock lasts timely near)
 
-  at-once : Fair (living value life) plainly 0 (zeros 1024)
-  at-once = fair value life 0 (omega arith) (omega arith)
+  at-once : Fair (living value life) plainly 100 (zeros 1024)
+  at-once = fair value life 100 (omega arith) (omega arith) (omega arith)
 
-  passes : PassesOthers (sent value life 0) (left value life)
-  passes = client-passes (living value life) (empty 1) plainly 0 (zeros 1024) (lent-zeros value life) done at-once .0
+  passes : PassesOthers (sent value life 100) (left value life)
+  passes = client-passes (living value life) (empty 1) plainly 100 (zeros 1024) (lent-zeros value life) done at-once .0
 
-  carries : (timeOf (sent value life 0) ≡ 0) × (tokenOf (sent value life 0) .expiry ≡ 1209600)
+  carries : (timeOf (sent value life 100) ≡ 100) × (tokenOf (sent value life 100) .expiry ≡ 1209600)
   unfolding expiryOf limitsOf
-  carries = client-carries (living value life) (empty 1) plainly 0 (zeros 1024) (lent-zeros value life) done at-once
+  carries = client-carries (living value life) (empty 1) plainly 100 (zeros 1024) (lent-zeros value life) done at-once
 
-  bears : Bears (living value life) (sent value life 0) (left value life)
-  bears = client-bears (living value life) (empty 1) plainly 0 (zeros 1024) (lent-zeros value life) done at-once
+  bears : Bears (living value life) (sent value life 100) (left value life)
+  bears = client-bears (living value life) (empty 1) plainly 100 (zeros 1024) (lent-zeros value life) done at-once
 
 pub age-witnesses : AgeWitnesses
 unfolding limitsOf clientRequest
 age-witnesses =
     let zero = setup-witnesses .zero in
+    let usual = by-default (sent offer 0 100) (left offer 0) (passes offer 0 (zero 0)) refl in
+    let named = as-named (sent offer 300 100) (left offer 300) (passes offer 300 (zero 300)) refl in
+    let at = carries offer 0 (zero 0) in
+    let at-named = carries offer 300 (zero 300) in
     record {
-      sixty = accepted offer 0 (zero 0) 60 (omega arith) (omega arith);
-      sixty-one =
-          by-default (sent offer 0 0) (left offer 0) (passes offer 0 (zero 0)) refl .refused 61 (omega (arith, carries offer 0 (zero 0) .1))
-          (omega (arith, carries offer 0 (zero 0) .0));
-      three-hundred = accepted offer 300 (zero 300) 300 (omega arith) (omega arith);
-      three-hundred-one =
-          as-named (sent offer 300 0) (left offer 300) (passes offer 300 (zero 300)) refl .refused 301 (omega (arith, carries offer 300 (zero 300) .1))
-          (omega (arith, carries offer 300 (zero 300) .0));
+      sixty = accepted offer 0 (zero 0) 160 (omega arith) (omega arith) (omega arith);
+      sixty-one = usual .refused 161 (omega (arith, at .1)) (omega (arith, at .0));
+      three-hundred = accepted offer 300 (zero 300) 400 (omega arith) (omega arith) (omega arith);
+      three-hundred-one = named .refused 401 (omega (arith, at-named .1)) (omega (arith, at-named .0));
+      thirty-ahead = accepted offer 0 (zero 0) 70 (omega arith) (omega arith) (omega arith);
+      thirty-one-ahead = usual .ahead 69 (omega (arith, at .1)) (omega (arith, at .0));
     }
 
 -- a session of each hash with a request that is taken, and the request of the shorter one in a session of the longer: the same IV, key,
 -- token and table otherwise
 pub record HashWitnesses : Type 0 where
   pub chosen-short : chosenOf (living scanner 0) ≡ Sha256
-  pub taken-short : judged (sent scanner 0 0) (left scanner 0) .number ≡ 0
+  pub taken-short : judged (sent scanner 0 100) (left scanner 0) .number ≡ 0
   pub chosen-long : chosenOf (living either 0) ≡ Sha512
-  pub taken-long : judged (sent either 0 0) (left either 0) .number ≡ 0
-  pub down : judged (sent scanner 0 0) (left either 0) .number ≡ 8
+  pub taken-long : judged (sent either 0 100) (left either 0) .number ≡ 0
+  pub down : judged (sent scanner 0 100) (left either 0) .number ≡ 8
 
 picks : (chosenOf (living scanner 0) ≡ Sha256) × (chosenOf (living either 0) ≡ Sha512)
 unfolding chosenOf Hashes.chosen offered the contents keyNumber rankOf keys same maskOf number codes Value.grammar Value.fieldsIn Value.fieldOf Value.pieceGood Value.textObeys Value.carried Pieces.pieces Pieces.upTo Pieces.after decoded full two one ending coded sixBits placeIn alphabet counted obeys ruleOf ruleAt isMask isNumeral plain
 picks = (refl, refl)
 
 -- the request is lent as in its own session, and the table is the other's
-exchanged : first (entryPart (sent scanner 0 0) (left either 0)) ≡ 0
+exchanged : first (entryPart (sent scanner 0 100) (left either 0)) ≡ 0
 unfolding entryPart entryChecks stateChecks requestFits
 exchanged =
-    let own = entry-passed _ _ _ (parts (sent scanner 0 0) (left scanner 0) (passes scanner 0 (setup-witnesses .short 0)) .entry) in
-    let other = entry-passed _ _ _ (parts (sent either 0 0) (left either 0) (passes either 0 (setup-witnesses .long 0)) .entry) in
-    let lent : lentFits (sent scanner 0 0) ≡ true = both (lentFits (sent scanner 0 0)) (tableFits (left scanner 0 .table)) (own .sizes) .0 in
-    let room : tableFits (left either 0 .table) ≡ true = both (lentFits (sent either 0 0)) (tableFits (left either 0 .table)) (other .sizes) .1 in
+    let own = entry-passed _ _ _ (parts (sent scanner 0 100) (left scanner 0) (passes scanner 0 (setup-witnesses .short 0)) .entry) in
+    let other = entry-passed _ _ _ (parts (sent either 0 100) (left either 0) (passes either 0 (setup-witnesses .long 0)) .entry) in
+    let lent : lentFits (sent scanner 0 100) ≡ true = both (lentFits (sent scanner 0 100)) (tableFits (left scanner 0 .table)) (own .sizes) .0 in
+    let room : tableFits (left either 0 .table) ≡ true = both (lentFits (sent either 0 100)) (tableFits (left either 0 .table)) (other .sizes) .1 in
     rw (lent, room, own .orders, other .formed) refl
 
 pub hash-witnesses : HashWitnesses
@@ -315,16 +321,16 @@ unfolding limitsOf
 hash-witnesses =
     let short = setup-witnesses .short 0 in
     let long = setup-witnesses .long 0 in
-    let read = parts (sent scanner 0 0) (left scanner 0) (passes scanner 0 short) in
+    let read = parts (sent scanner 0 100) (left scanner 0) (passes scanner 0 short) in
     let low = bears scanner 0 short in
     let high = bears either 0 long in
     record {
       chosen-short = picks .0;
-      taken-short = accepted scanner 0 short 0 (omega arith) (omega arith);
+      taken-short = accepted scanner 0 short 100 (omega arith) (omega arith) (omega arith);
       chosen-long = picks .1;
-      taken-long = accepted either 0 long 0 (omega arith) (omega arith);
+      taken-long = accepted either 0 long 100 (omega arith) (omega arith) (omega arith);
       down =
-          talked-down (sent scanner 0 0) (left either 0) (high .place) exchanged (read .reading) (read .vouching)
+          talked-down (sent scanner 0 100) (left either 0) (high .place) exchanged (read .reading) (read .vouching)
           (ap (placeOf (left either 0 .table)) (low .iv) ∙ high .at)
           (λ e.
           let masks : hashMask Sha512 ≡ hashMask Sha256 =

@@ -95,3 +95,4 @@ pub record Fair (s : Setup) (m : Message) (clock : ℕ) (reply : List ℕ) : Typ
   pub lasts : clock < expiryOf s
   pub active : m .time ≤ m .last-time + limitsOf (s .orders) .idle
   pub timely : clock ≤ m .time + limitsOf (s .orders) .«request_life»
+  pub near : m .time ≤ clock + 30

@@ -24,12 +24,12 @@ use Rattle.gate.specs.End.{endChecks}
 use Rattle.demands.specs.Order.{Exactly}
 use Rattle.demands.specs.Tables.{Replaced, SessionAt, Session}
 
--- the numbers that document 01 gives each call, in the order of their checks
+-- the numbers that documents 01 and 02 give each call, in the order of their checks
 abbrev pub setupNumbers : List ℕ
 setupNumbers = 0 ∷ 1 ∷ 2 ∷ 3 ∷ 4 ∷ 5 ∷ 19 ∷ 20 ∷ 17 ∷ 18 ∷ []
 
 abbrev pub judgeNumbers : List ℕ
-judgeNumbers = 0 ∷ 1 ∷ 2 ∷ 3 ∷ 4 ∷ 5 ∷ 6 ∷ 7 ∷ 8 ∷ 9 ∷ 10 ∷ 11 ∷ 12 ∷ 8 ∷ 13 ∷ 14 ∷ 15 ∷ 16 ∷ []
+judgeNumbers = 0 ∷ 1 ∷ 2 ∷ 3 ∷ 4 ∷ 5 ∷ 6 ∷ 7 ∷ 8 ∷ 9 ∷ 10 ∷ 11 ∷ 12 ∷ 8 ∷ 13 ∷ 14 ∷ 21 ∷ 15 ∷ 16 ∷ []
 
 abbrev pub endNumbers : List ℕ
 endNumbers = 0 ∷ 1 ∷ 3 ∷ 12 ∷ []

@@ -30,7 +30,7 @@ use Rattle.window.specs.declared.Window.{Window}
 use Rattle.window.specs.declared.Stepped.{Stepped}
 use Rattle.window.specs.declared.Verdict.{Verdict}
 use Rattle.window.specs.declared.Verdict.the-variants.{Accepted, TooOld, Seen}
-use Rattle.window.specs.Time.{exceeds}
+use Rattle.window.specs.Time.{exceeds, mostAhead}
 use Rattle.window.specs.Window.{numberOf, stepOf}
 use Rattle.stages.specs.declared.vouching.Vouched.{Vouched}
 use Rattle.stages.specs.declared.admitting.Admitted.{Admitted}
@@ -142,25 +142,26 @@ module _ (q : Request) (table : List ℕ) where
     unfolding nextOf
     next-held answer w next a b c = rw (← a, ← b, ← held-there) c
 
-  -- a session that is there and keeps the request's hash, neither idle nor asked too late
+  -- a session that is there and keeps the request's hash, not idle, and asked neither too late nor too far ahead
   pub record InTime : Type 0 where
     pub there : nowhere (placeOf table (ivOf q)) ≡ false
     pub kept : keepsHash q table ≡ true
     pub active : exceeds (timeOf q) (lastTimeOf q) (limits q .idle) ≡ false
     pub young : exceeds (q .clock) (timeOf q) (limits q .«request_life») ≡ false
+    pub near : exceeds (timeOf q) (q .clock) mostAhead ≡ false
 
   pub turned-away : (r : Admitted) (k : ℕ) → r .number ≡ k → 1 ≤ k → first (admittingPart q table) ≡ k → Admits q table r
   turned-away r k e least f = record { is = e ∙ sym f; next = λ z o. absurd (omega (arith, e)) }
 
   pub window-first : InTime → ordered q ≡ true → (v : Verdict) → stepped q table .verdict ≡ v → first (admittingPart q table) ≡ numberOf v
   unfolding sessionPart noncePart
-  window-first i o Accepted e = simp (i .there, i .kept, i .active, i .young, o, e)
-  window-first i o TooOld e = simp (i .there, i .kept, i .active, i .young, o, e)
-  window-first i o Seen e = simp (i .there, i .kept, i .active, i .young, o, e)
+  window-first i o Accepted e = simp (i .there, i .kept, i .active, i .young, i .near, o, e)
+  window-first i o TooOld e = simp (i .there, i .kept, i .active, i .young, i .near, o, e)
+  window-first i o Seen e = simp (i .there, i .kept, i .active, i .young, i .near, o, e)
 
   pub unordered-first : InTime → ordered q ≡ false → first (admittingPart q table) ≡ 0
   unfolding sessionPart noncePart
-  unordered-first i o = simp (i .there, i .kept, i .active, i .young, o)
+  unordered-first i o = simp (i .there, i .kept, i .active, i .young, i .near, o)
 
 tells-nine : (n : ℕ) → tells n ≡ true → n ≡ 9 → ⊥
 tells-nine n t e = true≢false (sym t ∙ ap tells e)

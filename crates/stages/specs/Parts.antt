@@ -1,5 +1,5 @@
 -- The checks of a request from its value on, in named parts: document 01, 'The numbers a call returns', 'Header lines and the signed text' and
--- 'Age, idleness and the window', and document 02, K2, for the hash, and K3, for the method.
+-- 'Age, idleness and the window', and document 02, K2, for the hash, K3, for the method, and K6, for a clock that runs ahead.
 -- Assumes nothing.
 use mathlib.Core.Bool.{Bool, not, _&&_, _||_}
 use mathlib.Core.List.{List, [], _∷_, _++_}
@@ -27,7 +27,7 @@ use Rattle.signed.specs.SignedText.{ordersNonce, requestText}
 use Rattle.table.specs.declared.session.Record.{Record}
 use Rattle.table.specs.Record.{windowOf, withWindow}
 use Rattle.window.specs.declared.Stepped.{Stepped}
-use Rattle.window.specs.Time.{exceeds}
+use Rattle.window.specs.Time.{exceeds, mostAhead}
 use Rattle.window.specs.Window.{numberOf, stepOf}
 use Rattle.stages.specs.Request.{Request}
 use Rattle.stages.specs.Checks.{Check, check, missing, nowhere}
@@ -124,13 +124,14 @@ vouchingPart q = tokenPart q ++ signaturePart q
 unfoldable pub keepsHash : Request → List ℕ → Bool
 keepsHash q table = eqb (heldAt table (placeOf table (ivOf q)) .hash) (hashMask (hashOf q))
 
--- 12, 8 against the record, 13 and 14: the session
+-- 12, 8 against the record, 13, 14 and 21: the session and the times
 unfoldable pub sessionPart : Request → List ℕ → List Check
 sessionPart q table =
     check 12 (nowhere (placeOf table (ivOf q)))
     ∷ check 8 (not (keepsHash q table))
     ∷ check 13 (exceeds (timeOf q) (lastTimeOf q) (limits q .idle))
     ∷ check 14 (exceeds (q .clock) (timeOf q) (limits q .«request_life»))
+    ∷ check 21 (exceeds (timeOf q) (q .clock) mostAhead)
     ∷ []
 
 -- 15 and 16: the nonce

@@ -1,4 +1,4 @@
-// Whether the request's session admits it: checks 12, 8 against the record, and 13 to 16.
+// Whether the request's session admits it: checks 12, 8 against the record, 13, 14, 21, 15 and 16.
 ghost use mathlib.Core.Path.{_≡_};
 ghost use Rattle.stages.specs.InnerStages.{AdmitIs};
 use hashes::Hash;
@@ -40,6 +40,9 @@ pub fn admit(
     }
     if time::too_old(clock, t, limits.request_life) {
         return as_it_was(14, held);
+    }
+    if time::too_far_ahead(clock, t) {
+        return as_it_was(21, held);
     }
     if !ordered {
         return as_it_was(0, held);

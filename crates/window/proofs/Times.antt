@@ -1,17 +1,17 @@
 -- Laws of differences of two times: their range, and when one exceeds a limit.
 -- Assumes nothing.
-use mathlib.Core.Path.{_≡_, refl, ap, _∙_}
+use mathlib.Core.Path.{_≡_, refl, sym, ap, _∙_}
 use mathlib.Core.Logic.{⊎-elim}
 use mathlib.Core.Bool.{Bool, true, false, cond}
 use Prim.Native.Nat.{ℕ, zero, suc, _+_, _-_, _≤_, _<_, _^_}
 use native.Mathlib.Omega.{arith}
-use borrow.Author.Tests.{lt-ltb, le-ltb}
+use borrow.Author.Tests.{lt-ltb, le-ltb, ltb-false}
 use lib.Dec.{ltb}
 use lib.IntN.{pos, negsuc, subℕ}
 use lib.Signed.{mag}
 use mir.Syntax.{w64}
 use mir.Val.{SFits}
-use Rattle.window.specs.Time.{difference, exceeds}
+use Rattle.window.specs.Time.{difference, exceeds, mostAhead}
 use Rattle.window.proofs.Bits.{order}
 
 -- below zero or not, as one test tells
@@ -39,6 +39,9 @@ exceeds-sum later earlier limit =
     (order limit (later - earlier))))
     (order later earlier))
 
+pub within : (later earlier limit : ℕ) → exceeds later earlier limit ≡ false → later ≤ earlier + limit
+within later earlier limit e = ltb-false (earlier + limit) later (sym (exceeds-sum later earlier limit) ∙ e)
+
 -- a difference below zero, or of nothing, exceeds no limit
 pub ahead : (later earlier limit : ℕ) → later ≤ earlier → exceeds later earlier limit ≡ false
 ahead later earlier limit h = exceeds-sum later earlier limit ∙ le-ltb (earlier + limit) later (omega arith)
@@ -49,3 +52,10 @@ at-limit earlier limit = exceeds-sum (earlier + limit) earlier limit ∙ le-ltb 
 
 pub past-limit : (earlier limit : ℕ) → exceeds (earlier + limit + 1) earlier limit ≡ true
 past-limit earlier limit = exceeds-sum (earlier + limit + 1) earlier limit ∙ lt-ltb (earlier + limit) (earlier + limit + 1) (omega arith)
+
+-- a time 30 seconds ahead of now passes and one 31 seconds ahead does not, wherever the clock stands
+pub thirty-ahead : (clock : ℕ) → exceeds (clock + 30) clock mostAhead ≡ false
+thirty-ahead clock = at-limit clock 30
+
+pub thirty-one-ahead : (clock : ℕ) → exceeds (clock + 31) clock mostAhead ≡ true
+thirty-one-ahead clock = exceeds-sum (clock + 31) clock 30 ∙ lt-ltb (clock + 30) (clock + 31) (omega arith)

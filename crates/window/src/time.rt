@@ -1,6 +1,9 @@
 // Times, and how far apart two of them are.
 ghost use mathlib.Core.Path.{_≡_};
-ghost use Rattle.window.specs.Time.{difference, exceeds};
+ghost use Rattle.window.specs.Time.{difference, exceeds, mostAhead};
+
+// How far ahead of the host's clock a request's may run.
+const MOST_AHEAD: u32 = 30;
 
 // Seconds, as a request or the host tells them; a record that a host lends holds one.
 #[repr(C)]
@@ -26,6 +29,13 @@ pub fn too_old(clock: Time, t: Time, life: u32) -> bool
     ensures { λ r. ⌜ r ≡ exceeds (clock .0) (t .0) life ⌝ }
 {
     apart(clock, t, life)
+}
+
+// Whether a request that was made at `t` comes from a clock that runs too far ahead.
+pub fn too_far_ahead(clock: Time, t: Time) -> bool
+    ensures { λ r. ⌜ r ≡ exceeds (t .0) (clock .0) mostAhead ⌝ }
+{
+    apart(t, clock, MOST_AHEAD)
 }
 
 // Whether the session idled between `lt` and `t`.

@@ -317,6 +317,7 @@ def lt_zero(draft, rng):
 
 @fault("t and lt of four bytes 255", 0, "plan")
 def t_highest(draft, rng):
+    draft.at(4_294_967_295 - rng.randint(1, 30))
     draft.t = draft.lt = 4_294_967_295
 
 

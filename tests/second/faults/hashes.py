@@ -5,7 +5,20 @@ directly after 12.' What has the right code for the h that it carries is refused
 """
 
 import hashing
-import record as rec
+from faults.beside import (
+    beside,
+    code_altered,
+    idle,
+    no_record,
+    nonce_far_back,
+    nonce_seen,
+    nothing_else,
+    token_altered,
+    token_expired,
+    token_expired_no_record,
+    too_far_ahead,
+    too_old,
+)
 from faults.catalogue import both_hashes, fault, sha_256, sha_512
 
 # In its old place
@@ -29,65 +42,6 @@ other_code("the first 32 bytes of SHA-512", sha_512, lambda d: dict(d.fields).ge
 other_code("SHA-256 under h 4", sha_512, lambda d: hashing.code(hashing.SHA_256, d.key, d.text))
 other_code("SHA-256 twice over under h 1", sha_256, lambda d: 2 * dict(d.fields).get(b"c", bytes(32)))
 other_code("SHA-512 under h 1", sha_256, lambda d: hashing.code(hashing.SHA_512, d.key, d.text))
-
-
-# What a hash that is refused is paired with, to show its place
-
-
-def nothing_else(draft):
-    """The hash by itself."""
-
-
-def token_altered(draft):
-    draft.set_field(b"tag", bytes(16))
-
-
-def token_expired(draft):
-    draft.expiry = draft.clock
-
-
-def token_expired_no_record(draft):
-    token_expired(draft)
-    no_record(draft)
-
-
-def code_altered(draft):
-    draft.set_field(b"c", bytes(hashing.size(draft.hash)))
-
-
-def no_record(draft):
-    draft.put(draft.place, rec.FREE)
-
-
-def idle(draft):
-    draft.order(idle=1)
-    draft.gap(2)
-
-
-def too_old(draft):
-    draft.order(request_life=1)
-    draft.aged(2)
-
-
-def nonce_far_back(draft):
-    draft.order_nonces()
-    draft.window(100, 1)
-    draft.n = 36
-
-
-def nonce_seen(draft):
-    draft.order_nonces()
-    draft.window(100, 1)
-    draft.n = 100
-
-
-def beside(name, needs, also, late=False):
-    """Faults that need this, each with something else: what that is, the number that comes first, and the stage."""
-    for other, number, at in also:
-
-        @fault(f"{name}, {other.__name__.replace('_', ' ')}", number, at, needs=needs, late=late and number == 8)
-        def alter(draft, rng, other=other):
-            other(draft)
 
 
 BEFORE_THE_TOKEN = (
@@ -119,6 +73,7 @@ AFTER_THE_SESSION = (
     (no_record, 12, "plan"),
     (idle, 8, "plan"),
     (too_old, 8, "plan"),
+    (too_far_ahead, 8, "plan"),
     (nonce_far_back, 8, "plan"),
     (nonce_seen, 8, "plan"),
 )

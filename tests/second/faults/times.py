@@ -1,8 +1,9 @@
-"""Refusals 10, 13 and 14 and their edges: expiry, idleness and age."""
+"""Refusals 10, 13, 14 and 21 and their edges: expiry, idleness, age, and a clock that runs ahead."""
 
 import hashing
 import model
 import record as rec
+from faults.beside import beside, code_altered, idle, no_record, nonce_far_back, nonce_seen, token_altered, token_expired, too_far_ahead
 from faults.catalogue import fault
 
 HIGHEST = model.HIGHEST
@@ -120,6 +121,7 @@ def gap_highest(draft, rng):
 
 @fault("t at its end, lt 0, idle limit at its end", 0, "plan")
 def gap_highest_allowed(draft, rng):
+    draft.at(HIGHEST - rng.randint(1, 30))
     draft.t, draft.lt = HIGHEST, 0
     draft.order(idle=HIGHEST)
 
@@ -173,21 +175,6 @@ ages("age 0 at limit 1", 0, 1, 0)
 ages("age far past", 14, 0, 100_000)
 
 
-def ahead(name, seconds):
-    @fault(name, 0, "plan")
-    def alter(draft, rng):
-        draft.order(request_life=1)
-        draft.t = min(HIGHEST, draft.clock + seconds)
-        draft.lt = draft.t
-
-
-ahead("a second ahead", 1)
-ahead("30 seconds ahead", 30)
-ahead("a year ahead", 31_536_000)
-ahead("2^31 ahead", 1 << 31)
-ahead("as far ahead as can be", HIGHEST)
-
-
 @fault("age of nearly 2^32", 14, "plan")
 def oldest(draft, rng):
     draft.order(request_life=rng.choice([0, HIGHEST - 2]))
@@ -200,3 +187,50 @@ def oldest_allowed(draft, rng):
     draft.order(request_life=HIGHEST - 1)
     draft.clock, draft.t, draft.lt = HIGHEST - 1, 0, 0
     draft.expiry = HIGHEST
+
+
+# 21: 't is more than 30 seconds ahead of now', whatever the request life
+
+
+def ahead(name, number, seconds):
+    @fault(name, number, "plan")
+    def alter(draft, rng):
+        draft.order(request_life=rng.choice([0, 1, HIGHEST]))
+        draft.ahead(seconds)
+
+
+ahead("1 second ahead", 0, 1)
+ahead("29 seconds ahead", 0, 29)
+ahead("30 seconds ahead", 0, 30)
+ahead("31 seconds ahead", 21, 31)
+ahead("60 seconds ahead", 21, 60)
+ahead("61 seconds ahead", 21, 61)
+ahead("300 seconds ahead", 21, 300)
+ahead("a year ahead", 21, 31_536_000)
+ahead("2^31 ahead", 21, 1 << 31)
+ahead("2^31 and 31 seconds ahead", 21, (1 << 31) + 31)
+
+
+def times_at(name, number, clock, t):
+    @fault(name, number, "plan")
+    def alter(draft, rng):
+        draft.at(clock)
+        draft.t = draft.lt = t
+
+
+times_at("clock 0, t 30", 0, 0, 30)
+times_at("clock 0, t 31", 21, 0, 31)
+times_at("clock 0, t at its end", 21, 0, HIGHEST)
+times_at("clock one before its end, t at its end", 0, HIGHEST - 1, HIGHEST)
+times_at("t at its end, 30 seconds ahead", 0, HIGHEST - 30, HIGHEST)
+times_at("t at its end, 31 seconds ahead", 21, HIGHEST - 31, HIGHEST)
+
+beside("a clock that runs ahead", too_far_ahead, (
+    (token_altered, 9, "signed"),
+    (token_expired, 10, "plan"),
+    (code_altered, 11, "signed"),
+    (no_record, 12, "plan"),
+    (idle, 13, "plan"),
+    (nonce_far_back, 21, "plan"),
+    (nonce_seen, 21, "plan"),
+))

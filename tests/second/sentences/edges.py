@@ -33,6 +33,10 @@ def aged(seconds, request_life=0):
     return request_call(orders=ordered(3, request_life=request_life), t=CLOCK - seconds, lt=CLOCK - seconds)
 
 
+def ahead_again(seconds):
+    return request_call(at("plan", lambda draft: draft.window(100, 1)), t=CLOCK + seconds, lt=CLOCK + seconds, n=100)
+
+
 def nonce(n, highest=None, bits=1):
     if highest is None:
         return request_call(n=n)
@@ -75,7 +79,9 @@ EDGES = (
     ("a request made 61 seconds ago", aged(61), 14),
     ("a request made 300 seconds ago where the orders name 300", aged(300, 300), 0),
     ("a request made 301 seconds ago where the orders name 300", aged(301, 300), 14),
-    ("a request from a clock that runs an hour ahead", request_call(t=CLOCK + 3_600, lt=CLOCK + 3_600), 0),
+    ("a request from a clock that runs 30 seconds ahead", aged(-30), 0),
+    ("a request from a clock that runs 31 seconds ahead", aged(-31), 21),
+    ("a request from a clock that runs a year ahead, and whose nonce was taken", ahead_again(31_536_000), 21),
     ("`t` 1,800 seconds after `lt`", request_call(lt=CLOCK - 1_800), 0),
     ("`t` 1,801 seconds after `lt`", request_call(lt=CLOCK - 1_801), 13),
     ("`lt` after `t`", request_call(lt=CLOCK + 1), 0),

@@ -86,6 +86,11 @@ def replaced(stage, name, contents):
     return at(stage, lambda draft: setattr(draft, name, contents))
 
 
+def about(t):
+    """A clock that t is not too far ahead of, before the end of time: no token outlives that."""
+    return min(max(CLOCK, t), HIGHEST - 1)
+
+
 # The thin entry
 
 
@@ -144,10 +149,12 @@ def orders(*settings):
         t = max(0, CLOCK - age)
         if t + age < HIGHEST:  # no token outlives that
             yield f"a request {note}", request_call(**good, clock=t + age, t=t, lt=t), (number,)
+    for note, lead, number in (("as far ahead as can be", model.MOST_AHEAD, 0), ("a second too far ahead", model.MOST_AHEAD + 1, 21)):
+        yield f"a request {note}", request_call(**good, t=CLOCK + lead, lt=CLOCK + lead), (number,)
     for note, gap, number in (("idle for the limit", idle, 0), ("idle for a second more", idle + 1, 13)):
         t = max(gap, CLOCK)
         if t <= HIGHEST:
-            yield f"a request {note}", request_call(**good, t=t, lt=t - gap), (number,)
+            yield f"a request {note}", request_call(**good, clock=about(t), t=t, lt=t - gap), (number,)
 
 
 # Values
@@ -171,6 +178,10 @@ def request(value):
     yield "vouched for, at its limits", vouched(value, at_limit, last), (0, 8)
     if last < HIGHEST - 1:
         yield "vouched for, a second too old", vouched(value, at_limit, last + 1), (8, 14)
+    if t > model.MOST_AHEAD:
+        earliest = t - model.MOST_AHEAD
+        yield "vouched for, as far ahead as can be", vouched(value, at_limit, earliest), (0, 8)
+        yield "vouched for, a second too far ahead", vouched(value, at_limit, earliest - 1), (8, 21)
     if t - lt > 1:
         yield "vouched for, a second too idle", vouched(value, orders._replace(idle=t - lt - 1), last), (8, 13)
 
@@ -179,7 +190,8 @@ def coverage(mask, hashes, extra, value):
     orders = ordered(mask, extra, HIGHEST, HIGHEST, hashes=hashes)
     yield "as the value of a request", valued(value, orders), (2, 4, 5, 8, 9)
     if request_fields(value):
-        yield "vouched for", vouched(value, orders, CLOCK), (0, 2, 8)
+        t = encoding.number(request_fields(value)[b"t"])
+        yield "vouched for", vouched(value, orders, about(t)), (0, 2, 8)
 
 
 def request_fields(value):
@@ -279,7 +291,7 @@ def written(part):
 
 def code(mask, extra, n, t, lt, key, method, head, aside, path, body):
     """Under each hash, within limits that nothing exceeds."""
-    request = {"orders": ordered(mask, extra, HIGHEST, HIGHEST), "n": n, "t": t, "lt": lt, "key": key}
+    request = {"orders": ordered(mask, extra, HIGHEST, HIGHEST), "clock": about(t), "n": n, "t": t, "lt": lt, "key": key}
     request |= {"method": method, "head": head, "aside": aside, "path": path, "body": body}
 
     def alter(draft):
@@ -296,7 +308,7 @@ def code(mask, extra, n, t, lt, key, method, head, aside, path, body):
 
 
 def number(n):
-    yield "as t, lt and n", request_call(orders=ordered(3, b"", HIGHEST, HIGHEST), t=n, lt=n, n=n), (0,)
+    yield "as t, lt and n", request_call(orders=ordered(3, b"", HIGHEST, HIGHEST), clock=about(n), t=n, lt=n, n=n), (0,)
 
 
 def mask(m):

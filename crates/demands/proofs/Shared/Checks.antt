@@ -7,7 +7,7 @@ use Prim.Native.Nat.{ℕ}
 use borrow.Author.Tests.{eq-eqb, not-false}
 use lib.Dec.{eqb, leb}
 use Rattle.token.specs.Token.{hasToken}
-use Rattle.window.specs.Time.{exceeds}
+use Rattle.window.specs.Time.{exceeds, mostAhead}
 use Rattle.gate.specs.State.{State}
 use Rattle.stages.specs.Request.{Request}
 use Rattle.stages.specs.Checks.{Check, check, first, nowhere}
@@ -101,7 +101,11 @@ finds q state later n e twelve =
   where
     rest : List Check
     rest =
-        check 8 (not (keepsHash q (state .table))) ∷ check 13 (exceeds (timeOf q) (lastTimeOf q) (limits q .idle)) ∷ check 14 (exceeds (q .clock) (timeOf q) (limits q .«request_life»)) ∷ []
+        check 8 (not (keepsHash q (state .table)))
+        ∷ check 13 (exceeds (timeOf q) (lastTimeOf q) (limits q .idle))
+        ∷ check 14 (exceeds (q .clock) (timeOf q) (limits q .«request_life»))
+        ∷ check 21 (exceeds (timeOf q) (q .clock) mostAhead)
+        ∷ []
 
 -- whether a check for this number holds
 abbrev pub holdsFor : ℕ → List Check → Bool

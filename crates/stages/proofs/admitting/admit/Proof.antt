@@ -59,29 +59,40 @@ returns-4 c q table s a =
     turned-away q table _ 14 (c .as-it-was4 .ensures) (omega arith)
     (simp (s .at, keeps (c .before .before .before .before .before) q table s a, a .clock, a .t, a .lt, a .within, there, active, old))
 
-in-time : (c : tie.Else3) (q : Request) (table : List ℕ) → stands (c .before .before .before .before .before .before .before .before .before) q table
-    → asked (c .before .before .before .before .before .before .before .before .before) q → InTime q table
+returns-5 : tie.Need-returns-5
+unfolding sessionPart
+returns-5 c q table s a =
+    let there = ap nowhere (c .before .before .before .before .before .before .before .before .before .before .enum-told .given .1) in
+    let active = sym (c .before .before .before .before .before .before .idle .ensures) ∙ c .before .before .before .before .before .if2 .left in
+    let young = sym (c .before .before .before .before .too-old .ensures) ∙ c .before .before .before .if3 .left in
+    let ahead = sym (c .before .before .too-far-ahead .ensures) ∙ c .before .if4 .taken in
+    turned-away q table _ 21 (c .as-it-was5 .ensures) (omega arith)
+    (simp (s .at, keeps (c .before .before .before .before .before .before .before) q table s a, a .clock, a .t, a .lt, a .within, there, active, young, ahead))
+
+in-time : (c : tie.Else4) (q : Request) (table : List ℕ) → stands (c .before .before .before .before .before .before .before .before .before .before .before) q table
+    → asked (c .before .before .before .before .before .before .before .before .before .before .before) q → InTime q table
 in-time c q table s a = record {
-  there = rw (s .at) (ap nowhere (c .before .before .before .before .before .before .before .enum-told .given .1));
-  kept = keeps (c .before .before .before .before) q table s a;
-  active = rw (a .t, a .lt, a .within) (sym (c .before .before .before .idle .ensures) ∙ c .before .before .if2 .left);
-  young = rw (a .t, a .within, a .clock) (sym (c .before .too-old .ensures) ∙ c .if3 .left);
+  there = rw (s .at) (ap nowhere (c .before .before .before .before .before .before .before .before .before .enum-told .given .1));
+  kept = keeps (c .before .before .before .before .before .before) q table s a;
+  active = rw (a .t, a .lt, a .within) (sym (c .before .before .before .before .before .idle .ensures) ∙ c .before .before .before .before .if2 .left);
+  young = rw (a .t, a .within, a .clock) (sym (c .before .before .before .too-old .ensures) ∙ c .before .before .if3 .left);
+  near = rw (a .t, a .clock) (sym (c .before .too-far-ahead .ensures) ∙ c .if4 .left);
 }
 
-returns-5 : tie.Need-returns-5
-returns-5 c q table s a =
-    let unordered = a .nonces ∙ not-true (c .before .before .before .before .before .before .before .before .before .before .before .args .ordered) (c .before .if4 .taken) in
+returns-6 : tie.Need-returns-6
+returns-6 c q table s a =
+    let unordered = a .nonces ∙ not-true (c .before .before .before .before .before .before .before .before .before .before .before .before .before .args .ordered) (c .before .if5 .taken) in
     record {
-      is = c .as-it-was5 .ensures ∙ sym (unordered-first q table (in-time (c .before .before) q table s a) unordered);
+      is = c .as-it-was6 .ensures ∙ sym (unordered-first q table (in-time (c .before .before) q table s a) unordered);
       next = λ z o. absurd (true≢false (sym o ∙ unordered));
     }
 
 abbrev start : tie.After-step → tie.Start
-start c = c .before .before .before .before .before .before .before .before .before .before .before .before
+start c = c .before .before .before .before .before .before .before .before .before .before .before .before .before .before
 
 module _ (c : tie.After-step) (q : Request) (table : List ℕ) (s : stands (start c) q table) (a : asked (start c) q) where
   there : nowhere (start c .args .place) ≡ false
-  there = ap nowhere (c .before .before .before .before .before .before .before .before .before .before .enum-told .given .1)
+  there = ap nowhere (c .before .before .before .before .before .before .before .before .before .before .before .before .enum-told .given .1)
 
   answers : c .step .result ≡ stepped q table
   answers = stepped-held q table _ _ s there _ _ _ (a .n) (c .before .window .ensures) (c .step .ensures)
@@ -90,10 +101,10 @@ module _ (c : tie.After-step) (q : Request) (table : List ℕ) (s : stands (star
   timely = in-time (c .before .before .before) q table s a
 
   asks : ordered q ≡ true
-  asks = a .nonces ∙ not-false (start c .args .ordered) (c .before .before .if4 .left)
+  asks = a .nonces ∙ not-false (start c .args .ordered) (c .before .before .if5 .left)
 
-returns-6 : tie.Need-returns-6
-returns-6 c q table s a =
+returns-7 : tie.Need-returns-7
+returns-7 c q table s a =
     let d = c .before .before .before .before in
     let verdict = sym (ap (λ (s : Stepped). s .verdict) (answers d q table s a)) ∙ c .before .enum-told3 .given .1 in
     record {
@@ -101,21 +112,22 @@ returns-6 c q table s a =
       next = λ z o. next-held q table _ _ s (there d q table s a) _ _ _ (answers d q table s a) refl (c .with-window .ensures);
     }
 
-returns-7 : tie.Need-returns-7
-returns-7 c q table s a =
-    let d = c .before .before .before .before in
-    let verdict = sym (ap (λ (s : Stepped). s .verdict) (answers d q table s a)) ∙ c .before .enum-told4 .given .1 in
-    turned-away q table _ 15 (c .as-it-was6 .ensures) (omega arith) (window-first q table (timely d q table s a) (asks d q table s a) TooOld verdict)
-
 returns-8 : tie.Need-returns-8
 returns-8 c q table s a =
     let d = c .before .before .before .before in
+    let verdict = sym (ap (λ (s : Stepped). s .verdict) (answers d q table s a)) ∙ c .before .enum-told4 .given .1 in
+    turned-away q table _ 15 (c .as-it-was7 .ensures) (omega arith) (window-first q table (timely d q table s a) (asks d q table s a) TooOld verdict)
+
+returns-9 : tie.Need-returns-9
+returns-9 c q table s a =
+    let d = c .before .before .before .before in
     let verdict = sym (ap (λ (s : Stepped). s .verdict) (answers d q table s a)) ∙ c .before .enum-told5 .given .1 in
-    turned-away q table _ 16 (c .as-it-was7 .ensures) (omega arith) (window-first q table (timely d q table s a) (asks d q table s a) Seen verdict)
+    turned-away q table _ 16 (c .as-it-was8 .ensures) (omega arith) (window-first q table (timely d q table s a) (asks d q table s a) Seen verdict)
 
 pub admit-spec : {M : Type 1} → statement M
 admit-spec =
     tie.close (tie.spec (λ c. search needs) (λ c. search needs) (λ c κs. search needs) returns (λ c. search needs) (λ c κs. search needs) (λ c κs. search needs)
-    returns-2 (λ c κs. search needs) (λ c κs. search needs) returns-3 (λ c κs. search needs) (λ c κs. search needs) returns-4 (λ c κs. search needs) returns-5
+    returns-2 (λ c κs. search needs) (λ c κs. search needs) returns-3 (λ c κs. search needs) (λ c κs. search needs) returns-4 (λ c κs. search needs)
+    (λ c κs. search needs) returns-5 (λ c κs. search needs) returns-6
     (λ c κs. search needs) (λ c κs. search needs) (λ c. search needs) (λ c κs. search needs) (λ c. search needs) (λ c κs. search needs) (λ c. search needs)
-    (λ c κs. search needs) returns-6 returns-7 returns-8)
+    (λ c κs. search needs) returns-7 returns-8 returns-9)
