@@ -1,5 +1,5 @@
 /*
- * A day at a parts portal: the proxy's side of the login gate, with dealers, a van, a hand scanner and the stock uploader to
+ * A day at a parts portal: the proxy's side of the login gate, with dealers, vans, a hand scanner and the stock uploader to
  * talk to it.
  *
  *     portal day.txt
@@ -17,6 +17,7 @@
  *     limits-of CALLER LIMITS         the same three in orders of this caller's own; the portal's hold for the others
  *     hashes-of CALLER NAME..         what this caller's own orders allow
  *     has CALLER NAME..               the hashes that the caller's program has; SHA-512 if nothing is said
+ *     clock-of CALLER SECONDS         how far the caller's clock runs ahead from now on; 0 if nothing is said
  *     note TEXT                       printed as it stands
  *     at HH:MM:SS                     the clock from now on
  *     setup CALLER IV KEY             the caller asks for a session; IV and session key in hexadecimal
@@ -45,6 +46,7 @@ typedef struct caller {
     char session_id[32];
     gate_orders orders;
     uint8_t hashes; /* of its program */
+    uint32_t ahead; /* its clock of the proxy's */
     uint8_t iv[GATE_IV_BYTES];
     int setups;
     client program;
@@ -106,6 +108,8 @@ static gate_answer end(const caller *who) { return gate_end_session(gate_bytes(w
 
 /* ---- A caller's program ---- */
 
+static uint32_t clock_of(const caller *who) { return now + who->ahead; }
+
 static void keep(char *to, size_t room, const char *text) {
     if (strlen(text) >= room) give_up("a text is too long");
     strcpy(to, text);
@@ -118,19 +122,21 @@ static void make(request *asked, caller *from, const char *method, const char *p
     const client_request signing = {method, headers, 3, path, body};
     asked->from = from;
     asked->nonce = from->program.next;
-    asked->made = now;
+    asked->made = clock_of(from);
     keep(asked->method, sizeof asked->method, method);
     keep(asked->path, sizeof asked->path, path);
     keep(asked->body, sizeof asked->body, body);
-    if (!client_sign(&from->program, &signing, now, asked->value, sizeof asked->value)) give_up("the request is too long");
+    if (!client_sign(&from->program, &signing, asked->made, asked->value, sizeof asked->value)) give_up("the request is too long");
 }
 
 /* ---- Printing ---- */
 
 static const char *time_text(uint32_t time) {
-    static char text[24];
-    uint32_t second = time - midnight;
-    sprintf(text, "%02u:%02u:%02u%s", second / 3600 % 24, second / 60 % 60, second % 60, second >= 86400 ? " tomorrow" : "");
+    static char text[32];
+    uint32_t second = time - midnight, days = second / 86400;
+    int length = sprintf(text, "%02u:%02u:%02u", second / 3600 % 24, second / 60 % 60, second % 60);
+    if (days == 1) sprintf(text + length, " tomorrow");
+    if (days > 1) sprintf(text + length, " in %u days", days);
     return text;
 }
 
@@ -276,6 +282,11 @@ static void do_has(void) {
     who->hashes = read_hashes();
 }
 
+static void do_clock_of(void) {
+    caller *who = named_caller();
+    who->ahead = number();
+}
+
 static void do_signs_with(void) {
     caller *who = named_caller();
     client_sign_with(&who->program, hash_named(word()));
@@ -322,7 +333,7 @@ static void do_setup(void) {
     gate_answer answer = set_up(who, asked, session_key);
     print_event(who, "setup", answer);
     if (answer.number == GATE_ACCEPTED) {
-        if (!client_begin(&who->program, (const char *)reply, answer.length, now)) give_up("the reply is none");
+        if (!client_begin(&who->program, (const char *)reply, answer.length, clock_of(who))) give_up("the reply is none");
         printf(": token, key, %s and coverage, %u bytes", hash_text(client_hash(&who->program)), (unsigned)answer.length);
     }
     printf("\n");
@@ -381,12 +392,12 @@ static void act(char *line) {
     static const struct {
         const char *name;
         void (*act)(void);
-    } events[] = {{"day", do_day},       {"server-key", do_server_key}, {"records", do_records}, {"cover", do_cover},
-                  {"hashes", do_hashes}, {"extra", do_extra},           {"limits", do_limits},   {"limits-of", do_limits_of},
-                  {"has", do_has},       {"hashes-of", do_hashes_of},   {"note", do_note},       {"at", do_at},
-                  {"setup", do_setup},   {"make", do_make},             {"deliver", do_deliver}, {"forge", do_forge},
-                  {"send", do_send},     {"signs-with", do_signs_with}, {"fetch", do_fetch},     {"end", do_end},
-                  {"table", print_table}};
+    } events[] = {{"day", do_day},       {"server-key", do_server_key}, {"records", do_records},       {"cover", do_cover},
+                  {"hashes", do_hashes}, {"extra", do_extra},           {"limits", do_limits},         {"limits-of", do_limits_of},
+                  {"has", do_has},       {"hashes-of", do_hashes_of},   {"clock-of", do_clock_of},     {"note", do_note},
+                  {"at", do_at},         {"setup", do_setup},           {"make", do_make},             {"deliver", do_deliver},
+                  {"forge", do_forge},   {"send", do_send},             {"signs-with", do_signs_with}, {"fetch", do_fetch},
+                  {"end", do_end},       {"table", print_table}};
     const char *name = strtok(line, " \n");
     if (name == NULL || name[0] == '#') return;
     for (size_t i = 0; i < sizeof events / sizeof events[0]; i++) {
