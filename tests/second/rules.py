@@ -139,6 +139,9 @@ def phrases():
     yield "at most 459 bytes", longest_reply() == 459
     yield f"from 0 to {model.HIGHEST:,}", True
     yield "14; at the default 60 passes and 61 does not", at_edge("a request made 60 seconds ago") == 0 and at_edge("a request made 61 seconds ago") == 14
+    yield f"exceeds {model.MOST_AHEAD} seconds", True
+    yield "21; 30 passes and 31 does not", at_edge("a request from a clock that runs 30 seconds ahead") == 0 and at_edge("a request from a clock that runs 31 seconds ahead") == 21
+    yield f"from {model.MOST_AHEAD} seconds before its", True
     yield "the 63 below it", at_edge("nonce 37, new, after 100") == 0
     yield "less than 64 below", at_edge("nonce 36, new, after 100") == 15
     yield "at most 64 requests at a time never meets 15 or 16", in_any_order()
