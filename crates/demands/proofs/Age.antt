@@ -63,7 +63,7 @@ by-life q state others = record {
       decided q state others clock lasts (sessionPart (arriving clock q) (state .table))
       ∙ aged q state others clock lasts false false [] (exceeds-sum clock (timeOf q) _ ∙ le-ltb _ _ young) (exceeds-sum (timeOf q) clock _ ∙ le-ltb _ _ near);
   refused = λ clock lasts old. told q state others clock lasts true _ (exceeds-sum clock (timeOf q) _ ∙ lt-ltb _ _ old) refl;
-  ahead = λ clock lasts early.
+  too-far-ahead = λ clock lasts early.
       told q state others clock lasts false true (ahead clock (timeOf q) _ (omega arith)) (exceeds-sum (timeOf q) clock _ ∙ lt-ltb _ _ early);
 }
 

@@ -290,7 +290,7 @@ age-witnesses =
       three-hundred = accepted offer 300 (zero 300) 400 (omega arith) (omega arith) (omega arith);
       three-hundred-one = named .refused 401 (omega (arith, at-named .1)) (omega (arith, at-named .0));
       thirty-ahead = accepted offer 0 (zero 0) 70 (omega arith) (omega arith) (omega arith);
-      thirty-one-ahead = usual .ahead 69 (omega (arith, at .1)) (omega (arith, at .0));
+      thirty-one-ahead = usual .too-far-ahead 69 (omega (arith, at .1)) (omega (arith, at .0));
     }
 
 -- a session of each hash with a request that is taken, and the request of the shorter one in a session of the longer: the same IV, key,

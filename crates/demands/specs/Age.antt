@@ -21,4 +21,4 @@ pub record InSpan (q : Request) : Type 0 where
 pub record Ages (q : Request) (state : State) (life : ℕ) : Type 0 where
   pub passes : (clock : ℕ) → clock < tokenOf q .expiry → clock ≤ timeOf q + life → timeOf q ≤ clock + 30 → PassesOthers (arriving clock q) state
   pub refused : (clock : ℕ) → clock < tokenOf q .expiry → timeOf q + life < clock → judged (arriving clock q) state .number ≡ 14
-  pub ahead : (clock : ℕ) → clock < tokenOf q .expiry → clock + 30 < timeOf q → judged (arriving clock q) state .number ≡ 21
+  pub too-far-ahead : (clock : ℕ) → clock < tokenOf q .expiry → clock + 30 < timeOf q → judged (arriving clock q) state .number ≡ 21

@@ -2,7 +2,7 @@
 ghost use mathlib.Core.Path.{_≡_};
 ghost use Rattle.window.specs.Time.{difference, exceeds, mostAhead};
 
-// How far ahead of the host's clock a request's may run.
+// Seconds that a request's clock may run ahead of the host's: document 02, K6.
 const MOST_AHEAD: u32 = 30;
 
 // Seconds, as a request or the host tells them; a record that a host lends holds one.

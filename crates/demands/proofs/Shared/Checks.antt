@@ -5,18 +5,19 @@ use mathlib.Core.Bool.{Bool, true, false, true≢false, cond, not, _&&_, _||_, o
 use mathlib.Core.List.{List, [], _∷_, _++_, append-assoc}
 use Prim.Native.Nat.{ℕ}
 use borrow.Author.Tests.{eq-eqb, not-false}
-use lib.Dec.{eqb, leb}
+use lib.Dec.{eqb}
+use lib.ListN.{getD}
 use Rattle.token.specs.Token.{hasToken}
-use Rattle.window.specs.Time.{exceeds, mostAhead}
 use Rattle.gate.specs.State.{State}
 use Rattle.stages.specs.Request.{Request}
-use Rattle.stages.specs.Checks.{Check, check, first, nowhere}
+use Rattle.stages.specs.Checks.{Check, first, nowhere}
 use Rattle.gate.specs.Entry.{stateChecks, entryChecks}
 use Rattle.table.specs.Session.{placeOf}
-use Rattle.stages.specs.Parts.{ivOf, timeOf, lastTimeOf, openedOf, tokenOf, limits, keepsHash, readingPart, coveringPart, tokenPart, signaturePart, vouchingPart, sessionPart, noncePart, admittingPart}
+use Rattle.stages.specs.Parts.{ivOf, openedOf, readingPart, coveringPart, tokenPart, signaturePart, vouchingPart, sessionPart, noncePart, admittingPart}
 use Rattle.gate.specs.Judge.{entryPart, requestChecks}
 use Rattle.stages.proofs.Checks.{numbered, lacks, comes-later, none-holds, passed-by}
 use Rattle.stages.proofs.Parts.{reading-numbered, vouching-numbered}
+use Rattle.demands.specs.Order.{unchecked}
 use Rattle.demands.specs.Passing.{otherChecks, PassesOthers, beforeSignature, Reaches}
 
 module _ (q : Request) (state : State) where
@@ -78,9 +79,10 @@ module _ (q : Request) (state : State) where
       let vouched = comes-later (readingPart q) (vouchingPart q ++ admittingPart q (state .table)) n (reading-numbered q) b (read .later) in
       record { entry = read .none; reading = vouched .none; later = vouched .later }
 
--- a check does not hold whose number is not given though it stands first
-not-first : (c : Check) (cs : List Check) (n : ℕ) → first (c ∷ cs) ≡ n → (n ≡ c .number → ⊥) → c .holds ≡ false
-not-first c cs n e other = by (c .holds) refl e
+-- the check that stands first does not hold if its number is not given
+not-first : (cs : List Check) (n : ℕ) → first cs ≡ n → (n ≡ getD cs 0 unchecked .number → ⊥) → getD cs 0 unchecked .holds ≡ false
+not-first [] n e other = refl
+not-first (c ∷ cs) n e other = by (c .holds) refl e
   where
     by : (t : Bool) → c .holds ≡ t → cond t (c .number) (first cs) ≡ n → c .holds ≡ false
     by true p f = absurd (other (sym f))
@@ -89,23 +91,13 @@ not-first c cs n e other = by (c .holds) refl e
 -- the token opens, unless 9 is given
 pub opens : (q : Request) (later : List Check) (n : ℕ) → first (tokenPart q ++ later) ≡ n → (n ≡ 9 → ⊥) → hasToken (openedOf q) ≡ true
 unfolding tokenPart
-opens q later n e nine =
-    not-false _ (not-first (check 9 (not (hasToken (openedOf q)))) (check 10 (leb (tokenOf q .expiry) (q .clock)) ∷ later) n e nine)
+opens q later n e nine = not-false _ (not-first (tokenPart q ++ later) n e nine)
 
 -- the session is found, unless 12 is given
 pub finds : (q : Request) (state : State) (later : List Check) (n : ℕ) → first (sessionPart q (state .table) ++ later) ≡ n → (n ≡ 12 → ⊥)
     → nowhere (placeOf (state .table) (ivOf q)) ≡ false
 unfolding sessionPart
-finds q state later n e twelve =
-    not-first (check 12 (nowhere (placeOf (state .table) (ivOf q)))) (rest ++ later) n e twelve
-  where
-    rest : List Check
-    rest =
-        check 8 (not (keepsHash q (state .table)))
-        ∷ check 13 (exceeds (timeOf q) (lastTimeOf q) (limits q .idle))
-        ∷ check 14 (exceeds (q .clock) (timeOf q) (limits q .«request_life»))
-        ∷ check 21 (exceeds (timeOf q) (q .clock) mostAhead)
-        ∷ []
+finds q state later n e twelve = not-first (sessionPart q (state .table) ++ later) n e twelve
 
 -- whether a check for this number holds
 abbrev pub holdsFor : ℕ → List Check → Bool
