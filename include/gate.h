@@ -58,7 +58,7 @@ extern "C" {
 #define GATE_SESSION_LIFE_DEFAULT 1209600
 #define GATE_SESSION_LIFE_MAX 2592000
 
-/* A request is refused when its time is further ahead of the clock than this, in seconds. */
+/* Seconds that a request's time may be ahead of the clock: a clock that is slower than that refuses everyone. */
 #define GATE_AHEAD_MAX 30
 
 /* A nonce is refused when it is this far below the highest one accepted, or further. */
