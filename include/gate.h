@@ -58,7 +58,7 @@ extern "C" {
 #define GATE_SESSION_LIFE_DEFAULT 1209600
 #define GATE_SESSION_LIFE_MAX 2592000
 
-/* Seconds that a request's time may be ahead of the clock: a clock that is slower than that refuses everyone. */
+/* Seconds that a request's time may be ahead of the clock. A clock that is slow leaves the callers fewer of them. */
 #define GATE_AHEAD_MAX 30
 
 /* A nonce is refused when it is this far below the highest one accepted, or further. */

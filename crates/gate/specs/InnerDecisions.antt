@@ -42,7 +42,7 @@ pub record Enters (fits : Bool) (o : Orders) (s : State) (r : Entry) : Type 0 wh
 abbrev pub EnterIs : Bool → ℕ → Orders → Entry → Type 0
 EnterIs fits number o r = (s : State) → (fits ≡ true → number ≡ first (stateChecks s)) → Enters fits o s r
 
--- 1 to 16: the number, and where its effect needs them the token, room for the reply, the place and the next record
+-- from 1 on: the number, and where its effect needs them the token, room for the reply, the place and the next record
 pub record Decides (q : Request) (s : State) (d : Decision) : Type 0 where
   pub is : d .number ≡ first (requestChecks q s)
   pub knows : tells (d .number) ≡ true → About (tokenOf q) (hashOf q) d

@@ -21,7 +21,7 @@ use Rattle.gate.specs.Entry.{entryChecks}
 unfoldable pub entryPart : Request → State → List Check
 entryPart q s = entryChecks (requestFits q s) (q .orders) s
 
--- 1 to 16
+-- from 1 on, in order
 unfoldable pub requestChecks : Request → State → List Check
 requestChecks q s = entryPart q s ++ (readingPart q ++ (vouchingPart q ++ admittingPart q (s .table)))
 

@@ -53,7 +53,7 @@ VouchIs o clock server-key request run hash method head aside path body r =
     → let q = requestOf o clock server-key value method head aside path body reply in
     Holds value (carried value) request → Lies (carried value) request run → hashOf q ≡ hash → Vouches q r
 
--- 12 to 16: the number, and where it is 0 and nonces are ordered the next record
+-- from 12 on: the number, and where it is 0 and nonces are ordered the next record
 pub record Admits (q : Request) (table : List ℕ) (r : Admitted) : Type 0 where
   pub is : r .number ≡ first (admittingPart q table)
   pub next : r .number ≡ 0 → ordered q ≡ true → r .next ≡ nextOf q table
@@ -101,7 +101,7 @@ pub record About (token : Token) (hash' : Hash) (d : Decision) : Type 0 where
   pub id-fits : d .«id_len» ≤ 64
   pub hash : d .hash ≡ hash'
 
--- 9 to 16: the number, and where its effect needs them the token, the place and the next record
+-- from 9 on: the number, and where its effect needs them the token, the place and the next record
 pub record Settles (q : Request) (table : List ℕ) (d : Decision) : Type 0 where
   pub is : d .number ≡ first (vouchingPart q ++ admittingPart q table)
   pub knows : tells (d .number) ≡ true → About (tokenOf q) (hashOf q) d

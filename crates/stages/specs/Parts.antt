@@ -138,7 +138,7 @@ sessionPart q table =
 unfoldable pub noncePart : Request → List ℕ → List Check
 noncePart q table = check 15 (windowSays 15 q table) ∷ check 16 (windowSays 16 q table) ∷ []
 
--- 12 to 16: whether the session admits the request
+-- from 12 on: whether the session admits the request
 abbrev pub admittingPart : Request → List ℕ → List Check
 admittingPart q table = sessionPart q table ++ noncePart q table
 

@@ -1,4 +1,4 @@
-// What becomes of a request that was read, over the record of its session: checks 9 to 16.
+// What becomes of a request that was read, over the record of its session: the checks from 9 on.
 ghost use mathlib.Core.Path.{_≡_};
 ghost use mathlib.Core.Bool.{true};
 ghost use Prim.Native.Nat.{_≤_};
