@@ -13,7 +13,7 @@ pub enum Place {
 }
 
 // Whether a place has a used record with this IV.
-fn has_iv(table: &[u8], place: usize, iv: &[u8]) -> bool
+pub fn has_iv(table: &[u8], place: usize, iv: &[u8]) -> bool
     requires { ⌜ place < places (now table) ⌝ }
     ensures { λ r. ⌜ r ≡ holds (now (iv .entry)) (recordAt (now (table .entry)) place) ⌝ }
 {

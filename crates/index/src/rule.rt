@@ -1,0 +1,94 @@
+// Whether a table is well formed and an index fits it, in one pass over each.
+ghost use mathlib.Core.Path.{_≡_};
+ghost use mathlib.Core.Bool.{_&&_};
+ghost use Prim.Native.Nat.{_+_, _-_, _*_, _≤_, _<_};
+ghost use lib.ListN.{length};
+ghost use Rattle.cells.specs.Runs.{same};
+ghost use Rattle.table.specs.Table.{places, records};
+ghost use Rattle.table.specs.WellFormed.{wellFormed};
+ghost use Rattle.index.specs.Index.{vacant, indexOf};
+ghost use Rattle.index.specs.InnerEntries.{entryAt, risesAt, vacantAt, every, TallyIs};
+use super::entries;
+use super::order;
+use table::rule;
+use table::session;
+use table::session::SIZE;
+
+// How many records are used, where all are sound.
+enum Tallied {
+    Used(usize),
+    Unsound,
+}
+
+fn tally(table: &[u8]) -> Tallied
+    ensures { λ r. ⌜ TallyIs (records (now (table .entry))) r ⌝ }
+{
+    let n = table.len() / SIZE;
+    let mut used: usize = 0;
+    let mut i: usize = 0;
+    while i < n {
+        let here = session::read(table, i);
+        if !rule::record_sound(here) {
+            return Tallied::Unsound;
+        }
+        if here.used == 1 {
+            used += 1;
+        }
+        i += 1;
+    }
+    Tallied::Used(used)
+}
+
+fn rises(table: &[u8], index: &[u8], k: usize) -> bool
+    requires { ⌜ (k < places (now table)) × (length (now index) ≡ 2 * places (now table)) × (1 ≤ k → entryAt (now index) (k - 1) < places (now table)) ⌝ }
+    ensures { λ r. ⌜ r ≡ risesAt (records (now (table .entry))) (now (index .entry)) k ⌝ }
+{
+    let place = entries::read(index, k);
+    if !order::is_used(table, place) {
+        return false;
+    }
+    if k == 0 {
+        return true;
+    }
+    order::lower(table, entries::read(index, k - 1), place)
+}
+
+fn climbs(table: &[u8], index: &[u8], count: usize) -> bool
+    requires { ⌜ (count ≤ places (now table)) × (length (now index) ≡ 2 * places (now table)) ⌝ }
+    ensures { λ r. ⌜ r ≡ every (risesAt (records (now (table .entry))) (now (index .entry))) count ⌝ }
+{
+    let mut k: usize = 0;
+    while k < count {
+        if !rises(table, index, k) {
+            return false;
+        }
+        k += 1;
+    }
+    true
+}
+
+// Whether the entries behind the first `count` are vacant.
+fn vacant_behind(index: &[u8], count: usize, rest: usize) -> bool
+    requires { ⌜ 2 * (count + rest) ≤ length (now index) ⌝ }
+    ensures { λ r. ⌜ r ≡ every (λ k. vacantAt (now (index .entry)) (count + k)) rest ⌝ }
+{
+    let mut k: usize = 0;
+    while k < rest {
+        if entries::read(index, count + k) != 65535 {
+            return false;
+        }
+        k += 1;
+    }
+    true
+}
+
+// IVs that rise from entry to entry stand nowhere twice, so no two records are compared.
+pub fn fits(table: &[u8], index: &[u8]) -> bool
+    requires { ⌜ (places (now table) ≤ vacant) × (length (now index) ≡ 2 * places (now table)) ⌝ }
+    ensures { λ r. ⌜ r ≡ (wellFormed (records (now (table .entry))) && same (now (index .entry)) (indexOf (records (now (table .entry))))) ⌝ }
+{
+    let Tallied::Used(count) = tally(table) else {
+        return false;
+    };
+    climbs(table, index, count) & vacant_behind(index, count, table.len() / SIZE - count)
+}
