@@ -2,3 +2,4 @@
 pub mod Numbers
 pub mod Judging
 pub mod Starting
+pub mod Ending

@@ -27,7 +27,7 @@ use Rattle.gate.specs.declared.setup.Start.{Start}
 use Rattle.gate.specs.declared.setup.Start.the-variants as S
 use Rattle.gate.specs.State.{State, outcome, replied}
 use Rattle.gate.specs.Calls.{Setup}
-use Rattle.gate.specs.Sizes.{tableFits, setupFits}
+use Rattle.gate.specs.Sizes.{stateFits, setupFits}
 use Rattle.gate.specs.Setup.{offered, chosenOf, expiryOf, entryPart, offerPart, lastingPart, roomPart, setupChecks, newToken, sealedOf, replyOf, withSession, setUp}
 use Rattle.gate.specs.InnerStarts.{RefusedBy, LastsUntil, Lasts, Room, Starts, StartIs, startAt}
 use Rattle.gate.proofs.Numbers.{Entered, entry-numbered, entry-passed, setup-small, offer-numbered, answer-is}
@@ -70,7 +70,7 @@ pub record Lent (s : Setup) (state : State) : Type 0 where
   pub session-id-some : 1 ≤ length (s .session-id)
   pub session-id-fits : length (s .session-id) ≤ 64
   pub value : length (s .value) ≤ 4096
-  pub table : tableFits (state .table) ≡ true
+  pub kept : stateFits state ≡ true
   pub reply : 1024 ≤ length (s .reply)
 
 pub lent : (s : Setup) (state : State) → setupFits s state ≡ true → Lent s state
@@ -82,7 +82,7 @@ lent s state e =
     let id = both _ _ (iv .1) in
     let value = both _ _ (id .1) in
     let within = both (leb 1 (length (s .session-id))) _ (id .0) in
-    let rest = both (tableFits (state .table)) _ (value .1) in
+    let rest = both (stateFits state) _ (value .1) in
     record {
       server-key = eqb-true _ _ (server .0);
       session-key = eqb-true _ _ (session .0);
@@ -90,7 +90,7 @@ lent s state e =
       session-id-some = leb-true _ _ (within .0);
       session-id-fits = leb-true _ _ (within .1);
       value = leb-true _ _ (value .0);
-      table = rest .0;
+      kept = rest .0;
       reply = leb-true _ _ (rest .1);
     }
 
@@ -100,7 +100,7 @@ pub writes : (text reply out : List ℕ) (state : State) (len : ℕ) → len ≡
 writes text reply out state len e f = rw (e, f) (answer-is (256 * length text) 0 (length text) (fronted text reply) state (omega arith) (omega arith))
 
 module _ (s : Setup) (state : State) where
-  -- a setup that nothing refuses passes 1 to 3
+  -- a setup that nothing refuses passes 1, 2, 3 and 22
   pub opened : first (setupChecks s state) ≡ 0 → Entered (setupFits s state) (s .orders) state
   unfolding setupChecks entryPart
   opened e = entry-passed _ _ _ (none-holds (entryPart s state) _ (entry-numbered _ _ _) e .none)
@@ -123,11 +123,12 @@ module _ (s : Setup) (state : State) where
     }
 
     pub room-decides : (hash : Hash) (expiry : ℕ) (r : Start) → LastsUntil (offerPart s) (chosenOf s) hash (expiryOf s) expiry
-        → Room (roomPart s (state .table)) (state .table) (s .clock) hash expiry r → StartIs s state r
+        → Room (roomPart s (state .table)) (state .table) (s .iv) (s .clock) hash expiry r → StartIs s state r
     room-decides hash expiry (S.At place by until) l h = record {
       none = later ∙ passed-by (offerPart s) _ (offer-numbered s) (l .none) ∙ h .none;
       is = h .is;
       within = h .within;
+      new = h .new;
       by = h .by ∙ l .by;
       until = h .until ∙ l .is;
     }

@@ -7,9 +7,10 @@ use Rattle.cells.specs.Runs.{spliced}
 use Rattle.hashes.specs.declared.Hash.{Hash}
 use Rattle.hashes.specs.Hashes.{hashMask}
 use Rattle.reply.specs.Replies.{setupReply}
-use Rattle.table.specs.declared.place.Place.the-variants.{At as Place-At}
+use Rattle.table.specs.declared.place.Place.the-variants.{At as Place-At, Nowhere as Place-Nowhere}
 use Rattle.table.specs.Record.{size, recordBytes, begun}
 use Rattle.table.specs.Table.{places, records, taken}
+use Rattle.table.specs.Session.{placeOf}
 use Rattle.token.specs.Token.{sealedToken}
 use Rattle.gate.specs.declared.setup.Start.{Start}
 use Rattle.gate.specs.declared.setup.Start.the-variants as S
@@ -17,7 +18,7 @@ use Rattle.gate.specs.declared.setup.Offer.{Offer}
 use Rattle.gate.specs.declared.setup.Offer.the-variants as O
 use Rattle.gate.specs.Calls.{Setup}
 use Rattle.stages.specs.Checks.{Check, first}
-use Rattle.gate.specs.State.{State, holding, Outcome, replied}
+use Rattle.gate.specs.State.{State, indexed, Outcome, replied}
 use Rattle.gate.specs.Setup.{offered, chosenOf, expiryOf, lastingPart, offerPart, roomPart, setupChecks}
 
 -- a refusal by one of some checks
@@ -45,25 +46,27 @@ abbrev pub OfferIs : List ℕ → ℕ → ℕ → Offer → Type 0
 OfferIs value hashes end r =
     (s : Setup) → s .value ≡ value → s .orders .numbers .hashes ≡ hashes → expiryOf s ≡ end → Lasts (offerPart s) (chosenOf s) end r
 
-pub record HasRoom (checks : List Check) (table : List ℕ) (clock : ℕ) (hash : Hash) (expiry place : ℕ) (hash' : Hash) (end : ℕ) : Type 0 where
+pub record HasRoom (checks : List Check) (table iv : List ℕ) (clock : ℕ) (hash : Hash) (expiry place : ℕ) (hash' : Hash) (end : ℕ) : Type 0 where
   pub none : first checks ≡ 0
   pub is : taken (records table) clock ≡ Place-At place
   pub within : place < places table
+  pub new : placeOf table iv ≡ Place-Nowhere
   pub by : hash' ≡ hash
   pub until : end ≡ expiry
 
-abbrev pub Room : List Check → List ℕ → ℕ → Hash → ℕ → Start → Type 0
-Room checks table clock hash expiry (S.At place hash' until) = HasRoom checks table clock hash expiry place hash' (until .0)
-Room checks table clock hash expiry (S.Refused number) = RefusedBy checks number
+abbrev pub Room : List Check → List ℕ → List ℕ → ℕ → Hash → ℕ → Start → Type 0
+Room checks table iv clock hash expiry (S.At place hash' until) = HasRoom checks table iv clock hash expiry place hash' (until .0)
+Room checks table iv clock hash expiry (S.Refused number) = RefusedBy checks number
 
 -- 17 and 18, of any with this IV at this time
 abbrev pub RoomIs : List ℕ → List ℕ → ℕ → Hash → ℕ → Start → Type 0
-RoomIs table iv clock hash expiry r = (s : Setup) → s .iv ≡ iv → s .clock ≡ clock → Room (roomPart s table) table clock hash expiry r
+RoomIs table iv clock hash expiry r = (s : Setup) → s .iv ≡ iv → s .clock ≡ clock → Room (roomPart s table) table iv clock hash expiry r
 
 pub record Starts (s : Setup) (state : State) (place : ℕ) (hash : Hash) (expiry : ℕ) : Type 0 where
   pub none : first (setupChecks s state) ≡ 0
   pub is : taken (records (state .table)) (s .clock) ≡ Place-At place
   pub within : place < places (state .table)
+  pub new : placeOf (state .table) (s .iv) ≡ Place-Nowhere
   pub by : hash ≡ chosenOf s
   pub until : expiry ≡ expiryOf s
 
@@ -76,4 +79,4 @@ unfoldable pub startAt : ℕ → List ℕ → List ℕ → List ℕ → List ℕ
 startAt mask extra server-key session-key iv session-id place hash expiry table reply =
     let token = sealedToken server-key iv (record { key = session-key; id = session-id; expiry = expiry }) in
     replied 0 (setupReply (token .cipher) iv (token .tag) session-key hash mask extra) reply
-    (holding (spliced table (size * place) (recordBytes (begun iv expiry (hashMask hash)))))
+    (indexed (spliced table (size * place) (recordBytes (begun iv expiry (hashMask hash)))))

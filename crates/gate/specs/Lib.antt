@@ -1,4 +1,4 @@
--- The three calls: document 01, one function for each from everything that is lent to its outcome.
+-- The calls: documents 01 and 02, one function for each from everything that is lent to its outcome.
 pub mod State
 pub mod Calls
 pub mod Sizes
@@ -6,5 +6,6 @@ pub mod Entry
 pub mod Setup
 pub mod Judge
 pub mod End
+pub mod Remake
 pub mod InnerDecisions
 pub mod InnerStarts

@@ -1,4 +1,4 @@
--- Setting up a session: document 01, 'The numbers a call returns' and 'The X-S-Armor value', and document 02, K2, for the hash.
+-- Setting up a session: document 01, 'The numbers a call returns' and 'The X-S-Armor value', and document 02, K2, for the hash, and K7, for the index.
 -- Assumes nothing.
 use mathlib.Core.Bool.{cond, not}
 use mathlib.Core.List.{List, [], _∷_, _++_}
@@ -19,7 +19,7 @@ use Rattle.token.specs.Token.{Token, sealedToken}
 use Rattle.stages.specs.Checks.{Check, check, first, missing, nowhere}
 use Rattle.table.specs.Session.{placeOf, with-record}
 use Rattle.gate.specs.Calls.{Setup}
-use Rattle.gate.specs.State.{State, holding, Outcome, untouched, replied}
+use Rattle.gate.specs.State.{State, indexed, Outcome, untouched, replied}
 use Rattle.gate.specs.Sizes.{setupFits}
 use Rattle.gate.specs.Entry.{entryChecks}
 
@@ -35,7 +35,7 @@ chosenOf s = chosen (offered s) (s .orders .numbers .hashes)
 unfoldable pub expiryOf : Setup → ℕ
 expiryOf s = s .clock + limitsOf (s .orders) .«session_life»
 
--- 1 to 3: what is lent
+-- 1, 2, 3, 22: what is lent
 unfoldable pub entryPart : Setup → State → List Check
 entryPart s state = entryChecks (setupFits s state) (s .orders) state
 
@@ -57,7 +57,7 @@ roomPart s table =
     ∷ check 18 (nowhere (taken (records table) (s .clock)))
     ∷ []
 
--- 1, 2, 3, 4, 5, 19, 20, 17, 18
+-- 1, 2, 3, 22, 4, 5, 19, 20, 17, 18
 unfoldable pub setupChecks : Setup → State → List Check
 setupChecks s state = entryPart s state ++ (offerPart s ++ roomPart s (state .table))
 
@@ -76,7 +76,7 @@ withSession s table = with-record table (taken (records table) (s .clock)) (begu
 
 abbrev pub setupOutcome : ℕ → Setup → State → Outcome
 setupOutcome number s state =
-    cond (eqb number 0) (replied 0 (replyOf s) (s .reply) (holding (withSession s (state .table)))) (untouched number (s .reply) state)
+    cond (eqb number 0) (replied 0 (replyOf s) (s .reply) (indexed (withSession s (state .table)))) (untouched number (s .reply) state)
 
 unfoldable pub setUp : Setup → State → Outcome
 setUp s state = setupOutcome (first (setupChecks s state)) s state

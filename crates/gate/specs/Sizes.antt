@@ -1,5 +1,5 @@
--- The sizes of what is lent: document 01, 'Orders, records and sizes', and number 1, and document 02, K3, for the method. Extra names have no size
--- here: too long ones are bad orders.
+-- The sizes of what is lent: document 01, 'Orders, records and sizes', and number 1, and document 02, K3, for the method, and K7, for table and
+-- index. Extra names have no size here: too long ones are bad orders.
 -- Assumes nothing.
 use mathlib.Core.Bool.{Bool, _&&_}
 use mathlib.Core.List.{List}
@@ -7,6 +7,7 @@ use Prim.Native.Nat.{ℕ, _*_, _%_}
 use lib.Dec.{eqb, leb}
 use lib.ListN.{length}
 use Rattle.table.specs.Record.{size}
+use Rattle.table.specs.Table.{places}
 use Rattle.stages.specs.Request.{Request}
 use Rattle.gate.specs.Calls.{Setup}
 use Rattle.gate.specs.State.{State}
@@ -17,9 +18,13 @@ longFrom low high run = leb low (length run) && leb (length run) high
 abbrev pub exactly : ℕ → List ℕ → Bool
 exactly n run = eqb (length run) n
 
--- 1 to 64 whole records
+-- 1 to 4,096 whole records
 unfoldable pub tableFits : List ℕ → Bool
-tableFits table = eqb (length table % size) 0 && longFrom size (64 * size) table
+tableFits table = eqb (length table % size) 0 && longFrom size (4096 * size) table
+
+-- and two bytes of the index for each
+unfoldable pub stateFits : State → Bool
+stateFits s = tableFits (s .table) && exactly (2 * places (s .table)) (s .index)
 
 unfoldable pub setupFits : Setup → State → Bool
 setupFits s state =
@@ -28,10 +33,10 @@ setupFits s state =
     && (exactly 12 (s .iv)
     && (longFrom 1 64 (s .session-id)
     && (leb (length (s .value)) 4096
-    && (tableFits (state .table)
+    && (stateFits state
     && leb 1024 (length (s .reply)))))))
 
--- of a request, the table apart
+-- of a request, the state apart
 unfoldable pub lentFits : Request → Bool
 lentFits q =
     exactly 32 (q .server-key)
@@ -44,7 +49,7 @@ lentFits q =
     && leb 1024 (length (q .reply))))))))
 
 unfoldable pub requestFits : Request → State → Bool
-requestFits q state = lentFits q && tableFits (state .table)
+requestFits q state = lentFits q && stateFits state
 
 unfoldable pub endFits : List ℕ → State → Bool
-endFits iv state = exactly 12 iv && tableFits (state .table)
+endFits iv state = exactly 12 iv && stateFits state

@@ -6,6 +6,7 @@ ghost use lib.ListN.{length};
 ghost use Rattle.names.specs.InnerWalk.{Known};
 ghost use Rattle.orders.specs.Orders.{orders};
 ghost use Rattle.table.specs.Table.{places, Within};
+ghost use Rattle.index.specs.Index.{Indexed};
 ghost use Rattle.stages.specs.Request.{requestOf};
 ghost use Rattle.stages.specs.Parts.{invalidates};
 ghost use Rattle.stages.specs.InnerStages.{tells};
@@ -13,11 +14,12 @@ ghost use Rattle.gate.specs.State.{holding};
 ghost use Rattle.gate.specs.InnerDecisions.{Decides, leftBy, AnswerIs};
 use super::entry;
 use super::sizes;
+use index::change;
+use index::lookup;
 use orders::Numbers;
 use stages::reading;
 use stages::settling;
 use stages::settling::Decision;
-use table::place;
 use table::session;
 use window::time::Time;
 
@@ -34,10 +36,11 @@ pub fn decide<'a>(
     path: &[u8],
     body: &[u8],
     table: &[u8],
+    index: &[u8],
     reply: &[u8],
 ) -> Decision
     requires { ⌜ Known (now known) ⌝ }
-    ensures { λ r. ⌜ Decides (requestOf (orders numbers (now (extra .entry))) (clock .0) (now («server_key» .entry)) (now (value .entry)) (now (method .entry)) (now (head .entry)) (now (aside .entry)) (now (path .entry)) (now (body .entry)) (now (reply .entry))) (holding (now (table .entry))) r ⌝ }
+    ensures { λ r. ⌜ Decides (requestOf (orders numbers (now (extra .entry))) (clock .0) (now («server_key» .entry)) (now (value .entry)) (now (method .entry)) (now (head .entry)) (now (aside .entry)) (now (path .entry)) (now (body .entry)) (now (reply .entry))) (holding (now (table .entry)) (now (index .entry))) r ⌝ }
 {
     let fits = sizes::request_fits(
         server_key,
@@ -48,9 +51,10 @@ pub fn decide<'a>(
         path,
         body,
         table,
+        index,
         reply,
     );
-    let number = entry::table_number(fits, table);
+    let number = entry::state_number(fits, table, index);
     let entry = entry::enter(known, fits, number, numbers, extra);
     if entry.number != 0 {
         return settling::refused(entry.number);
@@ -71,7 +75,7 @@ pub fn decide<'a>(
         return settling::refused(read.number);
     }
     let request = read.request;
-    let place = place::find(table, &fields[182..194]);
+    let place = lookup::find(table, index, &fields[182..194]);
     let held = session::held_at(table, place);
     settling::settle(
         known,
@@ -99,10 +103,10 @@ pub fn invalidates(number: u32) -> bool
     (number == 10) | (number == 13)
 }
 
-// The effect of a decision on the table.
-pub fn apply(decision: Decision, table: &mut [u8])
-    requires { ⌜ Within (places (now table)) (decision .place) ⌝ }
-    ensures { λ _. ⌜ now (table .exit) ≡ leftBy decision (now (table .entry)) ⌝ }
+// The effect of a decision on table and index.
+pub fn apply(decision: Decision, table: &mut [u8], index: &mut [u8])
+    requires { ⌜ Within (places (now table)) (decision .place) × (tells (decision .number) ≡ true → Indexed (now table) (now index)) ⌝ }
+    ensures { λ _. ⌜ holding (now (table .exit)) (now (index .exit)) ≡ leftBy decision (holding (now (table .entry)) (now (index .entry))) ⌝ }
 {
     let place = decision.place;
     if (decision.number == 0) & decision.nonces {
@@ -111,8 +115,7 @@ pub fn apply(decision: Decision, table: &mut [u8])
         return;
     }
     if invalidates(decision.number) {
-        let next = session::freed();
-        session::put(table, place, next);
+        change::free(table, index, place);
     }
 }
 

@@ -1,21 +1,22 @@
-// The login gate: setting up a session, judging a request, and ending a session, for a proxy written in C.
+// The login gate: setting up a session, judging a request, ending a session, and making an index anew, for a proxy written in C.
 // Each call takes any numbers and bytes, and answers its number plus 256 times the reply's length.
 ghost use mathlib.Core.Path.{_≡_};
 ghost use mathlib.Core.List.{[]};
 ghost use Rattle.table.specs.Record.{recordBytes};
 ghost use Rattle.orders.specs.Orders.{ordersOf};
 ghost use Rattle.stages.specs.Request.{requestOf};
-ghost use Rattle.gate.specs.State.{holding, outcome};
+ghost use Rattle.gate.specs.State.{holding, indexed, outcome};
 ghost use Rattle.gate.specs.Calls.{setupOf};
 ghost use Rattle.gate.specs.Setup.{setUp};
 ghost use Rattle.gate.specs.Judge.{judged};
 ghost use Rattle.gate.specs.End.{ended};
+ghost use Rattle.gate.specs.Remake.{remade};
+use index::change;
+use index::lookup;
 use orders::Numbers;
 use setup::Start;
-use table::place;
 use table::place::Place;
 use table::rule;
-use table::session;
 use table::session::Record;
 use window::time::Time;
 
@@ -41,9 +42,10 @@ pub extern "C" fn gate_setup(
     session_id: &[u8],
     value: &[u8],
     table: &mut [u8],
+    index: &mut [u8],
     reply: &mut [u8],
 ) -> u32
-    ensures { λ r. ⌜ outcome r (now (reply .exit)) (holding (now (table .exit))) ≡ setUp (setupOf (ordersOf mask hashes (now (extra .entry)) «request_life» idle «session_life») clock (now («server_key» .entry)) (now («session_key» .entry)) (now (iv .entry)) (now («session_id» .entry)) (now (value .entry)) (now (reply .entry))) (holding (now (table .entry))) ⌝ }
+    ensures { λ r. ⌜ outcome r (now (reply .exit)) (holding (now (table .exit)) (now (index .exit))) ≡ setUp (setupOf (ordersOf mask hashes (now (extra .entry)) «request_life» idle «session_life») clock (now («server_key» .entry)) (now («session_key» .entry)) (now (iv .entry)) (now («session_id» .entry)) (now (value .entry)) (now (reply .entry))) (holding (now (table .entry)) (now (index .entry))) ⌝ }
 {
     let known = names::known();
     let numbers = Numbers {
@@ -64,6 +66,7 @@ pub extern "C" fn gate_setup(
         session_id,
         value,
         table,
+        index,
         reply,
     );
     match start {
@@ -78,6 +81,7 @@ pub extern "C" fn gate_setup(
             hash,
             expiry,
             table,
+            index,
             reply,
         ),
         Start::Refused(number) => number,
@@ -102,9 +106,10 @@ pub extern "C" fn gate_judge<'a>(
     path: &[u8],
     body: &[u8],
     table: &mut [u8],
+    index: &mut [u8],
     reply: &mut [u8],
 ) -> u32
-    ensures { λ r. ⌜ outcome r (now (reply .exit)) (holding (now (table .exit))) ≡ judged (requestOf (ordersOf mask hashes (now (extra .entry)) «request_life» idle «session_life») clock (now («server_key» .entry)) (now (value .entry)) (now (method .entry)) (now (head .entry)) (now (aside .entry)) (now (path .entry)) (now (body .entry)) (now (reply .entry))) (holding (now (table .entry))) ⌝ }
+    ensures { λ r. ⌜ outcome r (now (reply .exit)) (holding (now (table .exit)) (now (index .exit))) ≡ judged (requestOf (ordersOf mask hashes (now (extra .entry)) «request_life» idle «session_life») clock (now («server_key» .entry)) (now (value .entry)) (now (method .entry)) (now (head .entry)) (now (aside .entry)) (now (path .entry)) (now (body .entry)) (now (reply .entry))) (holding (now (table .entry)) (now (index .entry))) ⌝ }
 {
     let known = names::known();
     let numbers = Numbers {
@@ -127,9 +132,10 @@ pub extern "C" fn gate_judge<'a>(
         path,
         body,
         table,
+        index,
         reply,
     );
-    judge::apply(decision, table);
+    judge::apply(decision, table, index);
     judge::answer(decision, reply)
 }
 
@@ -153,7 +159,7 @@ pub extern "C" fn gate_judge_one<'a>(
     record: &mut Record,
     reply: &mut [u8],
 ) -> u32
-    ensures { λ r. ⌜ outcome r (now (reply .exit)) (holding (recordBytes (now («record» .exit)))) ≡ judged (requestOf (ordersOf mask hashes (now (extra .entry)) «request_life» idle «session_life») clock (now («server_key» .entry)) (now (value .entry)) (now (method .entry)) (now (head .entry)) (now (aside .entry)) (now (path .entry)) (now (body .entry)) (now (reply .entry))) (holding (recordBytes (now («record» .entry)))) ⌝ }
+    ensures { λ r. ⌜ outcome r (now (reply .exit)) (indexed (recordBytes (now («record» .exit)))) ≡ judged (requestOf (ordersOf mask hashes (now (extra .entry)) «request_life» idle «session_life») clock (now («server_key» .entry)) (now (value .entry)) (now (method .entry)) (now (head .entry)) (now (aside .entry)) (now (path .entry)) (now (body .entry)) (now (reply .entry))) (indexed (recordBytes (now («record» .entry)))) ⌝ }
 {
     let held = *record;
     let judged = one::judge(
@@ -180,19 +186,36 @@ pub extern "C" fn gate_judge_one<'a>(
 
 // Ends the session that has this IV.
 #[no_mangle]
-pub extern "C" fn gate_end(iv: &[u8], table: &mut [u8]) -> u32
-    ensures { λ r. ⌜ outcome r [] (holding (now (table .exit))) ≡ ended (now (iv .entry)) (holding (now (table .entry))) ⌝ }
+pub extern "C" fn gate_end(iv: &[u8], table: &mut [u8], index: &mut [u8]) -> u32
+    ensures { λ r. ⌜ outcome r [] (holding (now (table .exit)) (now (index .exit))) ≡ ended (now (iv .entry)) (holding (now (table .entry)) (now (index .entry))) ⌝ }
 {
-    if !sizes::end_fits(iv, table) {
+    let fits = sizes::end_fits(iv, table, index);
+    if !fits {
+        return 1;
+    }
+    let number = entry::state_number(fits, table, index);
+    if number != 0 {
+        return number;
+    }
+    let place = lookup::find(table, index, iv);
+    let Place::At(_) = place else {
+        return 12;
+    };
+    change::free(table, index, place);
+    0
+}
+
+// Makes the index that fits a table, whatever stands in it.
+#[no_mangle]
+pub extern "C" fn gate_index(table: &[u8], index: &mut [u8]) -> u32
+    ensures { λ r. ⌜ outcome r [] (holding (now (table .entry)) (now (index .exit))) ≡ remade (holding (now (table .entry)) (now (index .entry))) ⌝ }
+{
+    if !sizes::state_fits(table, index) {
         return 1;
     }
     if !rule::well_formed(table) {
         return 3;
     }
-    let place = place::find(table, iv);
-    let Place::At(_) = place else {
-        return 12;
-    };
-    session::put(table, place, session::freed());
+    change::make(table, index);
     0
 }

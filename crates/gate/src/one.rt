@@ -1,15 +1,16 @@
 // Judging a request over one session's record, as a table of that one record would.
 ghost use mathlib.Core.Path.{_≡_};
+ghost use mathlib.Core.Bool.{true, false};
 ghost use Rattle.names.specs.InnerWalk.{Known};
 ghost use Rattle.orders.specs.Orders.{orders, ordersOf};
 ghost use Rattle.table.specs.Record.{recordBytes};
 ghost use Rattle.table.specs.Table.{Within};
 ghost use Rattle.stages.specs.Request.{requestOf};
-ghost use Rattle.stages.specs.Checks.{first};
+ghost use Rattle.stages.specs.Checks.{first, nowhere};
 ghost use Rattle.table.specs.Session.{placeOf};
-ghost use Rattle.gate.specs.State.{holding, outcome};
+ghost use Rattle.gate.specs.State.{indexed, outcome};
 ghost use Rattle.gate.specs.Entry.{stateChecks};
-ghost use Rattle.gate.specs.Judge.{tableAfter, judged};
+ghost use Rattle.gate.specs.Judge.{stateAfter, judged};
 ghost use Rattle.gate.specs.InnerDecisions.{Decides};
 use super::entry;
 use super::judge;
@@ -48,7 +49,7 @@ pub fn judge<'a>(
     record: Record,
     reply: &mut [u8],
 ) -> Judged
-    ensures { λ r. ⌜ outcome (r .answer) (now (reply .exit)) (holding (recordBytes (r .next))) ≡ judged (requestOf (ordersOf mask hashes (now (extra .entry)) «request_life» idle «session_life») clock (now («server_key» .entry)) (now (value .entry)) (now (method .entry)) (now (head .entry)) (now (aside .entry)) (now (path .entry)) (now (body .entry)) (now (reply .entry))) (holding (recordBytes «record»)) ⌝ }
+    ensures { λ r. ⌜ outcome (r .answer) (now (reply .exit)) (indexed (recordBytes (r .next))) ≡ judged (requestOf (ordersOf mask hashes (now (extra .entry)) «request_life» idle «session_life») clock (now («server_key» .entry)) (now (value .entry)) (now (method .entry)) (now (head .entry)) (now (aside .entry)) (now (path .entry)) (now (body .entry)) (now (reply .entry))) (indexed (recordBytes «record»)) ⌝ }
 {
     let known = names::known();
     let numbers = Numbers {
@@ -96,7 +97,7 @@ fn decide<'a>(
     reply: &[u8],
 ) -> Decision
     requires { ⌜ Known (now known) ⌝ }
-    ensures { λ r. ⌜ Decides (requestOf (orders numbers (now (extra .entry))) (clock .0) (now («server_key» .entry)) (now (value .entry)) (now (method .entry)) (now (head .entry)) (now (aside .entry)) (now (path .entry)) (now (body .entry)) (now (reply .entry))) (holding (recordBytes «record»)) r ⌝ }
+    ensures { λ r. ⌜ Decides (requestOf (orders numbers (now (extra .entry))) (clock .0) (now («server_key» .entry)) (now (value .entry)) (now (method .entry)) (now (head .entry)) (now (aside .entry)) (now (path .entry)) (now (body .entry)) (now (reply .entry))) (indexed (recordBytes «record»)) r ⌝ }
 {
     let fits = sizes::lent_fits(server_key, value, method, head, aside, path, body, reply);
     let number = record_number(record);
@@ -140,9 +141,9 @@ fn decide<'a>(
     )
 }
 
-// The number of a table of this record.
+// The number of a table of this record, beside the index that fits it.
 fn record_number(record: Record) -> u32
-    ensures { λ r. ⌜ r ≡ first (stateChecks (holding (recordBytes «record»))) ⌝ }
+    ensures { λ r. ⌜ r ≡ first (stateChecks (indexed (recordBytes «record»))) ⌝ }
 {
     if rule::record_sound(record) {
         return 0;
@@ -162,8 +163,8 @@ fn place_of(record: Record, iv: &[u8]) -> Place
 
 // The record after a number, where it is the session's.
 fn after(number: u32, nonces: bool, place: Place, next: Record, record: Record) -> Record
-    requires { ⌜ Within 1 place ⌝ }
-    ensures { λ r. ⌜ recordBytes r ≡ tableAfter number nonces place next (recordBytes «record») ⌝ }
+    requires { ⌜ Within 1 place × (nowhere place ≡ false → number ≡ 0 → nonces ≡ true → («next» .used ≡ «record» .used) × («next» .iv ≡ «record» .iv)) ⌝ }
+    ensures { λ r. ⌜ indexed (recordBytes r) ≡ stateAfter number nonces place «next» (indexed (recordBytes «record»)) ⌝ }
 {
     let Place::At(_) = place else {
         return record;

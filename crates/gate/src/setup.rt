@@ -2,7 +2,10 @@
 ghost use mathlib.Core.Path.{_≡_};
 ghost use Prim.Native.Nat.{_+_, _<_, _≤_, _^_};
 ghost use lib.ListN.{length};
+ghost use Rattle.table.specs.declared.place.Place.the-variants as P;
+ghost use Rattle.table.specs.Session.{placeOf};
 ghost use Rattle.table.specs.Table.{places};
+ghost use Rattle.index.specs.Index.{Indexed};
 ghost use Rattle.names.specs.InnerWalk.{Known};
 ghost use Rattle.orders.specs.Orders.{orders};
 ghost use Rattle.gate.specs.State.{holding, outcome};
@@ -12,6 +15,8 @@ use super::entry;
 use super::sizes;
 use armor::SetupRead;
 use hashes::Hash;
+use index::change;
+use index::lookup;
 use orders::Numbers;
 use table::place;
 use table::place::Place;
@@ -35,13 +40,23 @@ pub fn decide(
     session_id: &[u8],
     value: &[u8],
     table: &[u8],
+    index: &[u8],
     reply: &[u8],
 ) -> Start
     requires { ⌜ Known (now known) ⌝ }
-    ensures { λ r. ⌜ StartIs (setupOf (orders numbers (now (extra .entry))) (clock .0) (now («server_key» .entry)) (now («session_key» .entry)) (now (iv .entry)) (now («session_id» .entry)) (now (value .entry)) (now (reply .entry))) (holding (now (table .entry))) r ⌝ }
+    ensures { λ r. ⌜ StartIs (setupOf (orders numbers (now (extra .entry))) (clock .0) (now («server_key» .entry)) (now («session_key» .entry)) (now (iv .entry)) (now («session_id» .entry)) (now (value .entry)) (now (reply .entry))) (holding (now (table .entry)) (now (index .entry))) r ⌝ }
 {
-    let fits = sizes::setup_fits(server_key, session_key, iv, session_id, value, table, reply);
-    let number = entry::table_number(fits, table);
+    let fits = sizes::setup_fits(
+        server_key,
+        session_key,
+        iv,
+        session_id,
+        value,
+        table,
+        index,
+        reply,
+    );
+    let number = entry::state_number(fits, table, index);
     let entry = entry::enter(known, fits, number, numbers, extra);
     if entry.number != 0 {
         return Start::Refused(entry.number);
@@ -49,7 +64,7 @@ pub fn decide(
     let limits = entry.limits;
     match offered(value, numbers.hashes, clock, limits.session_life) {
         Offer::Refused(number) => Start::Refused(number),
-        Offer::Until(hash, expiry) => room(table, iv, clock, hash, expiry),
+        Offer::Until(hash, expiry) => room(table, index, iv, clock, hash, expiry),
     }
 }
 
@@ -84,10 +99,11 @@ fn until(mask: u64, hashes: u64, clock: Time, life: u32) -> Offer
 }
 
 // The place for the new session: checks 17 and 18.
-fn room(table: &[u8], iv: &[u8], clock: Time, hash: Hash, expiry: Time) -> Start
+fn room(table: &[u8], index: &[u8], iv: &[u8], clock: Time, hash: Hash, expiry: Time) -> Start
+    requires { ⌜ (length (now iv) ≡ 12) × Indexed (now table) (now index) ⌝ }
     ensures { λ r. ⌜ RoomIs (now (table .entry)) (now (iv .entry)) (clock .0) hash (expiry .0) r ⌝ }
 {
-    if let Place::At(_) = place::find(table, iv) {
+    if let Place::At(_) = lookup::find(table, index, iv) {
         return Start::Refused(17);
     }
     match place::to_take(table, clock) {
@@ -108,18 +124,20 @@ pub fn apply(
     hash: Hash,
     expiry: Time,
     table: &mut [u8],
+    index: &mut [u8],
     reply: &mut [u8],
 ) -> u32
-    requires { ⌜ (mask < 2 ^ 56) × (length (now extra) ≤ 128) × (length (now «server_key») ≡ 32) × (length (now «session_key») ≡ 32) × (length (now iv) ≡ 12) × (1 ≤ length (now «session_id»)) × (length (now «session_id») ≤ 64) × (place < places (now table)) × (1024 ≤ length (now reply)) ⌝ }
-    ensures { λ r. ⌜ outcome r (now (reply .exit)) (holding (now (table .exit))) ≡ startAt mask (now (extra .entry)) (now («server_key» .entry)) (now («session_key» .entry)) (now (iv .entry)) (now («session_id» .entry)) place hash (expiry .0) (now (table .entry)) (now (reply .entry)) ⌝ }
+    requires { ⌜ (mask < 2 ^ 56) × (length (now extra) ≤ 128) × (length (now «server_key») ≡ 32) × (length (now «session_key») ≡ 32) × (length (now iv) ≡ 12) × (1 ≤ length (now «session_id»)) × (length (now «session_id») ≤ 64) × (place < places (now table)) × (1024 ≤ length (now reply)) × Indexed (now table) (now index) × (placeOf (now table) (now iv) ≡ P.Nowhere) ⌝ }
+    ensures { λ r. ⌜ outcome r (now (reply .exit)) (holding (now (table .exit)) (now (index .exit))) ≡ startAt mask (now (extra .entry)) (now («server_key» .entry)) (now («session_key» .entry)) (now (iv .entry)) (now («session_id» .entry)) place hash (expiry .0) (now (table .entry)) (now (reply .entry)) ⌝ }
 {
     let sealed = token::seal(server_key, iv, session_key, session_id, expiry);
     let s = sealed.s;
     let s_len = sealed.s_len;
     let tag = sealed.tag;
     let len = reply::setup(reply, &s[..s_len], iv, &tag, session_key, hash, mask, extra);
-    session::store(
+    change::take(
         table,
+        index,
         place,
         session::begin(iv, expiry, hashes::mask(hash) as u8),
     );

@@ -1,12 +1,12 @@
 // Whether what is lent has the sizes that document 01 names: check 1.
 ghost use mathlib.Core.Path.{_≡_};
 ghost use Rattle.gate.specs.State.{holding};
-ghost use Rattle.gate.specs.Sizes.{longFrom, tableFits, endFits};
+ghost use Rattle.gate.specs.Sizes.{longFrom, tableFits, stateFits, endFits};
 ghost use Rattle.gate.specs.InnerDecisions.{SetupFits, RequestFits, LentFits};
 use table::session::SIZE;
 
 // Records in a table, bytes in what a request brings, and bytes in a reply buffer.
-const MOST_RECORDS: usize = 64;
+const MOST_RECORDS: usize = 4096;
 
 const MOST_VALUE: usize = 4096;
 
@@ -32,6 +32,12 @@ fn table_fits(table: &[u8]) -> bool
     (table.len() % SIZE == 0) & long_from(SIZE, MOST_RECORDS * SIZE, table)
 }
 
+pub fn state_fits(table: &[u8], index: &[u8]) -> bool
+    ensures { λ r. ⌜ r ≡ stateFits (holding (now (table .entry)) (now (index .entry))) ⌝ }
+{
+    table_fits(table) & (index.len() == 2 * (table.len() / SIZE))
+}
+
 pub fn setup_fits(
     server_key: &[u8],
     session_key: &[u8],
@@ -39,16 +45,17 @@ pub fn setup_fits(
     session_id: &[u8],
     value: &[u8],
     table: &[u8],
+    index: &[u8],
     reply: &[u8],
 ) -> bool
-    ensures { λ r. ⌜ SetupFits (now («server_key» .entry)) (now («session_key» .entry)) (now (iv .entry)) (now («session_id» .entry)) (now (value .entry)) (now (table .entry)) (now (reply .entry)) r ⌝ }
+    ensures { λ r. ⌜ SetupFits (now («server_key» .entry)) (now («session_key» .entry)) (now (iv .entry)) (now («session_id» .entry)) (now (value .entry)) (now (table .entry)) (now (index .entry)) (now (reply .entry)) r ⌝ }
 {
     (server_key.len() == 32)
         & ((session_key.len() == 32)
             & ((iv.len() == 12)
                 & (long_from(1, 64, session_id)
                     & ((value.len() <= MOST_VALUE)
-                        & (table_fits(table) & (LEAST_REPLY <= reply.len()))))))
+                        & (state_fits(table, index) & (LEAST_REPLY <= reply.len()))))))
 }
 
 pub fn request_fits(
@@ -60,14 +67,15 @@ pub fn request_fits(
     path: &[u8],
     body: &[u8],
     table: &[u8],
+    index: &[u8],
     reply: &[u8],
 ) -> bool
-    ensures { λ r. ⌜ RequestFits (now («server_key» .entry)) (now (value .entry)) (now (method .entry)) (now (head .entry)) (now (aside .entry)) (now (path .entry)) (now (body .entry)) (now (table .entry)) (now (reply .entry)) r ⌝ }
+    ensures { λ r. ⌜ RequestFits (now («server_key» .entry)) (now (value .entry)) (now (method .entry)) (now (head .entry)) (now (aside .entry)) (now (path .entry)) (now (body .entry)) (now (table .entry)) (now (index .entry)) (now (reply .entry)) r ⌝ }
 {
-    lent_fits(server_key, value, method, head, aside, path, body, reply) & table_fits(table)
+    lent_fits(server_key, value, method, head, aside, path, body, reply) & state_fits(table, index)
 }
 
-// All but the table.
+// All but table and index.
 pub fn lent_fits(
     server_key: &[u8],
     value: &[u8],
@@ -89,8 +97,8 @@ pub fn lent_fits(
                             & ((body.len() <= MOST_BODY) & (LEAST_REPLY <= reply.len())))))))
 }
 
-pub fn end_fits(iv: &[u8], table: &[u8]) -> bool
-    ensures { λ r. ⌜ r ≡ endFits (now (iv .entry)) (holding (now (table .entry))) ⌝ }
+pub fn end_fits(iv: &[u8], table: &[u8], index: &[u8]) -> bool
+    ensures { λ r. ⌜ r ≡ endFits (now (iv .entry)) (holding (now (table .entry)) (now (index .entry))) ⌝ }
 {
-    (iv.len() == 12) & table_fits(table)
+    (iv.len() == 12) & state_fits(table, index)
 }

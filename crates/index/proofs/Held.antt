@@ -64,6 +64,12 @@ module _ {table : List Record} {index ps : List ℕ} (h : Holds table index ps) 
       ∙ entry-coded (filled (length table) ps) k (omega (arith, length-filled (length table) ps (h .few))) (rw e (omega arith))
       ∙ e
 
+pub length-indexOf : (table : List Record) → length (indexOf table) ≡ 2 * length table
+unfolding indexOf
+length-indexOf table =
+    length-coded (filled (length table) (ranked table))
+    ∙ ap (λ (n : ℕ). 2 * n) (length-filled (length table) (ranked table) (omega (arith, length-ranked table (length table), used-most table (length table))))
+
 -- the index of a well-formed table
 module _ (table : List Record) (w : WellFormed table) where
   ranked-used : (p : ℕ) → Stands p (ranked table) → UsedAt table p

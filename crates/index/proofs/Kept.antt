@@ -1,10 +1,10 @@
 -- The index that fits a table of which one record was freed or taken.
 -- Assumes nothing.
 use mathlib.Core.Path.{_≡_, refl, sym, ap, ap₂, subst, _∙_}
-use mathlib.Core.List.{List, _++_}
+use mathlib.Core.List.{List, [], _∷_, _++_}
 use mathlib.Core.Logic.{_⊎_, inl, inr, ⊎-elim}
 use mathlib.Core.Bool.{Bool, true, false, true≢false}
-use Prim.Native.Nat.{ℕ, _*_, _/_, _≤_, _<_}
+use Prim.Native.Nat.{ℕ, zero, suc, _*_, _/_, _≤_, _<_}
 use native.Mathlib.Omega.{arith}
 use borrow.Author.Tests.{eqb-true}
 use lib.ListN.{length, getD, set, take, drop, length-set, length-append, length-drop}
@@ -22,7 +22,7 @@ use Rattle.table.proofs.Records.{length-recordBytes, length-records, records-st
 use Rattle.table.proofs.Meaning.{freed-sound, wellFormed-is, is-wellFormed}
 use Rattle.table.proofs.Found.{found-nowhere}
 use Rattle.table.proofs.Stored.{stored-here, stored-other, equal-or-not, stored-well, found-kept, alone-new}
-use Rattle.index.specs.Index.{among, ranked, vacant, filled, coded, indexOf, Indexed}
+use Rattle.index.specs.Index.{among, rankedTo, ranked, vacant, filled, coded, indexOf, Indexed}
 use Rattle.index.specs.Fits.{UsedAt, Stands}
 use Rattle.index.specs.InnerEntries.{usedTo, Holds, Enterable, Entered}
 use Rattle.index.proofs.Precedence.{precedes-trans, follows}
@@ -41,6 +41,23 @@ module _ (table : List Record) (w : WellFormed table) (place : ℕ) (r : Record)
 
   used-kept : (p : ℕ) → (p ≡ place → ⊥) → UsedAt (set table place r) p → UsedAt table p
   used-kept p other u = (rw (length-set) at (u .0), rw (stored-other table place r within p other) at (u .1))
+
+-- records with the same marks and IVs have one index
+module _ (before after : List Record) (long : length before ≡ length after)
+    (marks : (p : ℕ) → getD before p freed .used ≡ getD after p freed .used) (ivs : (p : ℕ) → getD before p freed .iv ≡ getD after p freed .iv) where
+  among-same : (place : ℕ) (ps : List ℕ) → among before place ps ≡ among after place ps
+  unfolding among
+  among-same place [] = refl
+  among-same place (p ∷ ps) = rw (ivs p, ivs place, among-same place ps)
+
+  ranked-same : (n : ℕ) → rankedTo before n ≡ rankedTo after n
+  unfolding rankedTo
+  ranked-same zero = refl
+  ranked-same (suc n) = rw (marks n, ranked-same n, among-same n (rankedTo after n))
+
+  pub index-same : indexOf before ≡ indexOf after
+  unfolding indexOf
+  index-same = ap₂ (λ (n : ℕ) (ps : List ℕ). coded (filled n ps)) long (ranked-same (length before) ∙ ap (rankedTo after) long)
 
 unused : (x : Record) → x ≡ freed → x .used ≡ 1 → ⊥
 unused x e u = let z = ap (λ (y : Record). y .used) e in omega arith

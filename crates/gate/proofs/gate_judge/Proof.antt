@@ -14,15 +14,18 @@ asked c =
 
 answer-requires : tie.Need-answer-requires
 answer-requires c κs =
-    let decided = c .before .before .before .before .before .decide .ensures in
+    let decided = c .before .before .before .before .before .before .before .before .decide .ensures in
     (decided-small _ _ _ decided, λ t. (decided .knows t .id-fits, decided .room t))
 
 returns : tie.Need-returns
 returns c =
+    let applied = c .before .before .before .before .before .before .before .before in
+    let decided = applied .before .before .before in
     c .before .before .answer .ensures _
-    ∙ rw (c .before .before .before .before .before .before .apply .ensures) (applied-judged (asked (c .before .before .before .before .before .before .before .before .before .before .before .before .before .before .before .before .before .before .before .before .before .before .before)) _ _ (c .before .before .before .before .before .before .before .before .decide .ensures))
+    ∙ rw (applied .apply .ensures) (applied-judged (asked (decided .before .before .before .before .before .before .before .before .before .before .before .before .before .before .before .before .before)) _ _ (decided .decide .ensures))
 
 pub gate-judge-spec : {M : Type 1} → statement M
 gate-judge-spec =
-    tie.close (tie.spec (λ c κs. search needs) (λ c. search needs) (λ c κs. search needs) (λ c κs. c .before .decide .ensures .within) answer-requires
-    (λ c. search needs) (λ c. search needs) returns)
+    tie.close (tie.spec (λ c κs. search needs) (λ c. search needs) (λ c κs. search needs)
+    (λ c κs. let decided = c .before .before .decide .ensures in (decided .within, decided .indexed)) answer-requires
+    (λ c. search needs) (λ c. search needs) (λ c. search needs) returns)

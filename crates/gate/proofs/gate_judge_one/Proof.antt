@@ -51,7 +51,7 @@ use Rattle.table.proofs.session.Record.Laws as T′
 use Rattle.gate.specs.declared.one.Judged.{Judged}
 use Rattle.orders.specs.Orders.{ordersOf}
 use Rattle.stages.specs.Request.{requestOf}
-use Rattle.gate.specs.State.{holding, outcome}
+use Rattle.gate.specs.State.{indexed, outcome}
 use Rattle.gate.specs.Judge.{judged}
 use Rattle.gate.proofs.one.Judged as J
 use Rattle.gate.proofs.one.Judged.Laws as J′
@@ -129,10 +129,10 @@ module _ {M : Type 1} (𝓤 : URA M) (H : Heap 𝓤) (A : Atoms 𝓤) (W : Given
   -- what is known of the result j and of the reply's last list zs
   abbrev Said : Judged → List ℕ → Type 0
   Said j zs =
-      outcome (j .answer) zs (holding (recordBytes (j .next)))
+      outcome (j .answer) zs (indexed (recordBytes (j .next)))
       ≡ judged
       (requestOf (ordersOf mask hashes (extra .now) life idle session) clock (key .now) (value .now) (method .now) (head .now) (aside .now) (path .now) (body .now) (reply .now))
-      (holding (recordBytes h))
+      (indexed (recordBytes h))
 
   -- the tokens of all lifetimes, and of those other than the record's
   abbrev All : Item 𝓤

@@ -14,8 +14,8 @@ use Rattle.gate.specs.State.{State, holding}
 use Rattle.gate.specs.Sizes.{requestFits}
 use Rattle.gate.specs.Judge.{entryPart}
 use Rattle.gate.specs.InnerDecisions.{Enters}
-use Rattle.gate.proofs.Numbers.{Entered, entry-passed}
-use Rattle.gate.proofs.Judging.{sized, unentered, unread, decided-by}
+use Rattle.gate.proofs.Numbers.{Entered, request-stated, entry-passed}
+use Rattle.gate.proofs.Judging.{sized, found-indexed, unentered, unread, decided-by}
 use Rattle.gate.proofs.judge.decide.Statement.{statement}
 use Rattle.gate.proofs.judge.decide.Tie as tie
 
@@ -25,17 +25,22 @@ asked c =
     requestOf (orders (a .numbers) (a .extra .now)) (a .clock .0) (a .server-key .now) (a .value .now) (a .method .now) (a .head .now) (a .aside .now) (a .path .now) (a .body .now) (a .reply .now)
 
 abbrev lent : tie.Start → State
-lent c = holding (c .args .table .now)
+lent c = holding (c .args .table .now) (c .args .index .now)
 
 abbrev begun : tie.After-enter → tie.Start
-begun c = c .before .before .before .before .before .before .before .before .before .before .before .before .before .before
+begun c = c .before .before .before .before .before .before .before .before .before .before .before .before .before .before .before
 
--- checks 1 to 3
+-- checks 1, 2, 3 and 22
 entry : (c : tie.After-enter) → Enters (requestFits (asked (begun c)) (lent (begun c))) (asked (begun c) .orders) (lent (begun c)) (c .enter .result)
 entry c =
     subst (λ (b : Bool). Enters b (asked (begun c) .orders) (lent (begun c)) (c .enter .result))
     (c .before .before .request-fits .ensures _ _)
-    (c .enter .ensures (lent (begun c)) (c .before .table-number .ensures))
+    (c .enter .ensures (lent (begun c)) (c .before .state-number .ensures))
+
+state-number-requires : tie.Need-state-number-requires
+state-number-requires c κs e =
+    let start = c .before .before .before .before .before .before .before .before .before .before .before .before .before in
+    request-stated (asked start) (lent start) (sym (c .request-fits .ensures _ _) ∙ e)
 
 returns : tie.Need-returns
 unfolding entryPart
@@ -57,6 +62,9 @@ returns-2 : tie.Need-returns-2
 returns-2 c =
     unread (asked (begun (c .before .before .before .before .before .before .before .before))) (lent (begun (c .before .before .before .before .before .before .before .before))) _ (c .before .before .before .before .read .result .number) (passed (c .before .before .before .before .before .before)) (c .refused2 .ensures)
     (c .before .before .before .before .read .ensures _ _ _ _ _ .is) (c .before .if2 .taken)
+
+find-requires : tie.Need-find-requires
+find-requires c κs = (search needs, found-indexed _ _ (entered (c .before .before .before .before .before .before .before .before)))
 
 -- the session's place, and what its record holds
 stands : (c : tie.After-held-at) → StandsAt (asked (begun (c .before .before .before .before .before .before .before .before .before .before .before .before))) (lent (begun (c .before .before .before .before .before .before .before .before .before .before .before .before)) .table) (c .before .find .result) (c .held-at .result)
@@ -82,10 +90,11 @@ returns-3 c =
     let find = c .before .before .before .find .ensures in
     decided-by q (lent (begun (c .before .before .before .before .before .before .before .before .before .before .before .before .before .before))) _ (passed (c .before .before .before .before .before .before .before .before .before .before .before .before)) (sym (read .is) ∙ c .before .before .before .before .before .before .before .if2 .left) (sized q _ (entered (c .before .before .before .before .before .before .before .before .before .before .before .before) .sizes) .reply)
     (rw (← (lies .vector), ← (find .is)) (find .within))
+    (found-indexed q _ (entered (c .before .before .before .before .before .before .before .before .before .before .before .before)))
     (c .settle .ensures _ _ _ held lies (entry (c .before .before .before .before .before .before .before .before .before .before .before .before .before .before) .limits (c .before .before .before .before .before .before .before .before .before .before .before .before .if1 .left)) (stands (c .before .before)))
 
 pub decide-spec : {M : Type 1} → statement M
 decide-spec =
-    tie.close (tie.spec (λ c κs. search needs) (λ c κs. search needs) (λ c κs. search needs) (λ c κs. search needs) returns (λ c. search needs)
-    read-requires (λ c κs. search needs) returns-2 (λ c. search needs) (λ c. search needs) (λ c. search needs) (λ c κs. search needs)
+    tie.close (tie.spec (λ c κs. search needs) state-number-requires (λ c κs. search needs) (λ c κs. search needs) returns (λ c. search needs)
+    read-requires (λ c κs. search needs) returns-2 (λ c. search needs) (λ c. search needs) (λ c. search needs) find-requires
     (λ c κs. c .find .ensures .within) (λ c. search needs) settle-requires returns-3)

@@ -11,12 +11,12 @@ use Rattle.stages.specs.Request.{Request, requestOf}
 use Rattle.stages.specs.Checks.{first}
 use Rattle.stages.specs.Parts.{fieldsOf, ivOf}
 use Rattle.stages.specs.InnerStages.{StandsAt}
-use Rattle.gate.specs.State.{State, holding}
+use Rattle.gate.specs.State.{State, indexed}
 use Rattle.gate.specs.Sizes.{requestFits}
 use Rattle.gate.specs.Judge.{entryPart}
 use Rattle.gate.specs.InnerDecisions.{Enters}
 use Rattle.gate.proofs.Numbers.{Entered, entry-passed}
-use Rattle.gate.proofs.Judging.{sized, unentered, unread, decided-by, one-sizes, one-held, one-within}
+use Rattle.gate.proofs.Judging.{found-indexed, sized, unentered, unread, decided-by, one-sizes, one-held, one-within}
 use Rattle.gate.proofs.one.decide.Statement.{statement}
 use Rattle.gate.proofs.one.decide.Tie as tie
 
@@ -26,7 +26,7 @@ asked c =
     requestOf (orders (a .numbers) (a .extra .now)) (a .clock .0) (a .server-key .now) (a .value .now) (a .method .now) (a .head .now) (a .aside .now) (a .path .now) (a .body .now) (a .reply .now)
 
 abbrev lent : tie.Start → State
-lent c = holding (recordBytes (c .args .«record»))
+lent c = indexed (recordBytes (c .args .«record»))
 
 fits : (c : tie.Start) → Fits (c .args .«record»)
 fits c =
@@ -35,7 +35,7 @@ fits c =
 abbrev begun : tie.After-enter → tie.Start
 begun c = c .before .before .before .before .before .before .before .before .before .before .before .before .before
 
--- checks 1 to 3
+-- checks 1, 2, 3 and 22
 entry : (c : tie.After-enter) → Enters (requestFits (asked (begun c)) (lent (begun c))) (asked (begun c) .orders) (lent (begun c)) (c .enter .result)
 entry c =
     subst (λ (b : Bool). Enters b (asked (begun c) .orders) (lent (begun c)) (c .enter .result))
@@ -86,6 +86,7 @@ returns-3 c =
     let lies = read .lies (c .before .before .before .before .before .before .if2 .left) in
     decided-by q (lent (begun (c .before .before .before .before .before .before .before .before .before .before .before .before .before))) _ (passed (c .before .before .before .before .before .before .before .before .before .before .before)) (sym (read .is) ∙ c .before .before .before .before .before .before .if2 .left) (sized q _ (entered (c .before .before .before .before .before .before .before .before .before .before .before) .sizes) .reply)
     (one-within _ (fits (begun (c .before .before .before .before .before .before .before .before .before .before .before .before .before))) _)
+    (found-indexed q _ (entered (c .before .before .before .before .before .before .before .before .before .before .before)))
     (c .settle .ensures _ _ _ held lies (entry (c .before .before .before .before .before .before .before .before .before .before .before .before .before) .limits (c .before .before .before .before .before .before .before .before .before .before .before .if1 .left)) (stands (c .before .before)))
 
 pub decide-spec : {M : Type 1} → statement M

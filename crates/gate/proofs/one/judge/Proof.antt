@@ -6,7 +6,7 @@ use Rattle.table.specs.Record.{Fits}
 use Rattle.table.proofs.One.{one-place}
 use Rattle.stages.specs.Request.{Request, requestOf}
 use Rattle.orders.specs.Orders.{ordersOf}
-use Rattle.gate.proofs.Judging.{decided-small, applied-judged}
+use Rattle.gate.proofs.Judging.{one-kept, decided-small, applied-judged}
 use Rattle.gate.proofs.one.judge.Statement.{statement}
 use Rattle.gate.proofs.one.judge.Tie as tie
 
@@ -20,7 +20,12 @@ fits c =
     record { used = search needs; iv = search needs; expiry = search needs; any = search needs; highest = search needs; bits = search needs; hash = search needs }
 
 after-requires : tie.Need-after-requires
-after-requires c κs = rw (one-place _ (fits (c .before .before .before .before .before .before .before .before .before .before .before .before .before .before))) at (c .before .decide .ensures .within)
+after-requires c κs =
+    let start = c .before .before .before .before .before .before .before .before .before .before .before .before .before .before in
+    let decided = c .before .decide .ensures in (
+      rw (one-place _ (fits start)) at (decided .within),
+      one-kept (asked start) _ (fits start) _ decided,
+    )
 
 answer-requires : tie.Need-answer-requires
 answer-requires c κs =

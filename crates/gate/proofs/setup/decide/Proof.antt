@@ -12,7 +12,7 @@ use Rattle.gate.specs.Calls.{Setup, setupOf}
 use Rattle.gate.specs.Sizes.{setupFits}
 use Rattle.gate.specs.Setup.{expiryOf, entryPart}
 use Rattle.gate.specs.InnerDecisions.{Enters}
-use Rattle.gate.proofs.Numbers.{entry-passed}
+use Rattle.gate.proofs.Numbers.{Entered, indexed-by, entry-passed}
 use Rattle.gate.proofs.Starting.{lent, entry-refuses, offer-refuses, room-decides}
 use Rattle.gate.proofs.setup.decide.Statement.{statement}
 use Rattle.gate.proofs.setup.decide.Tie as tie
@@ -23,17 +23,22 @@ asked c =
     setupOf (orders (a .numbers) (a .extra .now)) (a .clock .0) (a .server-key .now) (a .session-key .now) (a .iv .now) (a .session-id .now) (a .value .now) (a .reply .now)
 
 abbrev kept : tie.Start → State
-kept c = holding (c .args .table .now)
+kept c = holding (c .args .table .now) (c .args .index .now)
 
 abbrev begun : tie.After-enter → tie.Start
-begun c = c .before .before .before .before .before .before .before .before .before .before .before .before
+begun c = c .before .before .before .before .before .before .before .before .before .before .before .before .before
 
--- checks 1 to 3
+-- checks 1, 2, 3 and 22
 entry : (c : tie.After-enter) → Enters (setupFits (asked (begun c)) (kept (begun c))) (asked (begun c) .orders) (kept (begun c)) (c .enter .result)
 entry c =
     subst (λ (b : Bool). Enters b (asked (begun c) .orders) (kept (begun c)) (c .enter .result))
     (c .before .before .setup-fits .ensures _ _)
-    (c .enter .ensures (kept (begun c)) (c .before .table-number .ensures))
+    (c .enter .ensures (kept (begun c)) (c .before .state-number .ensures))
+
+state-number-requires : tie.Need-state-number-requires
+state-number-requires c κs e =
+    let start = c .before .before .before .before .before .before .before .before .before .before .before in
+    lent (asked start) (kept start) (sym (c .setup-fits .ensures _ _) ∙ e) .kept
 
 returns : tie.Need-returns
 unfolding entryPart
@@ -43,9 +48,18 @@ passed : (c : tie.Else1) → first (entryPart (asked (begun (c .before .before))
 unfolding entryPart
 passed c = sym (entry (c .before .before) .is) ∙ c .if1 .left
 
-offered-requires : tie.Need-offered-requires
+entered : (c : tie.Else1) → Entered (setupFits (asked (begun (c .before .before))) (kept (begun (c .before .before)))) (asked (begun (c .before .before)) .orders) (kept (begun (c .before .before)))
 unfolding entryPart
-offered-requires c κs = lent (asked (begun (c .before .before .before))) _ (entry-passed _ _ _ (passed (c .before)) .sizes) .value
+entered c = entry-passed _ _ _ (passed c)
+
+offered-requires : tie.Need-offered-requires
+offered-requires c κs = lent (asked (begun (c .before .before .before))) _ (entered (c .before) .sizes) .value
+
+room-requires : tie.Need-room-requires
+room-requires c κs =
+    let past = entered (c .before .before .before .before .before) in
+    let size = lent (asked (begun (c .before .before .before .before .before .before .before))) (kept (begun (c .before .before .before .before .before .before .before))) (past .sizes) in
+    (size .iv, indexed-by _ (size .kept) (past .formed) (past .index))
 
 -- the session would last from now on for the session life
 ends : (c : tie.Else1) → expiryOf (asked (begun (c .before .before))) ≡ begun (c .before .before) .args .clock .0 + c .before .before .enter .result .limits .«session_life»
@@ -65,5 +79,5 @@ returns-3 c =
 
 pub decide-spec : {M : Type 1} → statement M
 decide-spec =
-    tie.close (tie.spec (λ c κs. search needs) (λ c κs. search needs) (λ c κs. search needs) returns offered-requires (λ c. search needs)
-    (λ c. search needs) (λ c κs. search needs) returns-2 returns-3)
+    tie.close (tie.spec (λ c κs. search needs) state-number-requires (λ c κs. search needs) returns offered-requires (λ c. search needs)
+    (λ c. search needs) room-requires returns-2 returns-3)

@@ -22,6 +22,7 @@ returns-2 c s v t =
       none = simp (v, t, ← (free .before .before .find .ensures .is), free .enum-told2 .given .1, ← (taken .is), c .before .place .given .1);
       is = sym (taken .is) ∙ c .before .place .given .1;
       within = rw (c .before .place .given .1) at (taken .within);
+      new = sym (free .before .before .find .ensures .is) ∙ free .enum-told2 .given .1;
       by = refl;
       until = refl;
     }
@@ -37,5 +38,5 @@ returns-3 c s v t =
 
 pub room-spec : {M : Type 1} → statement M
 room-spec =
-    tie.close (tie.spec (λ c κs. search needs) (λ c. search needs) returns (λ c. search needs) (λ c κs. search needs) (λ c. search needs)
+    tie.close (tie.spec (λ c κs. c .before .before .before .pre) (λ c. search needs) returns (λ c. search needs) (λ c κs. search needs) (λ c. search needs)
     (λ c. search needs) returns-2 returns-3)

@@ -7,7 +7,7 @@ use Rattle.gate.proofs.sizes.end_fits.Tie as tie
 
 returns : tie.Need-returns
 unfolding endFits
-returns c = simp (c .table-fits .ensures)
+returns c = simp (c .state-fits .ensures)
 
 pub end-fits-spec : {M : Type 1} → statement M
 end-fits-spec = tie.close (tie.spec (λ c κs. search needs) returns)
