@@ -115,7 +115,7 @@ def directly_after_12():
 
 
 def outcome(call):
-    return calls.answered(call, call.table, bytes(model.LEAST_REPLY))
+    return calls.answered(call, bytes(model.LEAST_REPLY))
 
 
 def sent_again(request):
@@ -149,9 +149,9 @@ def phrases():
     yield "At 10 and 13", True
     yield "At 10 the record is freed whatever hash it holds", outcome(talked_down(replaced("plan", "expiry", CLOCK))).table == bytes(rec.SIZE)
     yield "directly after 12", directly_after_12()
-    yield "for 1 to 12, then for 8 against the session's record, then for 13, 14, 21, 15 and 16", "1 to 12, 8 against the record, 13, 14, 21, 15, 16" in model.judge.__doc__
-    yield "for 1, 2, 3, 4, 5, 19, 20, 17 and 18 in this order", "Checks 1, 2, 3, 4, 5, 19, 20, 17, 18" in model.setup.__doc__
-    yield "an ending for 1, 3 and 12", "1, 3, 12" in model.end.__doc__
+    yield "for 1, 2, 3, 22, 4 to 12, then for 8 against the session's record, then for 13, 14, 21, 15 and 16", "1, 2, 3, 22, 4 to 12, 8 against the record, 13, 14, 21, 15, 16" in model.judge.__doc__
+    yield "for 1, 2, 3, 22, 4, 5, 19, 20, 17 and 18 in this order", "Checks 1, 2, 3, 22, 4, 5, 19, 20, 17, 18" in model.setup.__doc__
+    yield "an ending for 1, 3, 22 and 12", "1, 3, 22, 12" in model.end.__doc__
     yield "the bytes 00 to 1f", setup["server_key"] == bytes(range(0x20))
     yield "the session key 20 to 3f", setup["session_key"] == bytes(range(0x20, 0x40))
     yield "the IV 40 to 4b", setup["iv"] == bytes(range(0x40, 0x4C))
@@ -186,7 +186,7 @@ def claims(text):
     for key, _, sizes in FIELDS:
         yield f"{key} of its sizes", all(held_by(key, size) == (size in sizes) for size in range(200))
     named = header_numbers()
-    yield "numbers", [row[:2] for row in rows(text, "Numbers")] == [[str(number), f"`{named[number]}`"] for number in range(22)]
+    yield "numbers", [row[:2] for row in rows(text, "Numbers")] == [[str(number), f"`{named[number]}`"] for number in range(23)]
     yield "names", ", ".join(name.decode() for name in model.NAMES) in re.sub(r"\s+", " ", text)
     told = dict(phrases())
     for phrase, good in told.items():
