@@ -2,8 +2,8 @@
  * The login gate, for a proxy written in C: set up a session, judge a request, end a session by its IV.
  *
  * First come the sizes and numbers, then the calls as libgate.a exports them, and last the form that most hosts want:
- * structs, and inline functions over the calls. Every call takes any bytes, numbers and table and answers a number for
- * them; nothing has to be checked beforehand. libgate.a is x86-64 Linux code. It keeps nothing between two calls,
+ * structs, and inline functions over the calls. Every call takes any bytes, numbers, table and index and answers a number
+ * for them; nothing has to be checked beforehand. libgate.a is x86-64 Linux code. It keeps nothing between two calls,
  * allocates nothing and needs memcpy, memmove and memset alone; threads may call it at once on different buffers.
  *
  * What the caller owes, since no number can be given for it:
@@ -39,8 +39,10 @@ extern "C" {
 #define GATE_EXTRA_NAMES_MAX 8
 
 #define GATE_RECORD_BYTES 31   /* a session's record in a table */
-#define GATE_RECORDS_MAX 64    /* at least 1 */
+#define GATE_RECORDS_MAX 4096  /* at least 1 */
 #define GATE_TABLE_MAX (GATE_RECORD_BYTES * GATE_RECORDS_MAX)
+#define GATE_INDEX_ENTRY_BYTES 2 /* an index has an entry for each record of its table */
+#define GATE_INDEX_MAX (GATE_INDEX_ENTRY_BYTES * GATE_RECORDS_MAX)
 
 #define GATE_SETUP_REPLY_MAX 459
 #define GATE_INVALIDATION_SHA_256_BYTES 46
@@ -67,14 +69,15 @@ extern "C" {
 /*
  * ---- The numbers that a call answers ----
  *
- * A request is checked for 1 to 12, then for 8 against its session's record, then for 13, 14, 21, 15, 16; a setup for 1,
- * 2, 3, 4, 5, 19, 20, 17, 18, in this order; an ending for 1, 3, 12. The first that holds is the number. Table and reply
- * buffer keep every byte and the reply has length 0, unless the line says more.
+ * A request is checked for 1, 2, 3, 22, 4 to 12, then for 8 against its session's record, then for 13, 14, 21, 15, 16; a
+ * setup for 1, 2, 3, 22, 4, 5, 19, 20, 17, 18, in this order; an ending for 1, 3, 22, 12; gate_index for 1, 3. The first
+ * that holds is the number. Table, index and reply buffer keep every byte and the reply has length 0, unless the line says
+ * more; where a record is taken or freed, the index is made to fit.
  */
 enum gate_number {
     GATE_ACCEPTED = 0,         /* done. Setup: the record is taken, the reply is for the client. Request: the reply
                                   is the session id, and the record holds the nonce. Ending: the record is freed, no
-                                  reply */
+                                  reply. gate_index: the index is written, no reply */
     GATE_BAD_SIZE = 1,         /* something lent to this call has a size outside those above */
     GATE_BAD_ORDERS = 2,       /* orders bad */
     GATE_BAD_TABLE = 3,        /* table not well formed */
@@ -97,7 +100,8 @@ enum gate_number {
     GATE_TABLE_FULL = 18,      /* setup: no free record, and none whose expiry is at or before the clock */
     GATE_NO_HASH = 19,         /* setup: no hash in common: none that the client has is allowed */
     GATE_EXPIRY_TOO_LATE = 20, /* setup: expiry would pass 4,294,967,295 */
-    GATE_TOO_FAR_AHEAD = 21    /* the request's time is more than GATE_AHEAD_MAX ahead of the clock */
+    GATE_TOO_FAR_AHEAD = 21,   /* the request's time is more than GATE_AHEAD_MAX ahead of the clock */
+    GATE_BAD_INDEX = 22        /* the index is not the one that fits its table */
 };
 
 /* A number in a few words, for a log. */
@@ -125,6 +129,7 @@ static inline const char *gate_text(unsigned number) {
     case GATE_NO_HASH: return "no hash in common";
     case GATE_EXPIRY_TOO_LATE: return "expiry past the last time";
     case GATE_TOO_FAR_AHEAD: return "request too far ahead";
+    case GATE_BAD_INDEX: return "index does not fit its table";
     default: return "no number of the gate";
     }
 }
@@ -221,6 +226,12 @@ static inline const char *gate_header_name(unsigned bit) {
  * clock is the host's, in seconds. table is 1 to GATE_RECORDS_MAX records of GATE_RECORD_BYTES each; it begins as
  * zeros, which is a table of free records, and from then on only these calls write to it. reply has at least
  * GATE_REPLY_MIN bytes; those after the reply keep their contents.
+ *
+ * index has GATE_INDEX_ENTRY_BYTES for each record of the table: the places (0, 1, ..) of the used records by rising IV,
+ * whose bytes are compared from the first, and then FF FF for each entry that is left; a place has its highest byte
+ * first. It begins as FF in every byte (memset 0xFF), which fits a table of zeros, and from then on only these calls
+ * write to it. The two belong together and are kept together. An index that does not fit its table is refused by
+ * GATE_BAD_INDEX, and nothing repairs it but gate_index.
  */
 
 /*
@@ -238,7 +249,8 @@ uint32_t gate_setup(uint64_t mask, uint64_t hashes, const uint8_t *extra, size_t
                     uint32_t idle, uint32_t session_life, uint32_t clock, const uint8_t *server_key,
                     size_t server_key_len, const uint8_t *session_key, size_t session_key_len, const uint8_t *iv,
                     size_t iv_len, const uint8_t *session_id, size_t session_id_len, const uint8_t *value,
-                    size_t value_len, uint8_t *table, size_t table_len, uint8_t *reply, size_t reply_len);
+                    size_t value_len, uint8_t *table, size_t table_len, uint8_t *index, size_t index_len,
+                    uint8_t *reply, size_t reply_len);
 
 /*
  * Judges a request.
@@ -257,10 +269,17 @@ uint32_t gate_judge(uint64_t mask, uint64_t hashes, const uint8_t *extra, size_t
                     size_t server_key_len, const uint8_t *value, size_t value_len, const uint8_t *method,
                     size_t method_len, const uint8_t *head, size_t head_len, const uint8_t *aside, size_t aside_len,
                     const uint8_t *path, size_t path_len, const uint8_t *body, size_t body_len, uint8_t *table,
-                    size_t table_len, uint8_t *reply, size_t reply_len);
+                    size_t table_len, uint8_t *index, size_t index_len, uint8_t *reply, size_t reply_len);
 
 /* Ends the session of an IV of GATE_IV_BYTES. It has no reply. */
-uint32_t gate_end(const uint8_t *iv, size_t iv_len, uint8_t *table, size_t table_len);
+uint32_t gate_end(const uint8_t *iv, size_t iv_len, uint8_t *table, size_t table_len, uint8_t *index,
+                  size_t index_len);
+
+/*
+ * Writes the index that fits a table, whatever stood there, for a host that has a table and no index of it. It only reads
+ * the table, and has no reply.
+ */
+uint32_t gate_index(const uint8_t *table, size_t table_len, uint8_t *index, size_t index_len);
 
 /* One session's record, for hosts that keep their sessions apart. */
 typedef struct gate_record {
@@ -281,7 +300,11 @@ typedef char gate_record_is_laid_out_so[offsetof(gate_record, used) == 0 && offs
                                             ? 1
                                             : -1];
 
-/* Judges a request as gate_judge does with a table of this one record, and leaves the new record in its place. */
+/*
+ * Judges a request as gate_judge does with a table of this one record, and leaves the new record in its place. It takes
+ * no index. A host that takes a record out of a table for it and puts it back calls gate_index where the answer was
+ * GATE_EXPIRED or GATE_IDLE, since the record is free then.
+ */
 uint32_t gate_judge_one(uint64_t mask, uint64_t hashes, const uint8_t *extra, size_t extra_len, uint32_t request_life,
                         uint32_t idle, uint32_t session_life, uint32_t clock, const uint8_t *server_key,
                         size_t server_key_len, const uint8_t *value, size_t value_len, const uint8_t *method,
@@ -377,24 +400,26 @@ static inline uint8_t *gate_lent_room(gate_room room) {
 }
 
 static inline gate_answer gate_set_up_session(const gate_orders *orders, uint32_t clock, gate_run server_key,
-                                              const gate_new_session *session, gate_room table, gate_room reply) {
+                                              const gate_new_session *session, gate_room table, gate_room index,
+                                              gate_room reply) {
     return gate_answer_of(gate_setup(
         orders->mask, orders->hashes, gate_lent(orders->extra), orders->extra.length, orders->request_life,
         orders->idle, orders->session_life, clock, gate_lent(server_key), server_key.length,
         gate_lent(session->session_key), session->session_key.length, gate_lent(session->iv), session->iv.length,
         gate_lent(session->session_id), session->session_id.length, gate_lent(session->value), session->value.length,
-        gate_lent_room(table), table.length, gate_lent_room(reply), reply.length));
+        gate_lent_room(table), table.length, gate_lent_room(index), index.length, gate_lent_room(reply), reply.length));
 }
 
 static inline gate_answer gate_judge_request(const gate_orders *orders, uint32_t clock, gate_run server_key,
-                                             const gate_request *request, gate_room table, gate_room reply) {
+                                             const gate_request *request, gate_room table, gate_room index,
+                                             gate_room reply) {
     return gate_answer_of(gate_judge(
         orders->mask, orders->hashes, gate_lent(orders->extra), orders->extra.length, orders->request_life,
         orders->idle, orders->session_life, clock, gate_lent(server_key), server_key.length, gate_lent(request->value),
         request->value.length, gate_lent(request->method), request->method.length, gate_lent(request->head),
         request->head.length, gate_lent(request->aside), request->aside.length, gate_lent(request->path),
         request->path.length, gate_lent(request->body), request->body.length, gate_lent_room(table), table.length,
-        gate_lent_room(reply), reply.length));
+        gate_lent_room(index), index.length, gate_lent_room(reply), reply.length));
 }
 
 /* The record is not null: it has no length that could say so. */
@@ -409,8 +434,13 @@ static inline gate_answer gate_judge_one_request(const gate_orders *orders, uint
         reply.length));
 }
 
-static inline gate_answer gate_end_session(gate_run iv, gate_room table) {
-    return gate_answer_of(gate_end(gate_lent(iv), iv.length, gate_lent_room(table), table.length));
+static inline gate_answer gate_end_session(gate_run iv, gate_room table, gate_room index) {
+    return gate_answer_of(
+        gate_end(gate_lent(iv), iv.length, gate_lent_room(table), table.length, gate_lent_room(index), index.length));
+}
+
+static inline gate_answer gate_make_index(gate_run table, gate_room index) {
+    return gate_answer_of(gate_index(gate_lent(table), table.length, gate_lent_room(index), index.length));
 }
 
 /* ---- A record as a struct and as the GATE_RECORD_BYTES that it has in a table, numbers highest byte first ---- */

@@ -9,7 +9,7 @@
  *
  *     day SECONDS                     midnight, in seconds since 1970; times of the day count from here
  *     server-key HEX                  the portal's own key
- *     records COUNT                   how many sessions the table has room for
+ *     records COUNT                   how many sessions the table has room for; it may grow, and keeps those it has
  *     cover NAME..                    what a request must sign: nonce, or a header that has a bit in the mask
  *     hashes NAME..                   what a session may be signed with: SHA-256, SHA-512
  *     extra NAME,NAME                 further headers to sign
@@ -28,8 +28,12 @@
  *     send CALLER METHOD PATH [BODY]  made and delivered at once
  *     signs-with CALLER NAME          the hash that the caller's program signs with from now on, whatever its session's
  *     fetch CALLER COUNT PATH         so many GET requests at once, told in one line
+ *     crowd COUNT                     so many dealers ask for sessions at once, told in one line
  *     end CALLER                      the caller logs out
+ *     restart                         the proxy begins anew, with the table that it kept and an index that has no record
+ *     make-index                      the proxy makes the index of its table
  *     table                           prints the table
+ *     index                           prints the records in the order of the index
  */
 #include "client.h"
 #include "gate.h"
@@ -38,7 +42,7 @@
 #include <stdlib.h>
 #include <string.h>
 
-#define CALLERS 8
+#define CALLERS 16
 #define KEPT 16
 
 typedef struct caller {
@@ -68,7 +72,7 @@ static uint32_t midnight, now;
 static uint8_t server_key[GATE_SERVER_KEY_BYTES];
 static char extra[GATE_EXTRA_MAX + 1];
 static gate_orders orders; /* the portal's, which a caller begins with */
-static uint8_t table[GATE_TABLE_MAX], reply[GATE_REPLY_MIN];
+static uint8_t table[GATE_TABLE_MAX], table_index[GATE_INDEX_MAX], reply[GATE_REPLY_MIN];
 static size_t records;
 
 static caller callers[CALLERS];
@@ -84,6 +88,8 @@ static void give_up(const char *why) {
 
 static gate_room the_table(void) { return gate_room_of(table, records * GATE_RECORD_BYTES); }
 
+static gate_room the_index(void) { return gate_room_of(table_index, records * GATE_INDEX_ENTRY_BYTES); }
+
 static gate_room the_reply(void) { return gate_room_of(reply, sizeof reply); }
 
 static gate_run the_server_key(void) { return gate_bytes(server_key, sizeof server_key); }
@@ -91,7 +97,7 @@ static gate_run the_server_key(void) { return gate_bytes(server_key, sizeof serv
 static gate_answer set_up(const caller *who, const char *asked, const uint8_t *session_key) {
     const gate_new_session session = {gate_bytes(session_key, GATE_SESSION_KEY_BYTES), gate_bytes(who->iv, sizeof who->iv),
                                       gate_string(who->session_id), gate_string(asked)};
-    return gate_set_up_session(&who->orders, now, the_server_key(), &session, the_table(), the_reply());
+    return gate_set_up_session(&who->orders, now, the_server_key(), &session, the_table(), the_index(), the_reply());
 }
 
 /* The proxy hands requests on under the portal's inner name, and sets the caller's own Host line aside. */
@@ -101,10 +107,17 @@ static gate_answer judge(const request *asked) {
     const gate_request judged = {gate_string(asked->value), gate_string(asked->method),
                                  gate_string(head),         gate_string("Host: parts.example\r\n"),
                                  gate_string(asked->path),  gate_string(asked->body)};
-    return gate_judge_request(&asked->from->orders, now, the_server_key(), &judged, the_table(), the_reply());
+    return gate_judge_request(&asked->from->orders, now, the_server_key(), &judged, the_table(), the_index(), the_reply());
 }
 
-static gate_answer end(const caller *who) { return gate_end_session(gate_bytes(who->iv, sizeof who->iv), the_table()); }
+static gate_answer end(const caller *who) {
+    return gate_end_session(gate_bytes(who->iv, sizeof who->iv), the_table(), the_index());
+}
+
+static gate_answer make_index(void) { return gate_make_index(gate_bytes(table, the_table().length), the_index()); }
+
+/* Past the records that the table has, too: where it grows, the entries are there. */
+static void begin_index(void) { memset(table_index, 0xff, sizeof table_index); }
 
 /* ---- A caller's program ---- */
 
@@ -142,16 +155,19 @@ static const char *time_text(uint32_t time) {
 
 static const char *hash_text(uint64_t hash) { return hash == GATE_HASH_SHA_256 ? "SHA-256" : "SHA-512"; }
 
-static void print_event(const caller *who, const char *what, gate_answer answer) {
-    printf("%s  %-7s  %-50s  %2u %s", time_text(now), who->name, what, answer.number, gate_text(answer.number));
+static void print_event(const char *who, const char *what, gate_answer answer) {
+    printf("%s  %-7s  %-50s  %2u %s", time_text(now), who, what, answer.number, gate_text(answer.number));
 }
+
+/* The end of a line about many calls, of which the last got this answer; it is the first that was refused, if one was. */
+static void print_many(gate_answer answer) { printf("%s\n", answer.number == GATE_ACCEPTED ? ", every one" : ", the last one"); }
 
 /* A request and the gate's answer to it, with the reply in words. */
 static void print_judged(const request *asked, gate_answer answer) {
     char what[192];
     int length = sprintf(what, "%s %s%s%s, nonce %u", asked->method, asked->path, asked->body[0] != 0 ? " " : "", asked->body, asked->nonce);
     if (asked->made != now) sprintf(what + length, ", made %s", time_text(asked->made));
-    print_event(asked->from, what, answer);
+    print_event(asked->from->name, what, answer);
     if (answer.number == GATE_ACCEPTED) {
         printf(": session %.*s", (int)answer.length, (const char *)reply);
     } else if (answer.length > 0) {
@@ -174,6 +190,17 @@ static void print_table(void) {
                    record.highest, (unsigned)(record.bits >> 32), (unsigned)(record.bits & 0xffffffffu));
         }
     }
+}
+
+static void print_index(void) {
+    size_t listed = 0;
+    printf("%s  records by rising IV:", time_text(now));
+    for (; listed < records; listed++) {
+        uint64_t place = gate_number_at(table_index + listed * GATE_INDEX_ENTRY_BYTES, GATE_INDEX_ENTRY_BYTES);
+        if (place >= records) break;
+        printf("%s %u", listed > 0 ? "," : "", (unsigned)place + 1);
+    }
+    printf("%s\n", listed > 0 ? "" : " none");
 }
 
 /* ---- Reading the script ---- */
@@ -262,8 +289,10 @@ static void do_day(void) { midnight = number(); }
 static void do_server_key(void) { read_hex(server_key, sizeof server_key); }
 
 static void do_records(void) {
+    size_t before = records;
     records = number();
     if (records > GATE_RECORDS_MAX) give_up("too many records");
+    if (records < before) give_up("too few records");
 }
 
 static void do_cover(void) {
@@ -331,7 +360,7 @@ static void do_setup(void) {
     sprintf(who->session_id, "%s-%d", who->name, ++who->setups);
     client_ask(who->hashes, asked);
     gate_answer answer = set_up(who, asked, session_key);
-    print_event(who, "setup", answer);
+    print_event(who->name, "setup", answer);
     if (answer.number == GATE_ACCEPTED) {
         if (!client_begin(&who->program, (const char *)reply, answer.length, clock_of(who))) give_up("the reply is none");
         printf(": token, key, %s and coverage, %u bytes", hash_text(client_hash(&who->program)), (unsigned)answer.length);
@@ -378,13 +407,38 @@ static void do_fetch(void) {
         answer = judge(&asked);
     }
     sprintf(what, "GET %s %u times, nonces %u to %u", path, sent, first, from->program.next - 1);
-    print_event(from, what, answer);
-    printf("%s\n", answer.number == GATE_ACCEPTED ? ", every one" : ", the last one");
+    print_event(from->name, what, answer);
+    print_many(answer);
+}
+
+static void do_crowd(void) {
+    uint8_t session_key[GATE_SESSION_KEY_BYTES] = {0};
+    uint32_t count = number(), asking = 0;
+    gate_answer answer = {GATE_ACCEPTED, 0};
+    char asked[CLIENT_ASKS_BYTES], what[32];
+    caller dealer;
+    memset(&dealer, 0, sizeof dealer);
+    dealer.orders = orders;
+    client_ask(GATE_HASH_SHA_512, asked);
+    for (; asking < count && answer.number == GATE_ACCEPTED; asking++) {
+        sprintf(dealer.session_id, "dealer-%u", asking + 1);
+        gate_put_number(dealer.iv, 4, asking * 2654435761u); /* odd, so that no IV comes twice */
+        gate_put_number(session_key, 4, asking);
+        answer = set_up(&dealer, asked, session_key);
+    }
+    sprintf(what, "setup %u times", asking);
+    print_event("dealers", what, answer);
+    print_many(answer);
 }
 
 static void do_end(void) {
     const caller *who = named_caller();
-    print_event(who, "logs out", end(who));
+    print_event(who->name, "logs out", end(who));
+    printf("\n");
+}
+
+static void do_make_index(void) {
+    print_event("proxy", "makes the index", make_index());
     printf("\n");
 }
 
@@ -397,7 +451,8 @@ static void act(char *line) {
                   {"has", do_has},       {"hashes-of", do_hashes_of},   {"clock-of", do_clock_of},     {"note", do_note},
                   {"at", do_at},         {"setup", do_setup},           {"make", do_make},             {"deliver", do_deliver},
                   {"forge", do_forge},   {"send", do_send},             {"signs-with", do_signs_with}, {"fetch", do_fetch},
-                  {"end", do_end},       {"table", print_table}};
+                  {"crowd", do_crowd},   {"restart", begin_index},      {"make-index", do_make_index}, {"table", print_table},
+                  {"end", do_end},       {"index", print_index}};
     const char *name = strtok(line, " \n");
     if (name == NULL || name[0] == '#') return;
     for (size_t i = 0; i < sizeof events / sizeof events[0]; i++) {
@@ -416,6 +471,7 @@ int main(int count, char **words) {
         fprintf(stderr, "usage: portal SCRIPT\n");
         return 1;
     }
+    begin_index();
     while (fgets(line, sizeof line, script) != NULL) {
         line_number++;
         act(line);

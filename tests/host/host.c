@@ -37,32 +37,31 @@
 
 enum place { AT_END, AT_BEGIN, ON_HEAP };
 
-enum kind { SETUP, JUDGE, ONE, END, KINDS };
+enum kind { SETUP, JUDGE, ONE, END, MAKE_INDEX, KINDS };
 
-enum which { EXTRA, SERVER_KEY, SESSION_KEY, IV, SESSION_ID, VALUE, METHOD, HEAD, ASIDE, PATH, BODY, TABLE, RECORD, REPLY, RUNS };
+enum which { EXTRA, SERVER_KEY, SESSION_KEY, IV, SESSION_ID, VALUE, METHOD, HEAD, ASIDE, PATH, BODY, TABLE, INDEX, RECORD, REPLY, RUNS };
 
 struct run {
     const char *name;
-    int writable;
     uint8_t *room;
     uint8_t *bytes;
     size_t length;
 };
 
 static struct run runs[RUNS] = {
-    {"extra names", 0, NULL, NULL, 0}, {"server key", 0, NULL, NULL, 0}, {"session key", 0, NULL, NULL, 0},
-    {"IV", 0, NULL, NULL, 0},          {"session id", 0, NULL, NULL, 0}, {"value", 0, NULL, NULL, 0},
-    {"method", 0, NULL, NULL, 0},      {"head", 0, NULL, NULL, 0},       {"set-aside", 0, NULL, NULL, 0},
-    {"path", 0, NULL, NULL, 0},        {"body", 0, NULL, NULL, 0},       {"table", 1, NULL, NULL, 0},
-    {"record", 1, NULL, NULL, 0},      {"reply", 1, NULL, NULL, 0},
+    {"extra names", NULL, NULL, 0}, {"server key", NULL, NULL, 0}, {"session key", NULL, NULL, 0},
+    {"IV", NULL, NULL, 0},          {"session id", NULL, NULL, 0}, {"value", NULL, NULL, 0},
+    {"method", NULL, NULL, 0},      {"head", NULL, NULL, 0},       {"set-aside", NULL, NULL, 0},
+    {"path", NULL, NULL, 0},        {"body", NULL, NULL, 0},       {"table", NULL, NULL, 0},
+    {"index", NULL, NULL, 0},       {"record", NULL, NULL, 0},     {"reply", NULL, NULL, 0},
 };
 
 static enum place place;
 static unsigned long line_number;
 
 /* What goes on from call to call. */
-static uint8_t table[ROOM], reply[ROOM];
-static size_t table_length, reply_length;
+static uint8_t table[ROOM], table_index[ROOM], reply[ROOM];
+static size_t table_length, index_length, reply_length;
 
 static void give_up(const char *why) {
     if (line_number > 0) fprintf(stderr, "line %lu: ", line_number);
@@ -100,8 +99,8 @@ static uint8_t *room_for(enum which which, size_t length) {
     return run->bytes;
 }
 
-static void filled(enum which which) {
-    if (place != ON_HEAP && !runs[which].writable) protect(&runs[which], PROT_READ);
+static void read_only(enum which which) {
+    if (place != ON_HEAP) protect(&runs[which], PROT_READ);
 }
 
 static gate_run lent(enum which which) { return gate_bytes(runs[which].bytes, runs[which].length); }
@@ -186,13 +185,20 @@ static void lend_next(enum which which) {
     const char *hex = words[next_word++];
     size_t length = hex_length(hex);
     read_hex(hex, room_for(which, length), length);
-    filled(which);
+    read_only(which);
+}
+
+/* The bytes of the next word, and how many there are. */
+static size_t keep_next(uint8_t *kept) {
+    const char *hex = words[next_word++];
+    size_t length = hex_length(hex);
+    read_hex(hex, kept, length);
+    return length;
 }
 
 static void set_table(void) {
-    const char *hex = words[next_word++];
-    table_length = hex_length(hex);
-    read_hex(hex, table, table_length);
+    table_length = keep_next(table);
+    index_length = keep_next(table_index);
 }
 
 static void set_reply(void) {
@@ -218,10 +224,11 @@ static void print_left(const uint8_t *left, uint8_t *kept, size_t length) {
     }
 }
 
-static void print_answer(gate_answer answer, const uint8_t *reply_left, const uint8_t *table_left) {
+static void print_answer(gate_answer answer, const uint8_t *reply_left) {
     printf("%u %zu", answer.number, answer.length);
     print_left(reply_left, reply, reply_length);
-    print_left(table_left, table, table_length);
+    print_left(runs[TABLE].bytes, table, table_length);
+    print_left(runs[INDEX].bytes, table_index, index_length);
     putchar('\n');
 }
 
@@ -240,19 +247,22 @@ static struct {
 
 static void perform(void) {
     const gate_run server_key = lent(SERVER_KEY);
-    const gate_room in_table = lent_room(TABLE), in_reply = lent_room(REPLY);
+    const gate_room in_table = lent_room(TABLE), in_index = lent_room(INDEX), in_reply = lent_room(REPLY);
     switch (call.kind) {
     case SETUP:
-        call.answer = gate_set_up_session(&call.orders, call.clock, server_key, &call.session, in_table, in_reply);
+        call.answer = gate_set_up_session(&call.orders, call.clock, server_key, &call.session, in_table, in_index, in_reply);
         break;
     case JUDGE:
-        call.answer = gate_judge_request(&call.orders, call.clock, server_key, &call.request, in_table, in_reply);
+        call.answer = gate_judge_request(&call.orders, call.clock, server_key, &call.request, in_table, in_index, in_reply);
         break;
     case ONE:
         call.answer = gate_judge_one_request(&call.orders, call.clock, server_key, &call.request, call.record, in_reply);
         break;
+    case END:
+        call.answer = gate_end_session(lent(IV), in_table, in_index);
+        break;
     default:
-        call.answer = gate_end_session(lent(IV), in_table);
+        call.answer = gate_make_index(lent(TABLE), in_index);
     }
 }
 
@@ -277,8 +287,8 @@ static void perform_apart(void) {
 }
 
 static void print_deepest(void) {
-    fprintf(stderr, "deepest stack in bytes: setup %zu, judge %zu, one %zu, end %zu\n", deepest[SETUP], deepest[JUDGE],
-            deepest[ONE], deepest[END]);
+    fprintf(stderr, "deepest stack in bytes: setup %zu, judge %zu, one %zu, end %zu, index %zu\n", deepest[SETUP],
+            deepest[JUDGE], deepest[ONE], deepest[END], deepest[MAKE_INDEX]);
 }
 
 static void ask(enum kind kind) {
@@ -308,27 +318,37 @@ static void lend_kept(enum which which, const uint8_t *kept, size_t length) {
     memcpy(room_for(which, length), kept, length);
 }
 
+static void lend_table(void) {
+    lend_kept(TABLE, table, table_length);
+    lend_kept(INDEX, table_index, index_length);
+}
+
+static void make_index(void) {
+    read_only(TABLE);
+    ask(MAKE_INDEX);
+}
+
 static void play_setup(void) {
     read_site();
     for (enum which i = SESSION_KEY; i <= VALUE; i++) lend_next(i);
     const gate_new_session session = {lent(SESSION_KEY), lent(IV), lent(SESSION_ID), lent(VALUE)};
     call.session = session;
-    lend_kept(TABLE, table, table_length);
+    lend_table();
     lend_kept(REPLY, reply, reply_length);
     ask(SETUP);
-    print_answer(call.answer, runs[REPLY].bytes, runs[TABLE].bytes);
+    print_answer(call.answer, runs[REPLY].bytes);
 }
 
 static void play_judge(void) {
     read_site();
     read_request();
-    lend_kept(TABLE, table, table_length);
+    lend_table();
     lend_kept(REPLY, reply, reply_length);
     ask(JUDGE);
-    print_answer(call.answer, runs[REPLY].bytes, runs[TABLE].bytes);
+    print_answer(call.answer, runs[REPLY].bytes);
 }
 
-/* The table's first record, lent as a struct. */
+/* The table's first record, lent as a struct and put back; where it is free then, the index is made anew. */
 static void play_one(void) {
     read_site();
     read_request();
@@ -337,16 +357,24 @@ static void play_one(void) {
     *call.record = gate_record_at(table);
     lend_kept(REPLY, reply, reply_length);
     ask(ONE);
-    lend_kept(TABLE, table, table_length);
+    const gate_answer answer = call.answer;
+    lend_table();
     gate_put_record(runs[TABLE].bytes, call.record);
-    print_answer(call.answer, runs[REPLY].bytes, runs[TABLE].bytes);
+    if (answer.number == GATE_EXPIRED || answer.number == GATE_IDLE) make_index();
+    print_answer(answer, runs[REPLY].bytes);
 }
 
 static void play_end(void) {
     lend_next(IV);
-    lend_kept(TABLE, table, table_length);
+    lend_table();
     ask(END);
-    print_answer(call.answer, reply, runs[TABLE].bytes);
+    print_answer(call.answer, reply);
+}
+
+static void play_index(void) {
+    lend_table();
+    make_index();
+    print_answer(call.answer, reply);
 }
 
 static void play(char *line) {
@@ -354,8 +382,8 @@ static void play(char *line) {
         const char *name;
         size_t words;
         void (*play)(void);
-    } kinds[] = {{"table", 2, set_table},   {"reply", 3, set_reply}, {"setup", 13, play_setup},
-                 {"judge", 15, play_judge}, {"one", 15, play_one},   {"end", 2, play_end}};
+    } kinds[] = {{"table", 3, set_table}, {"reply", 3, set_reply}, {"setup", 13, play_setup}, {"judge", 15, play_judge},
+                 {"one", 15, play_one},   {"end", 2, play_end},    {"index", 1, play_index}};
     split(line);
     const char *kind = words[next_word++];
     for (size_t i = 0; i < sizeof kinds / sizeof kinds[0]; i++) {

@@ -58,7 +58,7 @@ def coverage(arguments):
     history.generate(arguments.count)
     counts = history.counts
     print(f"seed {arguments.seed}: {history.written} calls")
-    for number in range(22):
+    for number in range(23):
         print(f"number {number}: {counts.numbers[number]}")
     for name, count in counts.acts.items():
         print(f"act {count}: {name}")
@@ -94,8 +94,8 @@ def run_logs(arguments):
 
 
 def report_numbers(counts):
-    """True if every number 0 to 21 came up."""
-    missing = [number for number in range(22) if counts.numbers[number] == 0]
+    """True if every number 0 to 22 came up."""
+    missing = [number for number in range(23) if counts.numbers[number] == 0]
     if missing:
         print("numbers that never came up:", *missing)
     return not missing

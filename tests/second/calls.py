@@ -12,6 +12,7 @@ ARGUMENTS = {
     "judge": REQUEST,
     "one": REQUEST,
     "end": ["iv"],
+    "index": [],
 }
 MOST_SHOWN = 5
 
@@ -38,49 +39,56 @@ def orders_of(call):
     return model.Orders(*call.arguments[:len(ORDERS)])
 
 
-def answered(call, table, reply):
-    """What the model answers to this call; the thin entry is lent the table's first record alone."""
-    arguments = call.arguments
+def answered(call, reply):
+    """What the model answers to this call."""
+    table, index, arguments = call.table, call.index, call.arguments
     if call.kind == "end":
-        return model.end(*arguments, table)._replace(reply=reply)
+        return model.end(*arguments, table, index)._replace(reply=reply)
+    if call.kind == "index":
+        return model.make_index(table, index)._replace(reply=reply)
     orders, rest = orders_of(call), arguments[len(ORDERS):]
     if call.kind == "setup":
-        return model.setup(orders, *rest, table, reply)
+        return model.setup(orders, *rest, table, index, reply)
     if call.kind == "judge":
-        return model.judge(orders, *rest, table, reply)
-    outcome = model.judge_one(orders, *rest, table[:rec.SIZE], reply)
-    return outcome._replace(table=outcome.table + table[rec.SIZE:])
+        return model.judge(orders, *rest, table, index, reply)
+    return taken_out(model.judge_one(orders, *rest, table[:rec.SIZE], reply), table, index)
 
 
-def answer_line(outcome, table, reply):
+def taken_out(outcome, table, index):
+    """The thin entry over the table's first record, which is put back; where it is free then, the index is made anew."""
+    table = outcome.table + table[rec.SIZE:]
+    if outcome.number in (10, 13):
+        index = model.make_index(table, index).index
+    return outcome._replace(table=table, index=index)
+
+
+def answer_line(outcome, call, reply):
     """`=` where every byte is as it was before the call."""
-    reply_text = "=" if outcome.reply == reply else run_text(outcome.reply)
-    table_text = "=" if outcome.table == table else run_text(outcome.table)
-    return f"{outcome.number} {outcome.length} {reply_text} {table_text}\n"
+    left = (outcome.reply, reply), (outcome.table, call.table), (outcome.index, call.index)
+    texts = ("=" if after == before else run_text(after) for after, before in left)
+    return " ".join([str(outcome.number), str(outcome.length), *texts]) + "\n"
 
 
 class Writer:
-    """Writes calls, answers and names line by line, and keeps table and reply buffer from call to call."""
+    """Writes calls, answers and names line by line, and keeps table, index and reply buffer from call to call."""
 
     def __init__(self, calls, answers, names):
         self.calls, self.answers, self.names = calls, answers, names
-        self.table = b""
-        self.reply = b""
+        self.table = self.index = self.reply = b""
 
     def write(self, call, name):
         """Write one call with the answer to it, and return the outcome."""
-        if call.table != self.table:
-            self.table = call.table
-            self.calls.write(f"table {run_text(self.table)}\n")
+        if (call.table, call.index) != (self.table, self.index):
+            self.calls.write(f"table {run_text(call.table)} {run_text(call.index)}\n")
         if call.reply is not None:
             count, byte = call.reply
             self.reply = bytes([byte]) * count
             self.calls.write(f"reply {count} {byte}\n")
-        outcome = answered(call, self.table, self.reply)
+        outcome = answered(call, self.reply)
         self.calls.write(" ".join([call.kind, *map(field_text, call.arguments)]) + "\n")
-        self.answers.write(answer_line(outcome, self.table, self.reply))
+        self.answers.write(answer_line(outcome, call, self.reply))
         self.names.write(name + "\n")
-        self.table, self.reply = outcome.table, outcome.reply
+        self.table, self.index, self.reply = outcome.table, outcome.index, outcome.reply
         return outcome
 
 
@@ -119,18 +127,22 @@ def shown(asked, name, before, wanted, got):
 def compare(calls, names, expected, got, out):
     """Print the first few differences whole and a closing line; true if there was none."""
     differences = count = 0
-    table = reply = "(none)"
+    table = index = reply = "(none)"
     got = iter(got)
     for asked, name, wanted in zip(read_calls(calls), names, expected, strict=True):
-        table, reply = asked.table or table, asked.reply or reply
+        if asked.table:
+            _, table, index = asked.table.split(" ")
+        reply = asked.reply or reply
         wanted, answer = wanted.rstrip("\n"), next(got, "no answer").rstrip("\n")
         count += 1
         if wanted != answer:
             differences += 1
             if differences <= MOST_SHOWN:
-                print(shown(asked, name.rstrip("\n"), (table, reply), wanted, answer), file=out)
-        _, _, reply_after, table_after = wanted.split(" ")
-        table = table if table_after == "=" else f"table {table_after}"
+                before = (f"table {table}", f"index {index}", reply)
+                print(shown(asked, name.rstrip("\n"), before, wanted, answer), file=out)
+        _, _, reply_after, table_after, index_after = wanted.split(" ")
+        table = table if table_after == "=" else table_after
+        index = index if index_after == "=" else index_after
         reply = reply if reply_after == "=" else f"reply {reply_after}"
     unasked = sum(1 for _ in got)
     if unasked:

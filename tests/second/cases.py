@@ -121,39 +121,44 @@ TOKEN = b"32:" + SESSION_KEY + b",2:id,4:2000,"
 
 
 def request(records=(FRESH, rec.FREE), orders=ORDERS, clock=1_000, method=b"GET", head=b"Host: a\r\n", path=b"/",
-            token=TOKEN, text=TEXT_12, sign=hashlib.sha512, server_key=SERVER_KEY, reply=REPLY, closing=b"", **changed):
+            token=TOKEN, text=TEXT_12, sign=hashlib.sha512, server_key=SERVER_KEY, reply=REPLY, closing=b"", index=None, **changed):
     """The request with one thing or two changed; further names are fields."""
     run = AESGCM(SERVER_KEY).encrypt(IV, token, None)
     fields = {b"s": run[:-16], b"iv": IV, b"tag": run[-16:], **FIELDS_12}
     fields[b"c"] = hmac.new(SESSION_KEY, text, sign).digest()
     fields.update({key.encode(): run for key, run in changed.items()})
     value = text_of(fields) + closing
-    table = rec.table_of(records)
-    return model.judge(orders, clock, server_key, value, method, head, b"", path, b"", table, reply), table, reply
+    table, index = rec.table_of(records), lent_index(records, index)
+    return model.judge(orders, clock, server_key, value, method, head, b"", path, b"", table, index, reply), table, index, reply
 
 
-def setting_up(records=(rec.FREE,), orders=ORDERS, clock=1_000, value=b"r:AQQ=", session_id=b"id"):
-    table = rec.table_of(records)
-    return model.setup(orders, clock, SERVER_KEY, SESSION_KEY, IV, session_id, value, table, REPLY), table, REPLY
+def setting_up(records=(rec.FREE,), orders=ORDERS, clock=1_000, value=b"r:AQQ=", session_id=b"id", index=None):
+    table, index = rec.table_of(records), lent_index(records, index)
+    return model.setup(orders, clock, SERVER_KEY, SESSION_KEY, IV, session_id, value, table, index, REPLY), table, index, REPLY
+
+
+def lent_index(records, index):
+    """The one that fits, unless another is given."""
+    return rec.fitting_index(records) if index is None else index
 
 
 def row(number, asked, name=""):
     """A refusal without effect."""
-    outcome, table, reply = asked
-    equal(f"row {number} {name}", outcome, model.Outcome(number, 0, reply, table))
+    outcome, table, index, reply = asked
+    equal(f"row {number} {name}", outcome, model.Outcome(number, 0, reply, table, index))
 
 
 def freed(number, asked, sign=hashlib.sha512, length=90):
     """A refusal that frees the one used record and writes the invalidation."""
-    outcome, table, reply = asked
+    outcome, table, index, reply = asked
     text = b"i:" + base64.b64encode(hmac.new(SESSION_KEY, b"Session Expired", sign).digest())
-    wanted = model.Outcome(number, length, text + reply[length:], bytes(len(table)))
+    wanted = model.Outcome(number, length, text + reply[length:], bytes(len(table)), b"\xff" * len(index))
     equal(f"row {number}, which frees", outcome, wanted)
 
 
 def accepted(name, asked, record):
-    outcome, table, reply = asked
-    wanted = model.Outcome(0, 2, b"id" + reply[2:], rec.to_bytes(record) + table[31:])
+    outcome, table, index, reply = asked
+    wanted = model.Outcome(0, 2, b"id" + reply[2:], rec.to_bytes(record) + table[31:], index)
     equal(f"row 0, {name}", outcome, wanted)
 
 
@@ -220,11 +225,12 @@ def old_or_ahead():
 
 def set_up(h, record, **asked):
     """A setup whose reply has this h, and which leaves this record."""
-    outcome, table, _ = setting_up(records=(rec.fresh(b"another iv..", 1_000),), **asked)
+    outcome, *_ = setting_up(records=(rec.fresh(b"another iv..", 1_000),), **asked)
     run = AESGCM(SERVER_KEY).encrypt(IV, TOKEN, None)
     fields = {b"s": run[:-16], b"iv": IV, b"tag": run[-16:], b"kh": SESSION_KEY, b"h": h, b"ah": b"\1\3"}
     text = text_of(fields)
-    equal(f"row 0, setup: {asked}", outcome, model.Outcome(0, len(text), text + REPLY[len(text):], rec.to_bytes(record)))
+    wanted = model.Outcome(0, len(text), text + REPLY[len(text):], rec.to_bytes(record), b"\0\0")
+    equal(f"row 0, setup: {asked}", outcome, wanted)
 
 
 # The two hashes. The request of case 12 under SHA-256 has another h in its text, and its code is made with that hash.
@@ -283,14 +289,79 @@ row(11, request(text=TEXT_12[6:]), "no method signed")
 @case("setup: the longest reply has 459 bytes")
 def longest_reply():
     orders = model.Orders((1 << 56) - 1, 5, b"x" * 128, 0, 0, 0)
-    outcome, _, _ = setting_up(orders=orders, clock=2_000_000_000, session_id=bytes(64))
+    outcome, *_ = setting_up(orders=orders, clock=2_000_000_000, session_id=bytes(64))
     return outcome.length == 459
 
 
-equal("row 0, end", model.end(IV, rec.table_of([rec.FREE, TAKEN])), model.Outcome(0, 0, b"", bytes(62)))
-equal("row 1, end", model.end(IV[:11], rec.to_bytes(FRESH)), model.Outcome(1, 0, b"", rec.to_bytes(FRESH)))
-equal("row 3, end", model.end(IV, rec.to_bytes(FRESH._replace(begun=2))).number, 3)
-equal("row 12, end", model.end(bytes(12), bytes(31)), model.Outcome(12, 0, b"", bytes(31)))
+NONE = b"\xff\xff"
+
+equal("row 0, end", model.end(IV, rec.table_of([rec.FREE, TAKEN]), b"\0\1" + NONE), model.Outcome(0, 0, b"", bytes(62), 2 * NONE))
+equal("row 1, end", model.end(IV[:11], rec.to_bytes(FRESH), b"\0\0"), model.Outcome(1, 0, b"", rec.to_bytes(FRESH), b"\0\0"))
+equal("row 3, end", model.end(IV, rec.to_bytes(FRESH._replace(begun=2)), b"\0\0").number, 3)
+equal("row 12, end", model.end(bytes(12), bytes(31), NONE), model.Outcome(12, 0, b"", bytes(31), NONE))
+
+
+# The index. Of three records the second has the lower IV, and the third is free.
+
+LOWER, HIGHER = (rec.fresh(iv, 2_000) for iv in (b"\x7f" + bytes(11), b"\x80" + bytes(11)))
+THREE, THEIR_INDEX = rec.table_of([HIGHER, LOWER, rec.FREE]), b"\0\1\0\0\xff\xff"
+OTHER_INDEXES = (b"\0\0\0\1\xff\xff", b"\1\0\0\0\xff\xff", b"\xff" * 6, b"\0\1\xff\xff\0\0", b"\0\1\0\0\0\0", b"\0\1\0\0\0\2")
+
+
+def making(table, index):
+    return model.make_index(table, index), table, index, b""
+
+
+equal("the index that fits", rec.index_for(THREE), THEIR_INDEX)
+equal("the index of an empty table", rec.index_for(bytes(31 * 4_096)), NONE * 4_096)
+equal("places of two bytes", rec.fitting_index([rec.fresh(bytes(10) + (999 - n).to_bytes(2, "big"), 0) for n in range(1_000)])[:4], b"\3\xe7\3\xe6")
+equal("end, the lower of two", model.end(LOWER.iv, THREE, THEIR_INDEX),
+      model.Outcome(0, 0, b"", rec.table_of([HIGHER, rec.FREE, rec.FREE]), b"\0\0" + 2 * NONE))
+equal("end, the higher of two", model.end(HIGHER.iv, THREE, THEIR_INDEX),
+      model.Outcome(0, 0, b"", rec.table_of([rec.FREE, LOWER, rec.FREE]), b"\0\1" + 2 * NONE))
+for other_index in OTHER_INDEXES:
+    equal(f"row 22, end, {other_index.hex()}", model.end(LOWER.iv, THREE, other_index), model.Outcome(22, 0, b"", THREE, other_index))
+    equal(f"made anew, {other_index.hex()}", model.make_index(THREE, other_index), model.Outcome(0, 0, b"", THREE, THEIR_INDEX))
+for other_size in (0, 1, 4, 5, 7, 8):
+    row(1, (model.end(LOWER.iv, THREE, bytes(other_size)), THREE, bytes(other_size), b""), f"end, an index of {other_size}")
+    row(1, making(THREE, bytes(other_size)), f"made, an index of {other_size}")
+row(1, making(bytes(31 * 4_097), NONE * 4_097), "made, 4,097 records")
+row(1, making(bytes(30), b""), "made, a table of 30 bytes")
+row(3, making(rec.table_of([FRESH, FRESH]), b"\0\0\0\1"), "made, one IV twice")
+equal("made, 4,096 records", model.make_index(bytes(31 * 4_096), bytes(2 * 4_096)).index, NONE * 4_096)
+for two_alike in (b"\0\0\0\1", b"\0\1\0\0", b"\0\0\xff\xff", 2 * NONE):
+    row(3, request(records=(FRESH, FRESH), index=two_alike), f"one IV twice, index {two_alike.hex()}")
+row(1, request(index=b"\0\0"), "an index of one entry for two")
+row(1, setting_up(index=b""), "an empty index, at setup")
+row(2, request(index=2 * NONE, orders=ORDERS._replace(hashes=0)), "before 22")
+row(22, request(index=2 * NONE), "all FF")
+row(22, request(index=b"\xff\xff\0\0"), "FF FF first")
+row(22, request(index=2 * NONE, t=b"\0\3\xe8"), "before 4")
+row(22, request(index=2 * NONE, clock=2_000), "before 10")
+row(22, setting_up(index=b"\0\0"), "at setup")
+row(22, setting_up(index=b"\0\0", value=b""), "at setup, before 4")
+row(22, (model.end(bytes(12), bytes(31), b"\0\0"), bytes(31), b"\0\0", b""), "end, before 12")
+
+
+@case("setup: the new IV between two others")
+def set_up_between():
+    outcome, *_ = setting_up(records=(HIGHER, rec.fresh(b"\x73" + bytes(11), 2_000), rec.FREE))
+    return (outcome.number, outcome.index) == (0, b"\0\1\0\2\0\0")
+
+
+@case("the index that fits: the used records' places, each once, by rising IV, and then FF FF alone")
+def fitting():
+    rng = random.Random(7)
+    for size in (1, 2, 5, 64, 300):
+        records = [rng.choice([rec.FREE, rec.fresh(rng.randbytes(12), 0)]) for _ in range(size)]
+        index = rec.fitting_index(records)
+        used = sum(record.used for record in records)
+        places = [256 * index[2 * entry] + index[2 * entry + 1] for entry in range(used)]
+        ivs = [records[place].iv for place in places]
+        rising = all(low < high for low, high in zip(ivs, ivs[1:]))
+        if not (all(records[place].used for place in places) and rising and index[2 * used:] == NONE * (size - used)):
+            return False
+    return True
 
 
 # The window over whole histories, against the rule of demand 2

@@ -2,7 +2,8 @@
 
 The stages of a request: plan (orders, times, nonce, method, lines, path, body), token (its three parts), token text (what gets
 sealed), fields (what will be signed), parts and text (of the signature), signed (the fields with c), pieces, value,
-lent (the runs as handed over). A setup has plan, fields, pieces, value, lent; an ending has plan and lent.
+lent (the runs as handed over), index (the one that fits the table). A setup has plan, fields, pieces, value, lent, index; an
+ending has plan, lent, index, and so has the index made anew.
 """
 
 from dataclasses import dataclass, field
@@ -18,11 +19,12 @@ HIGHEST = model.HIGHEST
 
 
 class Call(NamedTuple):
-    """One finished call: its kind, its arguments in the order of the call file, the table and the reply buffer lent."""
+    """One finished call: its kind, its arguments in the order of the call file, the table, index and reply buffer lent."""
 
     kind: str
     arguments: tuple
     table: bytes
+    index: bytes
     reply: Optional[tuple]  # count and byte; None leaves the buffer as it stands
 
 
@@ -32,9 +34,10 @@ class Draft:
 
     kind: str
     table: bytes
-    iv: bytes
-    place: Optional[int] = None  # of the session's record in the table; None for a setup
+    iv: bytes = b""
+    place: Optional[int] = None  # of the session's record in the table; None for a setup and for an index
     reply: Optional[tuple] = None
+    index: bytes = b""
 
     def put(self, place, record):
         self.table = rec.with_record(self.table, place, record)
@@ -50,14 +53,26 @@ class Draft:
 
     def stage(self, name, rng):
         """Make what this stage adds."""
+        if name == "index":
+            self.index = rec.index_for(self.table)
 
 
 @dataclass
 class End(Draft):
-    stages = ("plan", "lent")
+    stages = ("plan", "lent", "index")
 
     def call(self):
-        return Call("end", (self.iv,), self.table, self.reply)
+        return Call("end", (self.iv,), self.table, self.index, self.reply)
+
+
+@dataclass
+class Index(Draft):
+    """The index made anew, whatever stands in its place."""
+
+    stages = ("plan", "lent", "index")
+
+    def call(self):
+        return Call("index", (), self.table, self.index, self.reply)
 
 
 @dataclass
@@ -96,6 +111,7 @@ class Valued(Draft):
             self.pieces = [client.piece(key, contents) for key, contents in self.fields]
         if name == "value":
             self.value = b";".join(self.pieces)
+        super().stage(name, rng)
 
 
 @dataclass
@@ -104,7 +120,7 @@ class Setup(Valued):
     session_id: bytes = b""
     offer: bytes = b""
 
-    stages = ("plan", "fields", "pieces", "value", "lent")
+    stages = ("plan", "fields", "pieces", "value", "lent", "index")
 
     def hashed(self, known):
         """Let the client have this hash alone."""
@@ -117,7 +133,7 @@ class Setup(Valued):
 
     def call(self):
         arguments = (*self.numbers_and_keys(), self.session_key, self.iv, self.session_id, self.value)
-        return Call("setup", arguments, self.table, self.reply)
+        return Call("setup", arguments, self.table, self.index, self.reply)
 
 
 @dataclass
@@ -144,7 +160,7 @@ class Request(Valued):
     head: bytes = b""
     aside: bytes = b""
 
-    stages = ("plan", "token", "token text", "fields", "parts", "text", "signed", "pieces", "value", "lent")
+    stages = ("plan", "token", "token text", "fields", "parts", "text", "signed", "pieces", "value", "lent", "index")
 
     def order_nonces(self):
         self.order(mask=self.orders.mask | 1)
@@ -253,7 +269,7 @@ class Request(Valued):
 
     def call(self):
         runs = (self.value, self.method, self.head, self.aside, self.path, self.body)
-        return Call(self.kind, (*self.numbers_and_keys(), *runs), self.table, self.reply)
+        return Call(self.kind, (*self.numbers_and_keys(), *runs), self.table, self.index, self.reply)
 
 
 def build(draft, faults, rng):

@@ -1,8 +1,9 @@
 """The generator: from a seed, a history of calls on tables that evolve under the model.
 
-A history is cut into chapters. Each begins with an empty table, a server key, a clock and orders of its own. Good calls
-alternate with resent requests, requests of sessions that are gone, endings, single faults and pairs of faults. Every
-single fault must get the number that the catalogue gives it: the model and the catalogue check each other.
+A history is cut into chapters. Each begins with a table, a server key, a clock and orders of its own; the table is empty, or
+large and mostly of strangers' sessions. Good calls alternate with resent requests, requests of sessions that are gone,
+endings, the index made anew, single faults and pairs of faults. Every single fault must get the number that the catalogue
+gives it: the model and the catalogue check each other.
 """
 
 import random
@@ -19,9 +20,13 @@ from faults import CATALOGUE
 HIGHEST = model.HIGHEST
 CALLS_IN_CHAPTER = 250
 TABLE_SIZES = [1, 2, 2, 3, 3, 4, 4, 5, 6, 8, 8, 12, 16, 30, 64]
+LARGE_EVERY = 8  # chapters
+CALLS_IN_LARGE_CHAPTER = 40
+LARGE_SIZES = [65, 100, 128, 200, 256, 257, 300]
+VARIED = [range(12)] * 4 + [(0,), (7,), (8,), (11,), (0, 11), (7, 8), range(8), range(8, 12)]  # the bytes in which IVs differ
 CLOCKS = [0, 200, 5_000, 70_000, 1_505_773_123, 1_760_000_000, (1 << 31) - 600, HIGHEST - 3_000_000, HIGHEST - 9_000]
 OFFERS = [1, 1, 3, 4, 5, 5, 6, 0xF4, 0xF9, 1 << 40 | 5]
-KINDS_IN_PAIRS = ["judge"] * 14 + ["one"] * 3 + ["setup"] * 8 + ["end"]
+KINDS_IN_PAIRS = ["judge"] * 14 + ["one"] * 3 + ["setup"] * 8 + ["end"] * 2 + ["index"]
 
 
 class Disagreement(Exception):
@@ -58,11 +63,13 @@ class History:
         self.counts = Counts()
         self.deck = []
         self.written = 0
+        self.chapters = 0
+        self.chapter_end = 0
 
     def generate(self, count):
         """Write so many calls."""
         while self.written < count:
-            if self.written % CALLS_IN_CHAPTER == 0:
+            if self.written >= self.chapter_end:
                 self.begin_chapter()
             self.step()
 
@@ -70,7 +77,15 @@ class History:
 
     def begin_chapter(self):
         rng = self.rng
+        self.chapters += 1
+        large = self.chapters % LARGE_EVERY == 0
+        self.chapter_end = self.written + (CALLS_IN_LARGE_CHAPTER if large else CALLS_IN_CHAPTER)
+        self.like_iv = rng.randbytes(12)
+        self.varied = rng.choice([places for places in VARIED if len(places) > 1 or not large])
         self.table = bytes(rec.SIZE * rng.choice(TABLE_SIZES))
+        if large:
+            self.fill(rng.choice(LARGE_SIZES))
+        self.index = rec.index_for(self.table)
         self.clock = rng.choice(CLOCKS)
         self.server_key = rng.randbytes(32)
         lives = [500, 3_000, 6_000] if self.clock > HIGHEST - 10_000 else [0, 900, 5_000, 1_209_600, 2_592_000]
@@ -79,6 +94,27 @@ class History:
         self.accepted = []
         self.reply = (rng.choice([1_024, 1_024, 1_024, 1_100]), rng.randrange(256))
         self.reply_altered = True
+
+    def fill(self, size):
+        """A table of so many records, most of them of strangers' sessions, some of which have expired."""
+        rng = self.rng
+        records = [rec.FREE] * size
+        taken = set()
+        for place in rng.sample(range(size), rng.choice([size // 2, size - 20, size - 1])):
+            records[place] = rec.fresh(self.iv_but(taken), rng.choice([0, HIGHEST, HIGHEST]))
+            taken.add(records[place].iv)
+        self.table = rec.table_of(records)
+
+    def new_iv(self):
+        """One that no session of the chapter has or had."""
+        return self.iv_but({session.iv for session in self.sessions} | {record.iv for record in rec.records_of(self.table)})
+
+    def iv_but(self, taken):
+        """Its bytes that vary are even, since some faults alter the lowest bit of the last."""
+        while True:
+            iv = bytes(2 * self.rng.randrange(128) if place in self.varied else byte for place, byte in enumerate(self.like_iv))
+            if iv not in taken:
+                return iv
 
     def live_sessions(self):
         records = rec.records_of(self.table)
@@ -114,6 +150,8 @@ class History:
             return self.set_up()
         if chosen < 0.48:
             return self.end(self.rng.choice(self.sessions))
+        if chosen < 0.49:
+            return self.make_index()
         if chosen < 0.85:
             return self.single_fault()
         return self.pair_of_faults()
@@ -139,7 +177,7 @@ class History:
         """An accepted request again, as a proxy or a reader of a bundle would send it."""
         if not self.accepted:
             return self.set_up()
-        again = drafts.Call("judge", self.rng.choice(self.accepted), self.table, self.lent_reply())
+        again = drafts.Call("judge", self.rng.choice(self.accepted), self.table, self.index, self.lent_reply())
         return self.act(calls.altered(again, clock=self.clock), "resent request")
 
     def request_of_gone_session(self):
@@ -151,6 +189,12 @@ class History:
     def end(self, session):
         draft = drafts.End("end", self.table, session.iv, reply=self.lent_reply())
         return self.ask(draft, [], "ending")
+
+    def make_index(self):
+        """As a host does that has lost the index, or does not trust what it has."""
+        size = len(self.index)
+        found = self.rng.choice([self.index, bytes(size), b"\xff" * size, self.rng.randbytes(size)])
+        return self.act(drafts.Call("index", (), self.table, found, self.lent_reply()), "index made")
 
     def single_fault(self):
         if not self.deck:
@@ -182,7 +226,7 @@ class History:
         return drafts.Setup(
             kind="setup",
             table=self.table,
-            iv=rng.randbytes(12),
+            iv=self.new_iv(),
             reply=self.lent_reply(),
             orders=orders,
             clock=self.clock,
@@ -252,6 +296,8 @@ class History:
 
     def draft_for_faults(self, kind):
         """A call that is good whatever the table holds, so that only the faults speak."""
+        if kind == "index":
+            return drafts.Index("index", self.table, reply=self.lent_reply())
         if kind == "setup":
             draft = self.setup_draft()
             draft.table = with_last_free(draft.table)
@@ -288,8 +334,10 @@ class History:
         self.written += 1
         self.counts.numbers[outcome.number] += 1
         self.reply_altered = call.reply not in (None, self.reply)
-        if call.table == self.table:
-            self.table = outcome.table
+        if (call.table, call.index) == (self.table, self.index):
+            self.table, self.index = outcome.table, outcome.index
+            if self.index != rec.index_for(self.table):
+                raise Disagreement(f"{name}: the model leaves an index that does not fit: {call}")
             if outcome.number == 0:
                 self.remember(call, outcome)
         return outcome
@@ -349,7 +397,7 @@ def fresh_nonce(record, rng):
 
 def with_last_free(table):
     """Room for a setup: a free record at the end, after whatever the table holds."""
-    return table[:63 * rec.SIZE] + rec.to_bytes(rec.FREE)
+    return table + rec.to_bytes(rec.FREE)
 
 
 def with_first(table, place):

@@ -1,4 +1,4 @@
-"""The login gate of document 01, with document 02's changes so far, as pure functions: setup, judge, judge_one and end.
+"""The login gate of document 01, with document 02's changes so far, as pure functions: setup, judge, judge_one, end and make_index.
 
 Each takes everything lent and answers an Outcome. The checks stand in 01's order, one short function for each number;
 a comment names docs/DECISIONS.md where 01 can be read in two ways.
@@ -23,7 +23,7 @@ LONGEST_SESSION_LIFE = 2_592_000
 
 MOST_AHEAD = 30  # seconds of t after now
 
-MOST_RECORDS = 64
+MOST_RECORDS = 4_096
 MOST_VALUE = 4_096
 MOST_METHOD = 16
 MOST_LINES = 16_384
@@ -70,6 +70,7 @@ class Outcome(NamedTuple):
     length: int
     reply: bytes
     table: bytes
+    index: bytes
 
 
 class Token(NamedTuple):
@@ -78,14 +79,14 @@ class Token(NamedTuple):
     expiry: int
 
 
-# The three calls and the thin entry
+# The three calls, the thin entry, and the making of an index
 
 
-def setup(orders, clock, server_key, session_key, iv, session_id, value, table, reply):
-    """Set up a session. Checks 1, 2, 3, 4, 5, 19, 20, 17, 18, in this order."""
+def setup(orders, clock, server_key, session_key, iv, session_id, value, table, index, reply):
+    """Set up a session. Checks 1, 2, 3, 22, 4, 5, 19, 20, 17, 18, in this order."""
 
     def refused(number):
-        return Outcome(number, 0, reply, table)
+        return Outcome(number, 0, reply, table, index)
 
     if (
         key_size_bad(server_key)
@@ -94,6 +95,7 @@ def setup(orders, clock, server_key, session_key, iv, session_id, value, table, 
         or session_id_size_bad(session_id)
         or value_size_bad(value)
         or table_size_bad(table)
+        or index_size_bad(index, table)
         or reply_size_bad(reply)
     ):
         return refused(1)
@@ -102,6 +104,8 @@ def setup(orders, clock, server_key, session_key, iv, session_id, value, table, 
     records = rec.records_of(table)
     if not rec.well_formed(records):
         return refused(3)
+    if index_bad(index, records):
+        return refused(22)
     fields = fields_of(value)
     if fields is None:
         return refused(4)
@@ -121,21 +125,21 @@ def setup(orders, clock, server_key, session_key, iv, session_id, value, table, 
 
     records[place] = rec.fresh(iv, expiry, chosen)
     text = setup_reply(orders, chosen, server_key, iv, Token(session_key, session_id, expiry))
-    return Outcome(0, len(text), written(reply, text), rec.table_of(records))
+    return Outcome(0, len(text), written(reply, text), rec.table_of(records), rec.fitting_index(records))
 
 
-def judge(orders, clock, server_key, value, method, head, aside, path, body, table, reply):
-    """Judge a request. Checks 1 to 12, 8 against the record, 13, 14, 21, 15, 16, in this order."""
+def judge(orders, clock, server_key, value, method, head, aside, path, body, table, index, reply):
+    """Judge a request. Checks 1, 2, 3, 22, 4 to 12, 8 against the record, 13, 14, 21, 15, 16, in this order."""
 
     def refused(number):
-        return Outcome(number, 0, reply, table)
+        return Outcome(number, 0, reply, table, index)
 
     def invalidated(number, token, place):
         """10 and 13 free the record if there is one and write the invalidation, alone among the refusals."""
         if place is not None:
             records[place] = rec.FREE
         text = invalidation(own_hash(field), token.key)
-        return Outcome(number, len(text), written(reply, text), rec.table_of(records))
+        return Outcome(number, len(text), written(reply, text), rec.table_of(records), rec.fitting_index(records))
 
     if (
         key_size_bad(server_key)
@@ -146,6 +150,7 @@ def judge(orders, clock, server_key, value, method, head, aside, path, body, tab
         or path_size_bad(path)
         or body_size_bad(body)
         or table_size_bad(table)
+        or index_size_bad(index, table)
         or reply_size_bad(reply)
     ):
         return refused(1)
@@ -154,6 +159,8 @@ def judge(orders, clock, server_key, value, method, head, aside, path, body, tab
     records = rec.records_of(table)
     if not rec.well_formed(records):
         return refused(3)
+    if index_bad(index, records):
+        return refused(22)
     fields = fields_of(value)
     if fields is None:
         return refused(4)
@@ -191,30 +198,47 @@ def judge(orders, clock, server_key, value, method, head, aside, path, body, tab
         if number != 0:
             return refused(number)
 
-    return Outcome(0, len(token.session_id), written(reply, token.session_id), rec.table_of(records))
+    return Outcome(0, len(token.session_id), written(reply, token.session_id), rec.table_of(records), index)
 
 
 def judge_one(orders, clock, server_key, value, method, head, aside, path, body, record, reply):
-    """The thin entry: 'It answers as a table of that one record would.'"""
-    return judge(orders, clock, server_key, value, method, head, aside, path, body, record, reply)
+    """The thin entry: 'It answers as a table of that one record would.' No index is lent, so the outcome has an empty one."""
+    index = rec.fitting_index(rec.records_of(record))
+    return judge(orders, clock, server_key, value, method, head, aside, path, body, record, index, reply)._replace(index=b"")
 
 
-def end(iv, table):
-    """End a session by its IV. Checks 1, 3, 12; no reply buffer is lent, so the outcome has an empty one."""
+def end(iv, table, index):
+    """End a session by its IV. Checks 1, 3, 22, 12; no reply buffer is lent, so the outcome has an empty one."""
 
     def refused(number):
-        return Outcome(number, 0, b"", table)
+        return Outcome(number, 0, b"", table, index)
 
-    if iv_size_bad(iv) or table_size_bad(table):
+    if iv_size_bad(iv) or table_size_bad(table) or index_size_bad(index, table):
         return refused(1)
     records = rec.records_of(table)
     if not rec.well_formed(records):
         return refused(3)
+    if index_bad(index, records):
+        return refused(22)
     place = rec.place_of(records, iv)
     if place is None:
         return refused(12)
     records[place] = rec.FREE
-    return Outcome(0, 0, b"", rec.table_of(records))
+    return Outcome(0, 0, b"", rec.table_of(records), rec.fitting_index(records))
+
+
+def make_index(table, index):
+    """Write the index that fits a table, whatever stood there. Checks 1, 3; no reply buffer is lent here either."""
+
+    def refused(number):
+        return Outcome(number, 0, b"", table, index)
+
+    if table_size_bad(table) or index_size_bad(index, table):
+        return refused(1)
+    records = rec.records_of(table)
+    if not rec.well_formed(records):
+        return refused(3)
+    return Outcome(0, 0, b"", table, rec.fitting_index(records))
 
 
 # 1: sizes
@@ -256,6 +280,10 @@ def body_size_bad(body):
 
 def table_size_bad(table):
     return len(table) % rec.SIZE != 0 or not 1 <= len(table) // rec.SIZE <= MOST_RECORDS
+
+
+def index_size_bad(index, table):
+    return len(index) != rec.ENTRY * (len(table) // rec.SIZE)
 
 
 def reply_size_bad(reply):
@@ -314,6 +342,14 @@ def idle_limit(orders):
 
 def session_life(orders):
     return orders.session_life or DEFAULT_SESSION_LIFE
+
+
+# 22: the index
+
+
+def index_bad(index, records):
+    """'An index that doesn't fit its table is refused, never repaired silently.'"""
+    return index != rec.fitting_index(records)
 
 
 # 4: the X-S-Armor value

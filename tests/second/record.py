@@ -1,11 +1,16 @@
-"""The session table ('Orders, records and sizes' in 01) and the nonce window ('Age, idleness and the window')."""
+"""The session table ('Orders, records and sizes' in 01), its index (02, K7) and the nonce window ('Age, idleness and the window')."""
 
+import struct
 from typing import NamedTuple
 
 import hashing
 
-SIZE = 31
+LAYOUT = struct.Struct(">B12sIBIQB")  # of a record's fields, numbers highest byte first
+SIZE = LAYOUT.size
 WIDTH = 64  # the highest nonce and the 63 below it
+
+ENTRY = 2  # bytes of an index for each record of its table
+NO_PLACE = 0xFFFF
 
 
 class Record(NamedTuple):
@@ -29,31 +34,16 @@ def fresh(iv, expiry, chosen=hashing.SHA_512):
 
 
 def from_bytes(run):
-    return Record(
-        used=run[0],
-        iv=run[1:13],
-        expiry=int.from_bytes(run[13:17], "big"),
-        begun=run[17],
-        highest=int.from_bytes(run[18:22], "big"),
-        bits=int.from_bytes(run[22:30], "big"),
-        hash=run[30],
-    )
+    return Record(*LAYOUT.unpack(run))
 
 
 def to_bytes(record):
-    return (
-        bytes([record.used])
-        + record.iv
-        + record.expiry.to_bytes(4, "big")
-        + bytes([record.begun])
-        + record.highest.to_bytes(4, "big")
-        + record.bits.to_bytes(8, "big")
-        + bytes([record.hash])
-    )
+    return LAYOUT.pack(*record)
 
 
 def records_of(table):
-    return [from_bytes(table[start:start + SIZE]) for start in range(0, len(table), SIZE)]
+    """The whole ones."""
+    return [from_bytes(table[start:start + SIZE]) for start in range(0, len(table) - SIZE + 1, SIZE)]
 
 
 def table_of(records):
@@ -98,6 +88,25 @@ def ivs_distinct(records):
 
 def well_formed(records):
     return all(marks_good(r) and contents_good(r) for r in records) and ivs_distinct(records)
+
+
+def entries_of(index):
+    return [int.from_bytes(index[start:start + ENTRY], "big") for start in range(0, len(index), ENTRY)]
+
+
+def index_of(entries):
+    """Highest byte first."""
+    return b"".join(entry.to_bytes(ENTRY, "big") for entry in entries)
+
+
+def fitting_index(records):
+    """The places of the used records by rising IV, and FF FF for each entry that is left."""
+    places = sorted((place for place, record in enumerate(records) if record.used == 1), key=lambda place: records[place].iv)
+    return index_of(places + [NO_PLACE] * (len(records) - len(places)))
+
+
+def index_for(table):
+    return fitting_index(records_of(table))
 
 
 def take_nonce(record, nonce):

@@ -12,7 +12,7 @@ import client
 import hashing
 import model
 import record as rec
-from sentences.edges import DEALER, EDGES, SCANNER, example_lines, talked_down
+from sentences.edges import DEALER, EDGES, OTHER, OWN, SCANNER, example_lines, talked_down
 from sentences.placing import CLOCK, at, replaced, request_call
 
 ROOT = pathlib.Path(__file__).resolve().parents[2]
@@ -28,6 +28,7 @@ SIZES = (
     ("path", 1, model.MOST_PATH),
     ("body", 0, model.MOST_BODY),
     (f"table, in records of {rec.SIZE} bytes", 1, model.MOST_RECORDS),
+    ("index, for each record of the table", rec.ENTRY, rec.ENTRY),
     ("reply buffer", model.LEAST_REPLY, None),
 )
 
@@ -107,6 +108,10 @@ def at_edge(asked):
     return next(number for edge, _, number in EDGES if edge == asked)
 
 
+def left_at(asked):
+    return outcome(next(call for edge, call, _ in EDGES if edge == asked))
+
+
 def directly_after_12():
     """Whether 12 comes before a hash other than the session's, and 13 after it."""
     gone = talked_down(at("lent", lambda draft: draft.put(draft.place, rec.FREE)))
@@ -115,7 +120,7 @@ def directly_after_12():
 
 
 def outcome(call):
-    return calls.answered(call, call.table, bytes(model.LEAST_REPLY))
+    return calls.answered(call, bytes(model.LEAST_REPLY))
 
 
 def sent_again(request):
@@ -127,6 +132,7 @@ def phrases():
     setup, request = calls.named(DEALER.setup), DEALER.request
     mask, clock, told = setup["mask"], setup["clock"], dict(DEALER.fields)
     defaults = model.Orders(0, hashing.BOTH, b"", 0, 0, 0)
+    freeing = [left_at(edge) for edge in ("at the token's expiry", "`t` 1,801 seconds after `lt`")]
     yield f"one record of {rec.SIZE} bytes", True
     yield "bit 0", mask & 1 and b"n" in told
     yield "Bit 0", True
@@ -149,9 +155,13 @@ def phrases():
     yield "At 10 and 13", True
     yield "At 10 the record is freed whatever hash it holds", outcome(talked_down(replaced("plan", "expiry", CLOCK))).table == bytes(rec.SIZE)
     yield "directly after 12", directly_after_12()
-    yield "for 1 to 12, then for 8 against the session's record, then for 13, 14, 21, 15 and 16", "1 to 12, 8 against the record, 13, 14, 21, 15, 16" in model.judge.__doc__
-    yield "for 1, 2, 3, 4, 5, 19, 20, 17 and 18 in this order", "Checks 1, 2, 3, 4, 5, 19, 20, 17, 18" in model.setup.__doc__
-    yield "an ending for 1, 3 and 12", "1, 3, 12" in model.end.__doc__
+    yield "`00 02 00 00 FF FF FF FF`", rec.fitting_index([OTHER, rec.FREE, OWN, rec.FREE]).hex(" ") == "00 02 00 00 ff ff ff ff"
+    yield "10 and 13 leave the index that fits", [left.index for left in freeing] == [rec.index_for(left.table) for left in freeing]
+    yield "where the answer was 10 or 13", all(left.table == bytes(rec.SIZE) for left in freeing)
+    yield "for 1, 2, 3, 22, 4 to 12, then for 8 against the session's record, then for 13, 14, 21, 15 and 16", "1, 2, 3, 22, 4 to 12, 8 against the record, 13, 14, 21, 15, 16" in model.judge.__doc__
+    yield "for 1, 2, 3, 22, 4, 5, 19, 20, 17 and 18 in this order", "Checks 1, 2, 3, 22, 4, 5, 19, 20, 17, 18" in model.setup.__doc__
+    yield "an ending for 1, 3, 22 and 12", "1, 3, 22, 12" in model.end.__doc__
+    yield "the making of an index for 1 and 3", "Checks 1, 3;" in model.make_index.__doc__
     yield "the bytes 00 to 1f", setup["server_key"] == bytes(range(0x20))
     yield "the session key 20 to 3f", setup["session_key"] == bytes(range(0x20, 0x40))
     yield "the IV 40 to 4b", setup["iv"] == bytes(range(0x40, 0x4C))
@@ -186,7 +196,7 @@ def claims(text):
     for key, _, sizes in FIELDS:
         yield f"{key} of its sizes", all(held_by(key, size) == (size in sizes) for size in range(200))
     named = header_numbers()
-    yield "numbers", [row[:2] for row in rows(text, "Numbers")] == [[str(number), f"`{named[number]}`"] for number in range(22)]
+    yield "numbers", [row[:2] for row in rows(text, "Numbers")] == [[str(number), f"`{named[number]}`"] for number in range(23)]
     yield "names", ", ".join(name.decode() for name in model.NAMES) in re.sub(r"\s+", " ", text)
     told = dict(phrases())
     for phrase, good in told.items():

@@ -27,8 +27,13 @@ EXPIRY = CLOCK + 86_400
 REPLY = (1_024, 0)
 EXTRA = b",".join(b"X-Dealer-Name-%d" % place for place in range(8))
 LINE = 64  # bytes of a line that nobody covers
+RECORDS = (1, 64, 1_024, 4_096)  # of tables whose cost is compared
 TURNS = 9
 TURN = 0.02  # seconds
+
+
+def session(iv, known=hashing.SHA_512):
+    return rec.Record(1, iv, EXPIRY, 1, 1_000, 0x5555, known)
 
 
 class Maker:
@@ -41,12 +46,11 @@ class Maker:
     def text(self, count):
         return bytes(self.rng.choice(b"abcdefghijklmnopqrstuvwxyz0123456789 ") for _ in range(count)).strip().ljust(count, b".")
 
-    def table(self, used, iv, free=0, known=hashing.SHA_512):
-        """So many used records, the one with this IV in the middle, and then free ones."""
-        records = [rec.Record(1, self.run(12), EXPIRY, 1, 1_000, 1, known) for _ in range(used)]
-        if iv:
-            records[used // 2] = rec.Record(1, iv, EXPIRY, 1, 1_000, 0x5555, known)
-        return rec.table_of(records + [rec.FREE] * free)
+    def table(self, count, place, record):
+        """So many records, this one in its place, the others used."""
+        records = [session(self.run(12)) for _ in range(count)]
+        records[place] = record
+        return rec.table_of(records)
 
     def lines(self, named, size=0):
         """A line for each of the first names, spread among others up to so many bytes."""
@@ -64,16 +68,17 @@ class Maker:
         iv = self.run(12)
         mask = 1 | sum(2 << place for place in range(covered))
         draft = drafts.Request(
-            kind="judge", table=self.table(records, iv, known=known), iv=iv, place=records // 2, reply=REPLY, hash=known,
+            kind="judge", table=self.table(records, records // 2, session(iv, known)), iv=iv, place=records // 2, reply=REPLY, hash=known,
             orders=model.Orders(mask, hashing.BOTH, extra, 0, 0, 0), clock=CLOCK, server_key=self.run(32),
             key=self.run(32), session_id=self.text(32), expiry=expiry, t=CLOCK - 2, lt=lt, n=1_001,
             method=b"POST", head_lines=self.lines(covered) if lines is None else lines, path=b"/order/17?part=4711", body=self.run(body),
         )
         return drafts.build(draft, [], self.rng)
 
-    def setup(self, records=63, extra=b""):
+    def setup(self, records=64, extra=b""):
+        """One record is free, at any place."""
         draft = drafts.Setup(
-            kind="setup", table=self.table(records, None, free=1), iv=self.run(12), reply=REPLY,
+            kind="setup", table=self.table(records, self.rng.randrange(records), rec.FREE), iv=self.run(12), reply=REPLY,
             orders=model.Orders(0x1FF, hashing.BOTH, extra, 0, 0, 0), clock=CLOCK, server_key=self.run(32),
             session_key=self.run(32), session_id=self.text(32), offer=client.encoded_mask(hashing.BOTH),
         )
@@ -81,7 +86,12 @@ class Maker:
 
     def end(self, records=64):
         iv = self.run(12)
-        return drafts.End(kind="end", table=self.table(records, iv), iv=iv, reply=REPLY).call()
+        draft = drafts.End(kind="end", table=self.table(records, records // 2, session(iv)), iv=iv, reply=REPLY)
+        return drafts.build(draft, [], self.rng)
+
+    def index(self, records=64):
+        draft = drafts.Index(kind="index", table=self.table(records, 0, session(self.run(12))), reply=REPLY)
+        return drafts.build(draft, [], self.rng)
 
 
 def measured():
@@ -93,8 +103,9 @@ def measured():
     yield "judge, small, SHA-256", maker.judge(known=hashing.SHA_256)
     yield "judge, body of 64 KiB, SHA-256", maker.judge(body=65_536, known=hashing.SHA_256)
     yield "end", maker.end()
-    for records in (1, 8, 64):
-        yield f"judge, {records} records", maker.judge(records=records)
+    for name, make in (("setup", maker.setup), ("judge", maker.judge), ("end", maker.end), ("index", maker.index)):
+        for records in RECORDS:
+            yield f"{name}, {records} records", make(records=records)
     for size in (1, 4, 16):
         yield f"judge, head of {size} KiB", maker.judge(lines=maker.lines(8, size * 1_024))
     for covered in (0, 8, 55):
@@ -117,7 +128,7 @@ def others():
 def write(path, named_calls):
     with open(path, "w", encoding="ascii") as to, open(path + ".names", "w", encoding="ascii") as names:
         for name, call in named_calls:
-            to.write(f"table {calls.run_text(call.table)}\n")
+            to.write(f"table {calls.run_text(call.table)} {calls.run_text(call.index)}\n")
             to.write("reply {} {}\n".format(*call.reply))
             to.write(" ".join([call.kind, *map(calls.field_text, call.arguments)]) + "\n")
             names.write(name + "\n")
@@ -127,7 +138,7 @@ def turn(call, reply):
     """Seconds of one call, over enough calls to fill a turn."""
     count, start = 0, time.perf_counter()
     while time.perf_counter() - start < TURN:
-        calls.answered(call, call.table, reply)
+        calls.answered(call, reply)
         count += 1
     return (time.perf_counter() - start) / count
 
@@ -135,7 +146,7 @@ def turn(call, reply):
 def time_model():
     for name, call in measured():
         reply = bytes([call.reply[1]]) * call.reply[0]
-        outcome = calls.answered(call, call.table, reply)
+        outcome = calls.answered(call, reply)
         assert outcome.number == 0, (name, outcome.number)
         median = statistics.median(turn(call, reply) for _ in range(TURNS))
         print(f"{name:<36} {median * 1e6:10.1f} us")

@@ -5,6 +5,7 @@ from faults import (  # noqa: F401  (each enters its faults as it is read)
     fields,
     grammar,
     hashes,
+    index,
     lines,
     methods,
     orders,

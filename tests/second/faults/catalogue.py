@@ -9,7 +9,8 @@ import hashing
 
 REQUEST = ("judge", "one")
 VALUED = ("judge", "one", "setup")
-TABLED = ("judge", "setup", "end")
+INDEXED = ("judge", "setup", "end")
+TABLED = (*INDEXED, "index")
 
 CATALOGUE = []
 

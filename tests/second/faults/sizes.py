@@ -118,19 +118,15 @@ def table_empty(draft, rng):
     draft.table = b""
 
 
-@fault("table of 65 records", 1, "lent", TABLED)
-def table_of_65(draft, rng):
-    draft.table += bytes(65 * rec.SIZE - len(draft.table))
+def table_of(count, number, long):
+    @fault(f"table of {count:,} records", number, "plan", TABLED, long=long)
+    def alter(draft, rng):
+        draft.table += bytes(count * rec.SIZE - len(draft.table))
 
 
-@fault("table of 320 records", 1, "lent", TABLED)
-def table_of_320(draft, rng):
-    draft.table += bytes(320 * rec.SIZE - len(draft.table))
-
-
-@fault("table of 64 records", 0, "plan", TABLED)
-def table_of_64(draft, rng):
-    draft.table += bytes(64 * rec.SIZE - len(draft.table))
+table_of(320, 0, long=False)
+table_of(4_096, 0, long=True)
+table_of(4_097, 1, long=True)
 
 
 @fault("table one byte short", 1, "lent", TABLED)
@@ -158,6 +154,15 @@ def record_and_stray_byte(draft, rng):
     draft.table += b"\xff"
 
 
-@fault("record before 65 others", 0, "lent", ("one",))
-def record_before_many(draft, rng):
-    draft.table += bytes(65 * rec.SIZE)
+def index_of(name, change):
+    @fault(f"index {name}", 1, "index", TABLED)
+    def alter(draft, rng):
+        draft.index = change(draft.index)
+
+
+index_of("of no bytes", lambda index: b"")
+index_of("one byte short", lambda index: index[:-1])
+index_of("one byte long", lambda index: index + b"\xff")
+index_of("an entry short", lambda index: index[:-rec.ENTRY])
+index_of("an entry long", lambda index: index + b"\xff\xff")
+index_of("twice as long", lambda index: index + b"\xff" * len(index))

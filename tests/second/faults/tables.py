@@ -1,4 +1,4 @@
-"""Refusal 3 and its edges: tables that aren't well formed. All three calls look at every record."""
+"""Refusal 3 and its edges: tables that aren't well formed. All three calls, and the making of an index, look at every record."""
 
 import hashing
 import model
@@ -75,14 +75,13 @@ def last_malformed(draft, rng):
 def twins(draft, rng):
     first = draft.spare()
     draft.put(first, USED)
-    draft.table = draft.table[:63 * rec.SIZE]
     draft.table += rec.to_bytes(USED._replace(expiry=model.HIGHEST, begun=0, highest=0, bits=0))
 
 
 @fault("two used records with one IV, both expired", 3, "lent", TABLED)
 def expired_twins(draft, rng):
     draft.put(draft.spare(), USED._replace(expiry=0))
-    draft.table = draft.table[:63 * rec.SIZE] + rec.to_bytes(USED._replace(expiry=0))
+    draft.table += rec.to_bytes(USED._replace(expiry=0))
 
 
 @fault("two used records of 64 with one IV", 3, "lent", TABLED)

@@ -25,7 +25,7 @@ class Recorder(calls.Writer):
 
     def write(self, call, name):
         outcome = super().write(call, name)
-        if outcome.number != 1 and call.kind != "end":
+        if outcome.number != 1 and call.kind not in ("end", "index"):
             self.asked.append(call)
         return outcome
 
@@ -51,7 +51,7 @@ def number(place, case):
     """What the first call of the case answers."""
     _, call, _ = next(place(*case))
     count, byte = call.reply
-    return calls.answered(call, call.table, bytes([byte]) * count).number
+    return calls.answered(call, bytes([byte]) * count).number
 
 
 def some(place, cases, most):

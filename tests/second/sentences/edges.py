@@ -9,7 +9,7 @@ import drafts
 import hashing
 import model
 import record as rec
-from sentences.placing import CLOCK, HIGHEST, at, ordered, replaced, request_call, setup_call
+from sentences.placing import CLOCK, HIGHEST, IV, at, lent, ordered, replaced, request_call, setup_call
 
 
 def cases():
@@ -69,8 +69,14 @@ def changed(method):
     return request_call(replaced("lent", "method", method), method=b"POST")
 
 
+def among(count):
+    """In the last of so many records; the others are free."""
+    return lent(request_call(), [rec.FREE] * (count - 1) + [OWN])
+
+
 ONLY_512 = ordered(3, hashes=hashing.SHA_512)
 
+OWN, OTHER = (rec.fresh(iv, HIGHEST) for iv in (IV, IV[::-1]))
 
 HOST = b"Host:a\r\n"
 
@@ -125,6 +131,13 @@ EDGES = (
     ("a setup with an empty value", setup_call(value=b""), 4),
     ("a setup whose session ends at 4,294,967,295", set_up_at(HIGHEST - model.DEFAULT_SESSION_LIFE), 0),
     ("a setup whose session would end a second later", set_up_at(HIGHEST - model.DEFAULT_SESSION_LIFE + 1), 20),
+    ("a request of the session in the last of 4,096 records", among(4_096), 0),
+    ("a request of the session in the last of 4,097 records", among(4_097), 1),
+    ("an index that lacks two bytes", lent(request_call(), [OWN, OTHER], b"\0\0"), 1),
+    ("an index with two entries exchanged", lent(request_call(), [OWN, OTHER], b"\0\1\0\0"), 22),
+    ("an index of `FF` alone, and a used record", lent(request_call(), [OWN], b"\xff\xff"), 22),
+    ("such an index at the token's expiry", lent(lasting(CLOCK), [OWN], b"\xff\xff"), 22),
+    ("two used records with one IV, and any index", lent(request_call(), [OWN, OWN], b"\xff\xff\xff\xff"), 3),
 )
 
 
@@ -147,10 +160,10 @@ def exchange(offered):
     server_key, key, iv = bytes(range(32)), bytes(range(32, 64)), bytes(range(64, 76))
     orders = model.Orders(mask=1 | 2 | 256, hashes=hashing.BOTH, extra=b"X-Dealer", request_life=0, idle=0, session_life=0)
     setup = drafts.Setup(
-        kind="setup", table=rec.to_bytes(rec.FREE), iv=iv, reply=(model.LEAST_REPLY, 0), orders=orders,
+        kind="setup", table=rec.to_bytes(rec.FREE), index=rec.fitting_index([rec.FREE]), iv=iv, reply=(model.LEAST_REPLY, 0), orders=orders,
         clock=1_505_773_123, server_key=server_key, session_key=key, session_id=b"brandt-1", value=client.setup_value(offered),
     ).call()
-    outcome = calls.answered(setup, setup.table, bytes(model.LEAST_REPLY))
+    outcome = calls.answered(setup, bytes(model.LEAST_REPLY))
     reply = outcome.reply[:outcome.length]
     carried = client.parse_reply(reply)
     head = [client.line(b"Host", b"portal.example"), client.line(b"Cookie", b" seat=4 "), client.line(b"X-Dealer", b"Brandt")]
@@ -164,6 +177,7 @@ def exchange(offered):
         "judge",
         (*orders, 1_505_773_190, server_key, client.header_value(fields), method, b"".join(head), b"", path, body),
         outcome.table,
+        outcome.index,
         (model.LEAST_REPLY, 0),
     )
     return Exchange(setup, reply, parts, code, fields, request)

@@ -45,6 +45,7 @@ def setup_call(orders=ORDERS, value=OFFER, session_id=SESSION_ID):
     draft = drafts.Setup(
         kind="setup",
         table=rec.to_bytes(rec.FREE),
+        index=rec.fitting_index([rec.FREE]),
         iv=IV,
         reply=REPLY,
         orders=orders,
@@ -91,18 +92,126 @@ def about(t):
     return min(max(CLOCK, t), HIGHEST - 1)
 
 
+def end_call(iv=IV):
+    return drafts.build(drafts.End("end", rec.to_bytes(rec.fresh(iv, HIGHEST)), iv, 0, REPLY), [], random.Random(0))
+
+
+def index_call():
+    return drafts.build(drafts.Index("index", rec.to_bytes(rec.FREE), reply=REPLY), [], random.Random(0))
+
+
+def lent(call, records, index=None):
+    """The call on these records, with the index that fits them or with another."""
+    return call._replace(table=rec.table_of(records), index=rec.fitting_index(records) if index is None else index)
+
+
+def in_turn(records, steps, index=None):
+    """Calls with their numbers, the first on these records, each other one on what the one before it left."""
+    left = lent(index_call(), records, index)
+    for note, call, number in steps:
+        call = call._replace(table=left.table, index=left.index)
+        yield note, call, (number,)
+        left = calls.answered(call, bytes(model.LEAST_REPLY))
+
+
+# The table and its index
+
+
+def whole_day(count):
+    """A session that comes and goes in a table of so many records, all others used, whose index was lost."""
+    rng = random.Random(count)
+    records = [rec.fresh(rng.randbytes(12), HIGHEST) for _ in range(count)]
+    records[rng.randrange(count)] = rec.FREE
+    return in_turn(records, (
+        ("the index made", index_call(), 0),
+        ("set up", setup_call(), 0),
+        ("another set up", calls.altered(setup_call(), iv=b"no room left"), 18),
+        ("a request", request_call(), 0),
+        ("the same again", request_call(), 16),
+        ("an idle request", request_call(lt=0), 13),
+        ("a request after that", request_call(), 12),
+        ("set up again", setup_call(), 0),
+        ("ended", end_call(), 0),
+        ("ended again", end_call(), 12),
+        ("the index made again", index_call(), 0),
+    ), rng.randbytes(rec.ENTRY * count))
+
+
+def each_call(records, number, index=None):
+    """The calls that look at table and index, where all are refused for the same."""
+    steps = (("a request", request_call()), ("a setup", setup_call()), ("an ending", end_call()), ("the index made", index_call()))
+    return in_turn(records, ((note, call, number) for note, call in steps), index)
+
+
+def looked_up(ivs):
+    """Each IV, and those next to it, in a table of sessions with these."""
+    records = [rec.fresh(iv, HIGHEST) for iv in ivs]
+    for iv in ivs:
+        yield f"{iv.hex()} ended", lent(end_call(iv), records), (0,)
+        yield f"{iv.hex()} set up", lent(calls.altered(setup_call(), iv=iv), records), (17,)
+        for next_iv in (int.from_bytes(iv, "big") + by for by in (-1, 1)):
+            if 0 <= next_iv < 1 << 96 and next_iv.to_bytes(12, "big") not in ivs:
+                yield f"{next_iv:024x} ended", lent(end_call(next_iv.to_bytes(12, "big")), records), (12,)
+
+
+def told_apart(low, high):
+    """Two sessions with IVs that differ little."""
+    records = [rec.fresh(high, HIGHEST), rec.FREE, rec.fresh(low, HIGHEST)]
+    yield "a request of the lower, the index the other way round", lent(request_call(iv=low), records, rec.index_of([0, 2, rec.NO_PLACE])), (22,)
+    yield from in_turn(records, (
+        ("a request of the lower", request_call(iv=low), 0),
+        ("a request of the higher", request_call(iv=high), 0),
+        ("the lower ended", end_call(low), 0),
+        ("a request of the lower after that", request_call(iv=low), 12),
+        ("a request of the higher after that", request_call(iv=high, n=NONCE + 1), 0),
+        ("the lower set up", calls.altered(setup_call(), iv=low), 0),
+        ("the higher ended", end_call(high), 0),
+        ("a request of the lower, set up anew", request_call(iv=low), 0),
+        ("the higher set up", calls.altered(setup_call(), iv=high), 0),
+        ("a request of the higher, set up anew", request_call(iv=high), 0),
+    ))
+
+
+def never_repaired(change):
+    """Whatever is asked, until the index is made anew."""
+    ivs = (IV, IV[::-1], bytes(12), b"\xff" * 12)
+    records = [*(rec.fresh(iv, HIGHEST) for iv in ivs), rec.FREE, rec.FREE]
+    index = rec.index_of(change(rec.entries_of(rec.fitting_index(records)), len(ivs)))
+    return in_turn(records, (
+        ("a request", request_call(), 22),
+        ("an ending", end_call(), 22),
+        ("a setup", calls.altered(setup_call(), iv=b"another iv.."), 22),
+        ("a request at the token's expiry", request_call(replaced("plan", "expiry", CLOCK)), 22),
+        ("the index made", index_call(), 0),
+        ("a request after that", request_call(), 0),
+    ), index)
+
+
 # The thin entry
 
 
 def taken_out(*nonces):
     """Nonces by the thin entry, over a record that is taken out of a table of two and put back; each again by gate_judge."""
-    table = rec.to_bytes(rec.fresh(IV, HIGHEST)) + rec.to_bytes(rec.fresh(IV[::-1], HIGHEST))
+    steps = []
     for nonce in nonces:
         call = request_call(n=nonce)
-        thin = call._replace(kind="one", table=table)
-        yield f"nonce {nonce} by the thin entry", thin, (0,)
-        table = calls.answered(thin, table, bytes(model.LEAST_REPLY)).table
-        yield f"nonce {nonce} again, by gate_judge", call._replace(table=table), (16,)
+        steps.append((f"nonce {nonce} by the thin entry", call._replace(kind="one"), 0))
+        steps.append((f"nonce {nonce} again, by gate_judge", call, 16))
+    return in_turn([rec.fresh(IV, HIGHEST), rec.fresh(IV[::-1], HIGHEST)], steps)
+
+
+def freed_apart(note, freeing, number):
+    """A record that is freed by the thin entry, after which the host makes the index anew, and the sessions beside it."""
+    records = [rec.fresh(IV, HIGHEST), rec.fresh(IV[::-1], HIGHEST), rec.FREE]
+    return in_turn(records, (
+        (f"{note} by the thin entry", freeing._replace(kind="one"), number),
+        ("a request of the other session", request_call(iv=IV[::-1]), 0),
+        ("a request of the freed one", request_call(), 12),
+        ("the same by the thin entry", request_call()._replace(kind="one"), 12),
+        ("set up again", setup_call(), 0),
+        ("a request by the thin entry", request_call()._replace(kind="one"), 0),
+        ("the other session ended", end_call(IV[::-1]), 0),
+    ))
 
 
 # The hash
