@@ -64,7 +64,7 @@ use Rattle.stages.proofs.Checks.{passed-by}
 use Rattle.stages.proofs.Parts.{session-numbered}
 use Rattle.gate.specs.Calls.{Setup}
 use Rattle.gate.specs.State.{State}
-use Rattle.gate.specs.Sizes.{setupFits, tableFits, lentFits, requestFits}
+use Rattle.gate.specs.Sizes.{exactly, setupFits, tableFits, stateFits, lentFits, requestFits}
 use Rattle.gate.specs.Entry.{stateChecks, entryChecks}
 use Rattle.gate.specs.Setup.{offered, chosenOf, expiryOf, setupChecks, newToken, sealedOf, replyOf, setUp}
 use Rattle.gate.specs.Judge.{entryPart, requestChecks, judged}
@@ -75,7 +75,9 @@ use Rattle.demands.specs.Passing.{PassesOthers, Reaches}
 use Rattle.demands.specs.Client.{Message, nonceField, clientText, clientCode, mainFields, clientFields, clientRequest, LentBytes, Fair}
 use Rattle.demands.proofs.Shared.Stored.{replaced, taken-within}
 use Rattle.demands.proofs.Shared.Checks.{vouched-decides, accepted-passes, accepted-reaches}
-use Rattle.demands.proofs.Shared.Answers.{setUp-number, setUp-table, begun-table, judged-number}
+use Rattle.index.specs.Index.{indexOf}
+use Rattle.index.proofs.Held.{length-indexOf}
+use Rattle.demands.proofs.Shared.Answers.{setUp-number, setUp-table, setUp-index, begun-table, judged-number}
 use Rattle.demands.proofs.Shared.Passed.{Takes, setup-takes}
 use Rattle.demands.proofs.Untouched.Setups.{token-sized}
 use Rattle.demands.proofs.Client.Fields.{plain, Good, AllGood, read-back, joined-short, numeral-good, sized-good, exact-good, code-good, nonce-good, both-good, orders-good}
@@ -288,9 +290,14 @@ module _ (s : Setup) (state : State) (done : first (setupChecks s state) ≡ 0) 
     record-is : recordAt (after .table) (takes .place) ≡ new
     record-is = ap (λ (t : List ℕ). recordAt t (takes .place)) table-is ∙ there .here
 
-    table-fits : tableFits (after .table) ≡ true
-    unfolding tableFits
-    table-fits = rw (table-is, there .as-long) (size .table)
+    index-is : after .index ≡ indexOf (records (after .table))
+    index-is = setUp-index s state done
+
+    state-fits : stateFits after ≡ true
+    unfolding stateFits tableFits
+    state-fits =
+        let fits = both (tableFits (state .table)) (exactly (2 * places (state .table)) (state .index)) (size .kept) .0 in
+        rw (index-is, eq-eqb _ _ (length-indexOf (records (after .table)) ∙ ap (λ (n : ℕ). 2 * n) (length-records (after .table))), table-is, there .as-long) (rw fits refl)
 
     method-some : 1 ≤ length (m .method)
     unfolding isToken
@@ -310,7 +317,7 @@ module _ (s : Setup) (state : State) (done : first (setupChecks s state) ≡ 0) 
           le-leb (length (m .path)) 2048 (fair .path-fits),
           le-leb (length (m .body)) 65536 (fair .body-fits),
           le-leb 1024 (length reply) (fair .reply-room),
-          table-fits,
+          state-fits,
         ) refl
 
     steps : stepped q (after .table) .verdict ≡ Accepted
@@ -335,7 +342,7 @@ module _ (s : Setup) (state : State) (done : first (setupChecks s state) ≡ 0) 
 
     entry-none : first (entryPart q after) ≡ 0
     unfolding entryPart entryChecks stateChecks clientRequest
-    entry-none = rw (fits, entered .orders, records-are, is-wellFormed _ well) refl
+    entry-none = rw (fits, entered .orders, ap (same (after .index)) (sym index-is) ∙ same-self (after .index), records-are, is-wellFormed _ well) refl
 
     reading-none : first (readingPart q) ≡ 0
     unfolding readingPart coveringPart twice clientRequest

@@ -1,7 +1,7 @@
 -- Document 01, 'How far each contract reaches': 'Every public function has a contract that determines result, reply buffer and table for all
 -- inputs, refusals too; that any two results allowed by it are equal is proved'. Here for the calls that are exported to C, gate_setup,
--- gate_judge, gate_end and gate_judge_one, and for the primitives: over everything that can be lent to a call, two results that its contract
--- allows are one. docs/CONTRACTS.md goes through the functions that are not exported: most have an equation for a contract, which leaves no choice.
+-- gate_judge, gate_end, gate_index and gate_judge_one, and for the primitives: over everything that can be lent to a call, two results that its contract
+-- allows are one; the state is the table and its index (document 02, K7). docs/CONTRACTS.md goes through the functions that are not exported: most have an equation for a contract, which leaves no choice.
 -- Assumes nothing.
 use mathlib.Core.Path.{_≡_, sym, ap, _∙_}
 use mathlib.Core.List.{List, []}
@@ -13,10 +13,11 @@ use Rattle.table.specs.Record.{recordBytes, recordOf, Fits}
 use Rattle.table.proofs.Records.{recordOf-bytes}
 use Rattle.gate.specs.Calls.{Setup}
 use Rattle.stages.specs.Request.{Request}
-use Rattle.gate.specs.State.{State, holding, Outcome, outcome}
+use Rattle.gate.specs.State.{State, indexed, Outcome, outcome}
 use Rattle.gate.specs.Setup.{setUp}
 use Rattle.gate.specs.Judge.{judged}
 use Rattle.gate.specs.End.{ended}
+use Rattle.gate.specs.Remake.{remade}
 use Rattle.primitives.specs.Answer.{Answer, answer}
 use Rattle.primitives.specs.Digests.{digestCall, hmacCall}
 use Rattle.primitives.specs.Sealing.{SealAnswer, sealAnswer, sealCall, openCall}
@@ -49,7 +50,7 @@ setup-determined s before = one-result
 pub judge-determined : (q : Request) (before : State) (a b : Result) → Allows (judged q before) a → Allows (judged q before) b → a ≡ b
 judge-determined q before = one-result
 
--- gate_end is lent no reply buffer
+-- gate_end and gate_index are lent no reply buffer
 pub record EndResult : Type 0 where
   pub answer : ℕ
   pub state : State
@@ -57,28 +58,34 @@ pub record EndResult : Type 0 where
 abbrev pub AllowsEnd : Outcome → EndResult → Type 0
 AllowsEnd o r = outcome (r .answer) [] (r .state) ≡ o
 
-pub end-determined : (iv : List ℕ) (before : State) (a b : EndResult) → AllowsEnd (ended iv before) a → AllowsEnd (ended iv before) b → a ≡ b
-end-determined iv before a b p q =
+one-end : {o : Outcome} (a b : EndResult) → AllowsEnd o a → AllowsEnd o b → a ≡ b
+one-end a b p q =
     let whole : EndResult → Result = λ r. record { answer = r .answer; reply = []; state = r .state } in
     ap (λ (r : Result). record { answer = r .answer; state = r .state }) (one-result (whole a) (whole b) p q)
 
--- gate_judge_one is lent one session's record and leaves it there: its outcome is that of a table of the record's bytes
+pub end-determined : (iv : List ℕ) (before : State) (a b : EndResult) → AllowsEnd (ended iv before) a → AllowsEnd (ended iv before) b → a ≡ b
+end-determined iv before = one-end
+
+pub remake-determined : (before : State) (a b : EndResult) → AllowsEnd (remade before) a → AllowsEnd (remade before) b → a ≡ b
+remake-determined before = one-end
+
+-- gate_judge_one is lent one session's record and leaves it there: its outcome is that of a table of the record's bytes, beside its index
 pub record OneResult : Type 0 where
   pub answer : ℕ
   pub reply : List ℕ
   pub session : Record
 
 abbrev pub AllowsOne : Outcome → OneResult → Type 0
-AllowsOne o r = outcome (r .answer) (r .reply) (holding (recordBytes (r .session))) ≡ o
+AllowsOne o r = outcome (r .answer) (r .reply) (indexed (recordBytes (r .session))) ≡ o
 
 -- a record's fields fit their types, so its bytes leave no choice of it
 pub judge-one-determined : (q : Request) (before : Record) (a b : OneResult) → Fits (a .session) → Fits (b .session)
-    → AllowsOne (judged q (holding (recordBytes before))) a → AllowsOne (judged q (holding (recordBytes before))) b → a ≡ b
+    → AllowsOne (judged q (indexed (recordBytes before))) a → AllowsOne (judged q (indexed (recordBytes before))) b → a ≡ b
 judge-one-determined request before a b f g p q =
     read a f ∙ ap one (one-result (whole a) (whole b) p q) ∙ sym (read b g)
   where
     whole : OneResult → Result
-    whole r = record { answer = r .answer; reply = r .reply; state = holding (recordBytes (r .session)) }
+    whole r = record { answer = r .answer; reply = r .reply; state = indexed (recordBytes (r .session)) }
 
     one : Result → OneResult
     one r = record { answer = r .answer; reply = r .reply; session = recordOf (r .state .table) }

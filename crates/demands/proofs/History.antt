@@ -3,7 +3,7 @@
 -- than 64 below the highest accepted; a first nonce always passes."
 -- `accepted-exactly` is that sentence. `verdict-exactly` says more: which of 0, 15 and 16 is answered, and it asks only that no two setups
 -- that were answered 0 had one IV. The calls before are any, with any arguments and answers, and need not order nonces. The table has any
--- number of records: where that is not 1 to 64, each call answers 1. A session is known by its IV (document 01).
+-- number of records: where that is not 1 to 4,096, each call answers 1. A session is known by its IV (document 01).
 -- `well-formed` and `never-malformed`: such a table stays well formed and keeps its length, so 3 is never answered.
 -- Assumes nothing.
 pub mod Sessions
@@ -35,11 +35,12 @@ use Rattle.gate.specs.Setup.{offerPart, lastingPart, roomPart, setupChecks}
 use Rattle.stages.specs.Parts.{ivOf, nonceOf, readingPart, coveringPart, tokenPart, signaturePart, sessionPart, noncePart}
 use Rattle.gate.specs.Judge.{entryPart, requestChecks, judged}
 use Rattle.gate.specs.End.{endChecks}
-use Rattle.demands.specs.History.{Call, setting-up, judging, judging-one, ending, takenOut, answer, empty, after, acceptedIn, setUpIn, chosenIn, lentIn, Apart}
+use Rattle.gate.specs.Remake.{remakeChecks}
+use Rattle.demands.specs.History.{Call, setting-up, judging, judging-one, ending, making-index, takenOut, answer, empty, after, acceptedIn, setUpIn, chosenIn, lentIn, Apart}
 use Rattle.demands.specs.Passing.{PassesOthers}
 use Rattle.demands.proofs.Shared.Checks.{never-given}
 use Rattle.demands.proofs.History.Tables.{Standing, empty-standing}
-use Rattle.demands.proofs.Shared.Answers.{setUp-number, ended-number, judged-number}
+use Rattle.demands.proofs.Shared.Answers.{setUp-number, ended-number, remade-number, judged-number}
 use Rattle.demands.proofs.Shared.Others.{accepts-zero, passes-finds, passes-window}
 use Rattle.demands.proofs.History.Lent.{lent-apart}
 use Rattle.demands.proofs.History.One.{one-well}
@@ -104,7 +105,7 @@ well-formed n calls = (
 
 -- so no further call answers 3
 pub never-malformed : (n : ℕ) (calls : List Call) (call : Call) → answer call (after (empty n) calls) .number ≡ 3 → ⊥
-unfolding setupChecks S.entryPart offerPart lastingPart roomPart requestChecks entryPart readingPart coveringPart tokenPart signaturePart sessionPart noncePart endChecks entryChecks stateChecks
+unfolding setupChecks S.entryPart offerPart lastingPart roomPart requestChecks entryPart readingPart coveringPart tokenPart signaturePart sessionPart noncePart endChecks remakeChecks entryChecks stateChecks
 never-malformed n calls (setting-up s) e =
     let well = well-formed n calls .0 in
     never-given 3 (setupChecks s (after (empty n) calls)) (λ z. omega arith) (rw well) (sym (setUp-number s _) ∙ e)
@@ -118,3 +119,6 @@ never-malformed n calls (judging-one place q) e =
 never-malformed n calls (ending iv) e =
     let well = well-formed n calls .0 in
     never-given 3 (endChecks iv (after (empty n) calls)) (λ z. omega arith) (rw well) (sym (ended-number iv _) ∙ e)
+never-malformed n calls making-index e =
+    let well = well-formed n calls .0 in
+    never-given 3 (remakeChecks (after (empty n) calls)) (λ z. omega arith) (rw well) (sym (remade-number _) ∙ e)

@@ -6,4 +6,5 @@ pub mod Stored
 pub mod Named
 pub mod Passed
 pub mod Carried
+pub mod Indexes
 pub mod Others

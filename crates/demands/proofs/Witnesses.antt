@@ -27,6 +27,7 @@ use Rattle.armor.specs.Value
 use Rattle.armor.specs.Fields.{contents, times, the, rightTimes, nonceBit, requestFields, setupFields}
 use Rattle.cells.specs.Text.{codes}
 use Rattle.cells.specs.Spans.{all, leading}
+use Rattle.cells.proofs.Equality.{same-self}
 use Rattle.cells.proofs.Numbers.{bytes-bytesOf}
 use Rattle.cells.proofs.Tests.{both}
 use Rattle.names.specs.Names.{hasByte, tokenByte, isToken, lower, sameName, headerNames}
@@ -46,14 +47,16 @@ use Rattle.token.proofs.Exactly.{no-token}
 use Rattle.gate.specs.Calls.{Setup, setupOf}
 use Rattle.stages.specs.Request.{Request, requestOf}
 use Rattle.stages.specs.Checks.{first}
-use Rattle.gate.specs.State.{State, holding}
-use Rattle.gate.specs.Sizes.{tableFits, setupFits, lentFits, requestFits, endFits}
+use Rattle.gate.specs.State.{State, holding, indexed}
+use Rattle.gate.specs.Sizes.{tableFits, stateFits, setupFits, lentFits, requestFits, endFits}
 use Rattle.gate.specs.Entry.{stateChecks, entryChecks}
 use Rattle.gate.specs.Setup as S
 use Rattle.gate.specs.Setup.{offered, chosenOf, expiryOf, offerPart, lastingPart, roomPart, setupChecks, setUp}
 use Rattle.stages.specs.Parts.{fieldsOf, ivOf, timeOf, openedOf, tokenOf, twice, readingPart, coveringPart, tokenPart, signaturePart, sessionPart, noncePart}
 use Rattle.gate.specs.Judge.{entryPart, requestChecks, answered, judged}
 use Rattle.gate.specs.End.{endChecks, ended}
+use Rattle.gate.specs.Remake.{remakeChecks, remade}
+use Rattle.index.specs.Index as Index
 use Rattle.gate.proofs.Numbers.{entry-passed}
 use Rattle.demands.specs.History.{empty}
 use Rattle.demands.specs.Client.{Message, clientRequest, LentBytes, Fair}
@@ -93,11 +96,15 @@ living value life = under (ordersOf 2 5 [] life 0 0) 0 value
 
 -- a table of one session, which has this IV and lasts until 1
 abbrev pub session : List ℕ → State
-session iv = holding (recordBytes (begun iv 1 4))
+session iv = indexed (recordBytes (begun iv 1 4))
 
 -- a table with a mark that is neither 0 nor 1
 abbrev pub marked : State
-marked = holding (replicate size 2)
+marked = holding (replicate size 2) (replicate 2 255)
+
+-- a session beside an index that does not name it
+abbrev pub unnamed : State
+unnamed = holding (recordBytes (begun (zeros 12) 1 4)) (replicate 2 255)
 
 -- a request with a method, a value and a head, and a GET
 abbrev pub sending-by : List ℕ → ℕ → List ℕ → List ℕ → Request
@@ -119,9 +126,10 @@ pub record SetupWitnesses : Type 0 where
   pub zero : (life : ℕ) → setUp (living offer life) (empty 1) .number ≡ 0
   pub short : (life : ℕ) → setUp (living scanner life) (empty 1) .number ≡ 0
   pub long : (life : ℕ) → setUp (living either life) (empty 1) .number ≡ 0
-  pub one : setUp (asking 2 0 offer) (holding []) .number ≡ 1
+  pub one : setUp (asking 2 0 offer) (holding [] []) .number ≡ 1
   pub two : setUp (asking (2 ^ 56) 0 offer) (empty 1) .number ≡ 2
   pub three : setUp (asking 2 0 offer) marked .number ≡ 3
+  pub twenty-two : setUp (asking 2 0 offer) unnamed .number ≡ 22
   pub four : setUp (asking 2 0 []) (empty 1) .number ≡ 4
   pub five : setUp (asking 2 0 (codes "x:AQQ=")) (empty 1) .number ≡ 5
   pub seventeen : setUp (asking 2 0 offer) (session (zeros 12)) .number ≡ 17
@@ -130,7 +138,7 @@ pub record SetupWitnesses : Type 0 where
   pub twenty : setUp (asking 2 4294967295 offer) (empty 1) .number ≡ 20
 
 pub setup-witnesses : SetupWitnesses
-unfolding setUp setupChecks S.entryPart offerPart lastingPart roomPart entryChecks stateChecks setupFits tableFits ordersGood goodExtra extraNames goodNames wellFormed fitting sound same records recordOf recordBytes bytesOf number codes Value.grammar Value.fieldsIn Value.fieldOf Value.pieceGood Value.textObeys Value.carried Pieces.pieces Pieces.upTo Pieces.after decoded full two one ending coded sixBits placeIn alphabet counted obeys ruleOf ruleAt keyNumber rankOf keys isMask isNumeral plain setupFields times contents offered inCommon the maskOf expiryOf limitsOf found taken
+unfolding setUp setupChecks S.entryPart offerPart lastingPart roomPart entryChecks stateChecks setupFits stateFits tableFits Index.indexOf Index.rankedTo Index.among Index.precedes Index.coded ordersGood goodExtra extraNames goodNames wellFormed fitting sound same records recordOf recordBytes bytesOf number codes Value.grammar Value.fieldsIn Value.fieldOf Value.pieceGood Value.textObeys Value.carried Pieces.pieces Pieces.upTo Pieces.after decoded full two one ending coded sixBits placeIn alphabet counted obeys ruleOf ruleAt keyNumber rankOf keys isMask isNumeral plain setupFields times contents offered inCommon the maskOf expiryOf limitsOf found taken
 setup-witnesses = record {
   zero = λ life. refl;
   short = λ life. refl;
@@ -138,6 +146,7 @@ setup-witnesses = record {
   one = refl;
   two = refl;
   three = refl;
+  twenty-two = refl;
   four = refl;
   five = refl;
   seventeen = refl;
@@ -148,13 +157,23 @@ setup-witnesses = record {
 
 pub record EndWitnesses : Type 0 where
   pub zero : ended (zeros 12) (session (zeros 12)) .number ≡ 0
-  pub one : ended (zeros 12) (holding []) .number ≡ 1
+  pub one : ended (zeros 12) (holding [] []) .number ≡ 1
   pub three : ended (zeros 12) marked .number ≡ 3
+  pub twenty-two : ended (zeros 12) unnamed .number ≡ 22
   pub twelve : ended (zeros 12) (empty 1) .number ≡ 12
 
 pub end-witnesses : EndWitnesses
-unfolding ended endChecks stateChecks endFits tableFits wellFormed fitting sound same records recordOf recordBytes bytesOf number found
-end-witnesses = record { zero = refl; one = refl; three = refl; twelve = refl }
+unfolding ended endChecks stateChecks endFits stateFits tableFits Index.indexOf Index.rankedTo Index.among Index.precedes Index.coded wellFormed fitting sound same records recordOf recordBytes bytesOf number found
+end-witnesses = record { zero = refl; one = refl; three = refl; twenty-two = refl; twelve = refl }
+
+pub record RemakeWitnesses : Type 0 where
+  pub zero : remade unnamed ≡ record { number = 0; length = 0; reply = []; state = session (zeros 12) }
+  pub one : remade (holding [] []) .number ≡ 1
+  pub three : remade marked .number ≡ 3
+
+pub remake-witnesses : RemakeWitnesses
+unfolding remade remakeChecks stateFits tableFits wellFormed fitting sound same records recordOf recordBytes bytesOf number
+remake-witnesses = record { zero = refl; one = refl; three = refl }
 
 -- one byte is no token, whatever it opens to
 short-text : (text : List ℕ) → length text ≡ 1 → tokenIn text ≡ none
@@ -174,11 +193,12 @@ unopened key iv tag b = by (same tag (tagOf key iv [] (b ∷ [])))
     by false = refl
 
 pub record RequestWitnesses : Type 0 where
-  pub one : judged (sending 2 fields []) (holding []) .number ≡ 1
+  pub one : judged (sending 2 fields []) (holding [] []) .number ≡ 1
   pub no-method : judged (sending-by [] 2 fields []) (empty 1) .number ≡ 1
   pub long-method : judged (sending-by (replicate 17 65) 2 fields []) (empty 1) .number ≡ 1
   pub two : judged (sending (2 ^ 56) fields []) (empty 1) .number ≡ 2
   pub three : judged (sending 2 fields []) marked .number ≡ 3
+  pub twenty-two : judged (sending 2 fields []) unnamed .number ≡ 22
   pub four : judged (sending 2 [] []) (empty 1) .number ≡ 4
   pub five : judged (sending 2 offer []) (empty 1) .number ≡ 5
   pub six : judged (sending 2 fields (codes "Host")) (empty 1) .number ≡ 6
@@ -188,13 +208,14 @@ pub record RequestWitnesses : Type 0 where
   pub nine : judged (sending 2 fields []) (empty 1) .number ≡ 9
 
 pub request-witnesses : RequestWitnesses
-unfolding judged answered requestChecks entryPart readingPart coveringPart tokenPart signaturePart sessionPart noncePart entryChecks stateChecks requestFits lentFits tableFits ordersGood goodExtra extraNames goodNames wellFormed fitting sound same records recordOf number codes Value.grammar Value.fieldsIn Value.fieldOf Value.pieceGood Value.textObeys Value.carried Pieces.pieces Pieces.upTo Pieces.after decoded full two one ending coded sixBits placeIn alphabet counted obeys ruleOf ruleAt keyNumber rankOf keys isMask isNumeral isNumber plain requestFields rightTimes times contents nonceBit the maskOf fieldsOf goodBlock linesIn linesUpTo startsLine frontLine lineText textOf goodLine valueByte isToken tokenByte hasByte all leading twice repeated timesNamed sameName lower coveredNames chosen headerNames asOrdered allowedOne named maskBytes numberBytes shortest bytesOf openedOf ivOf
+unfolding judged answered requestChecks entryPart readingPart coveringPart tokenPart signaturePart sessionPart noncePart entryChecks stateChecks requestFits lentFits stateFits tableFits Index.indexOf Index.rankedTo Index.among Index.precedes Index.coded ordersGood goodExtra extraNames goodNames wellFormed fitting sound same records recordOf recordBytes number codes Value.grammar Value.fieldsIn Value.fieldOf Value.pieceGood Value.textObeys Value.carried Pieces.pieces Pieces.upTo Pieces.after decoded full two one ending coded sixBits placeIn alphabet counted obeys ruleOf ruleAt keyNumber rankOf keys isMask isNumeral isNumber plain requestFields rightTimes times contents nonceBit the maskOf fieldsOf goodBlock linesIn linesUpTo startsLine frontLine lineText textOf goodLine valueByte isToken tokenByte hasByte all leading twice repeated timesNamed sameName lower coveredNames chosen headerNames asOrdered allowedOne named maskBytes numberBytes shortest bytesOf openedOf ivOf
 request-witnesses = record {
   one = refl;
   no-method = refl;
   long-method = refl;
   two = refl;
   three = refl;
+  twenty-two = refl;
   four = refl;
   five = refl;
   six = refl;
@@ -312,9 +333,10 @@ unfolding entryPart entryChecks stateChecks requestFits
 exchanged =
     let own = entry-passed _ _ _ (parts (sent scanner 0 100) (left scanner 0) (passes scanner 0 (setup-witnesses .short 0)) .entry) in
     let other = entry-passed _ _ _ (parts (sent either 0 100) (left either 0) (passes either 0 (setup-witnesses .long 0)) .entry) in
-    let lent : lentFits (sent scanner 0 100) ≡ true = both (lentFits (sent scanner 0 100)) (tableFits (left scanner 0 .table)) (own .sizes) .0 in
-    let room : tableFits (left either 0 .table) ≡ true = both (lentFits (sent either 0 100)) (tableFits (left either 0 .table)) (other .sizes) .1 in
-    rw (lent, room, own .orders, other .formed) refl
+    let lent : lentFits (sent scanner 0 100) ≡ true = both (lentFits (sent scanner 0 100)) (stateFits (left scanner 0)) (own .sizes) .0 in
+    let room : stateFits (left either 0) ≡ true = both (lentFits (sent either 0 100)) (stateFits (left either 0)) (other .sizes) .1 in
+    let fits = ap (same (left either 0 .index)) (sym (other .index)) ∙ same-self (left either 0 .index) in
+    rw (lent, room, own .orders, other .formed, fits) refl
 
 pub hash-witnesses : HashWitnesses
 unfolding limitsOf

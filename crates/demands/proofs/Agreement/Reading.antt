@@ -12,11 +12,11 @@ use Rattle.cells.specs.Runs.{fronted}
 use Rattle.token.specs.Token.{Token}
 use Rattle.reply.specs.Replies.{invalidation}
 use Rattle.stages.specs.Request.{Request}
-use Rattle.gate.specs.State.{State, holding, untouched, replied}
+use Rattle.gate.specs.State.{State, untouched, replied}
 use Rattle.stages.specs.Checks.{first}
 use Rattle.table.specs.Session.{placeOf}
 use Rattle.stages.specs.Parts.{hashOf, keepsHash, ivOf, nonceOf, timeOf, lastTimeOf, signatureOf, tokenOf, limits, textOf, codeOf, ordered, stepped, nextOf, signaturePart, sessionPart, noncePart, admittingPart, invalidates}
-use Rattle.gate.specs.Judge.{requestChecks, tableAfter, answered, outcomeAt, judged}
+use Rattle.gate.specs.Judge.{requestChecks, stateAfter, answered, outcomeAt, judged}
 use Rattle.demands.specs.Passing.{Reaches}
 use Rattle.demands.proofs.Shared.Checks.{signature-decides}
 use Rattle.demands.specs.Agreement.{Alike}
@@ -47,7 +47,7 @@ replied-alike n {text} {other} buffer lent e f = record {
 module _ (p q : Request) (state : State) (same : ReadAlike p q) where
   -- what a number leaves
   abbrev left : ℕ → Request → State
-  left n r = holding (tableAfter n (ordered r) (placeOf (state .table) (ivOf r)) (nextOf r (state .table)) (state .table))
+  left n r = stateAfter n (ordered r) (placeOf (state .table) (ivOf r)) (nextOf r (state .table)) state
 
   step-same : stepped p (state .table) ≡ stepped q (state .table)
   unfolding stepped
@@ -90,7 +90,7 @@ module _ (p q : Request) (state : State) (same : ReadAlike p q) where
       by false true = replied-alike n (p .reply) (q .reply) (ap₂ (λ (h : Hash) (t : Token). invalidation h (t .key)) (same .hash) (same .token)) (left-same n)
       by false false = record { number = refl; long = refl; reply = refl; state = left-same n }
 
-  -- they get the same verdict, reply and table after
+  -- they get the same verdict, reply, table and index after
   pub judged-alike : Reaches p state → Reaches q state → Alike (judged p state) (judged q state)
   unfolding judged
   judged-alike rp rq =

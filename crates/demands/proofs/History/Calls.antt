@@ -28,9 +28,9 @@ use Rattle.gate.specs.Setup.{chosenOf, expiryOf, setupChecks, withSession, setU
 use Rattle.stages.specs.Parts.{ivOf, nonceOf, stepped, invalidates}
 use Rattle.gate.specs.Judge.{requestChecks, judged}
 use Rattle.gate.specs.End.{endChecks, ended}
-use Rattle.demands.specs.History.{Call, setting-up, judging, judging-one, ending, answer, withAccepted, withSetUp, withChosen}
+use Rattle.demands.specs.History.{Call, setting-up, judging, judging-one, ending, making-index, answer, withAccepted, withSetUp, withChosen}
 use Rattle.demands.proofs.Shared.Checks.{accepted-passes}
-use Rattle.demands.proofs.Shared.Answers.{steppedFor, setUp-number, setUp-table, begun-table, ended-table, next, judged-number, judged-table, found-step, ordered-table, unordered-table}
+use Rattle.demands.proofs.Shared.Answers.{steppedFor, setUp-number, setUp-table, begun-table, ended-table, remade-table, next, judged-number, judged-table, found-step, ordered-table, unordered-table}
 use Rattle.demands.proofs.Shared.Passed.{Takes, setup-takes}
 use Rattle.demands.proofs.Shared.Others.{accepts-zero, Finds, passes-finds, passes-window}
 use Rattle.demands.proofs.History.Sessions.{begun-sessions, stepped-sessions}
@@ -109,3 +109,4 @@ module _ (n : ℕ) (state : State) (ivs : List (List ℕ)) (nonces : List ℕ �
   call-standing (judging q) = request-standing q
   call-standing (judging-one place q) = one-standing n state ivs nonces hashes st place q
   call-standing (ending iv) = end-standing iv
+  call-standing making-index = rw (remade-table state) st

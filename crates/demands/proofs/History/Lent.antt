@@ -7,7 +7,7 @@ use Prim.Native.Nat.{ℕ}
 use lib.Dec.{eqb}
 use Rattle.cells.specs.Runs.{same}
 use Rattle.gate.specs.State.{State}
-use Rattle.demands.specs.History.{Call, setting-up, judging, judging-one, ending, answer, after, setUpIn, lentIn, Apart, ivAmong}
+use Rattle.demands.specs.History.{Call, setting-up, judging, judging-one, ending, making-index, answer, after, setUpIn, lentIn, Apart, ivAmong}
 use Rattle.demands.proofs.History.Sessions.{neither}
 
 -- an IV that was lent to no setup was not set up
@@ -25,6 +25,7 @@ lent-none iv state (setting-up s ∷ earlier) e =
 lent-none iv state (judging q ∷ earlier) e = lent-none iv state earlier e
 lent-none iv state (judging-one place q ∷ earlier) e = lent-none iv state earlier e
 lent-none iv state (ending other ∷ earlier) e = lent-none iv state earlier e
+lent-none iv state (making-index ∷ earlier) e = lent-none iv state earlier e
 
 -- where no IV was lent to two setups, no two setups that were answered 0 had one IV
 pub lent-apart : (state : State) (calls : List Call) → Apart (lentIn calls) → Apart (setUpIn state calls)
@@ -40,3 +41,4 @@ lent-apart state (setting-up s ∷ earlier) a =
 lent-apart state (judging q ∷ earlier) a = lent-apart state earlier a
 lent-apart state (judging-one place q ∷ earlier) a = lent-apart state earlier a
 lent-apart state (ending iv ∷ earlier) a = lent-apart state earlier a
+lent-apart state (making-index ∷ earlier) a = lent-apart state earlier a

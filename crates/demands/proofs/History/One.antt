@@ -29,15 +29,24 @@ use Rattle.stages.specs.Checks.{first}
 use Rattle.stages.specs.Parts.{ivOf, nonceOf, stepped, invalidates}
 use Rattle.gate.specs.State.{State}
 use Rattle.gate.specs.Judge.{requestChecks, judged}
+use Rattle.gate.specs.Remake.{remade}
 use Rattle.demands.specs.Tables.{SessionAt}
-use Rattle.demands.specs.History.{takenOut, judgedAt, withNonce}
+use Rattle.demands.specs.History.{takenOut, caughtUp, judgedAt, withNonce}
 use Rattle.demands.proofs.Shared.Checks.{accepted-passes}
-use Rattle.demands.proofs.Shared.Answers.{steppedFor, next, judged-number, judged-table, found-step, ordered-table, unordered-table}
+use Rattle.demands.proofs.Shared.Answers.{remade-table, steppedFor, next, judged-number, judged-table, found-step, ordered-table, unordered-table}
 use Rattle.demands.proofs.Shared.Stored.{respliced}
 use Rattle.demands.proofs.Shared.Named.{found-session, session-found}
 use Rattle.demands.proofs.Shared.Others.{accepts-zero, passes-finds, passes-window}
 use Rattle.demands.proofs.History.Sessions.{Sessions, freed-sessions, stepped-sessions}
 use Rattle.demands.proofs.History.Tables.{Standing, held, stored-standing}
+
+-- making the index anew leaves the table alone
+pub caught-table : (number : ℕ) (state : State) → caughtUp number state .table ≡ state .table
+caught-table number state = by (invalidates number)
+  where
+    by : (t : Bool) → cond t (remade state .state) state .table ≡ state .table
+    by true = remade-table state
+    by false = refl
 
 module _ (n : ℕ) (state : State) (ivs : List (List ℕ)) (nonces : List ℕ → List ℕ) (hashes : List ℕ → Option Hash) (st : Standing n (state .table) ivs nonces hashes) (place : ℕ) where
   abbrev one : List ℕ
@@ -132,8 +141,9 @@ module _ (n : ℕ) (state : State) (ivs : List (List ℕ)) (nonces : List ℕ �
 
     pub one-standing : Standing n (judgedAt place q state .state .table) ivs (λ iv. withNonce iv q (judgedAt place q state .number) (nonces iv)) hashes
     one-standing =
-        subst (λ (k : ℕ). Standing n (spliced (state .table) (size * place) (judged q (takenOut place state) .state .table)) ivs (λ iv. withNonce iv q k (nonces iv)) hashes) (sym (judged-number q (takenOut place state)))
-        (rw (judged-table q (takenOut place state)) (by (eqb (first (requestChecks q (takenOut place state))) 0) refl))
+        subst (λ (t : List ℕ). Standing n t ivs (λ iv. withNonce iv q (judgedAt place q state .number) (nonces iv)) hashes) (sym (caught-table (judged q (takenOut place state) .number) _))
+        (subst (λ (k : ℕ). Standing n (spliced (state .table) (size * place) (judged q (takenOut place state) .state .table)) ivs (λ iv. withNonce iv q k (nonces iv)) hashes) (sym (judged-number q (takenOut place state)))
+        (rw (judged-table q (takenOut place state)) (by (eqb (first (requestChecks q (takenOut place state))) 0) refl)))
       where
         refused : (t : Bool) → Standing n (spliced (state .table) (size * place) (cond t (without one (ivOf q)) one)) ivs nonces hashes
         refused true = freed-one (ivOf q)

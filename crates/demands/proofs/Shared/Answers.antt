@@ -2,9 +2,9 @@
 -- Assumes nothing.
 use mathlib.Core.Path.{_≡_, refl, sym, ap, _∙_}
 use mathlib.Core.Bool.{Bool, true, false, cond}
-use mathlib.Core.List.{List}
+use mathlib.Core.List.{List, []}
 use Prim.Native.Nat.{ℕ, _*_}
-use borrow.Author.Tests.{eqb-true}
+use borrow.Author.Tests.{eqb-true, eqb-false}
 use lib.Dec.{eqb}
 use lib.ListN.{length, drop}
 use lib.Seq.{take-append-seam, drop-append-seam}
@@ -16,16 +16,18 @@ use Rattle.table.specs.declared.session.Record.{Record}
 use Rattle.table.specs.declared.place.Place.the-variants.{At}
 use Rattle.table.specs.Record.{size, recordBytes, begun, windowOf, withWindow}
 use Rattle.table.specs.Table.{records, recordAt, taken}
+use Rattle.index.specs.Index.{indexOf}
 use Rattle.reply.specs.Replies.{invalidation}
 use Rattle.gate.specs.Calls.{Setup}
 use Rattle.stages.specs.Request.{Request}
-use Rattle.gate.specs.State.{State, Outcome, untouched, replied}
+use Rattle.gate.specs.State.{State, holding, indexed, Outcome, untouched, replied}
 use Rattle.stages.specs.Checks.{first}
 use Rattle.table.specs.Session.{placeOf, with-record, without}
-use Rattle.gate.specs.Setup.{chosenOf, expiryOf, setupChecks, withSession, setUp}
+use Rattle.gate.specs.Setup.{chosenOf, expiryOf, setupChecks, replyOf, withSession, setUp}
 use Rattle.stages.specs.Parts.{ivOf, nonceOf, ordered, stepped, nextOf, invalidates}
-use Rattle.gate.specs.Judge.{requestChecks, tableAfter, answered, judged}
+use Rattle.gate.specs.Judge.{requestChecks, stateAfter, answered, judged}
 use Rattle.gate.specs.End.{endChecks, ended}
+use Rattle.gate.specs.Remake.{remakeChecks, remade}
 use Rattle.demands.specs.Effects.{Replied}
 
 -- the number and the table of the outcome that a number picks
@@ -47,6 +49,17 @@ module _ (s : Setup) (state : State) where
   unfolding setUp
   setUp-table = table-by (eqb (first (setupChecks s state)) 0) _ _
 
+-- a setup that is done leaves the index that fits
+pub setUp-index : (s : Setup) (state : State) → setUp s state .number ≡ 0 → setUp s state .state .index ≡ indexOf (records (setUp s state .state .table))
+unfolding setUp
+setUp-index s state e = by (eqb (first (setupChecks s state)) 0) refl
+  where
+    by : (t : Bool) → eqb (first (setupChecks s state)) 0 ≡ t
+        → cond t (replied 0 (replyOf s) (s .reply) (indexed (withSession s (state .table)))) (untouched (first (setupChecks s state)) (s .reply) state) .state .index
+        ≡ indexOf (records (cond t (replied 0 (replyOf s) (s .reply) (indexed (withSession s (state .table)))) (untouched (first (setupChecks s state)) (s .reply) state) .state .table))
+    by true z = refl
+    by false z = absurd (eqb-false _ 0 z (sym (setUp-number s state) ∙ e))
+
 -- with the place that is taken
 pub begun-table : (s : Setup) (table : List ℕ) (place : ℕ) → taken (records table) (s .clock) ≡ At place
     → withSession s table ≡ spliced table (size * place) (recordBytes (begun (s .iv) (expiryOf s) (hashMask (chosenOf s))))
@@ -61,6 +74,20 @@ module _ (iv : List ℕ) (state : State) where
   pub ended-table : ended iv state .state .table ≡ cond (eqb (first (endChecks iv state)) 0) (without (state .table) iv) (state .table)
   unfolding ended
   ended-table = table-by (eqb (first (endChecks iv state)) 0) _ _
+
+module _ (state : State) where
+  pub remade-number : remade state .number ≡ first (remakeChecks state)
+  unfolding remade
+  remade-number = number-by (first (remakeChecks state)) _ _ refl refl (eqb (first (remakeChecks state)) 0) refl
+
+  -- it leaves the table alone
+  pub remade-table : remade state .state .table ≡ state .table
+  unfolding remade
+  remade-table = by (eqb (first (remakeChecks state)) 0)
+    where
+      by : (t : Bool) → cond t (untouched 0 [] (indexed (state .table))) (untouched (first (remakeChecks state)) [] state) .state .table ≡ state .table
+      by true = refl
+      by false = refl
 
 -- a record with its window after a nonce
 abbrev pub next : ℕ → Record → Record
@@ -99,8 +126,20 @@ module _ (q : Request) (state : State) where
   pub judged-table : judged q state .state .table
       ≡ cond (eqb (first (requestChecks q state)) 0) (steppedFor q (state .table))
       (cond (invalidates (first (requestChecks q state))) (without (state .table) (ivOf q)) (state .table))
-  unfolding judged tableAfter without
-  judged-table = ap (λ (s : State). s .table) (answered-state (first (requestChecks q state)) _ _ _ _ _)
+  unfolding judged stateAfter without
+  judged-table =
+      ap (λ (s : State). s .table) (answered-state (first (requestChecks q state)) _ _ _ _ _)
+      ∙ by (eqb (first (requestChecks q state)) 0) (ordered q) (invalidates (first (requestChecks q state)))
+    where
+      by : (t o u : Bool)
+          → cond t (cond o (holding (with-record (state .table) (placeOf (state .table) (ivOf q)) (nextOf q (state .table))) (state .index)) state)
+          (cond u (indexed (without (state .table) (ivOf q))) state) .table
+          ≡ cond t (cond o (with-record (state .table) (placeOf (state .table) (ivOf q)) (nextOf q (state .table))) (state .table))
+          (cond u (without (state .table) (ivOf q)) (state .table))
+      by true true u = refl
+      by true false u = refl
+      by false o true = refl
+      by false o false = refl
 
 -- with the place of the session
 module _ (q : Request) (table : List ℕ) (place : ℕ) (e : placeOf table (ivOf q) ≡ At place) where

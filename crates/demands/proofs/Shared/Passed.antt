@@ -23,6 +23,7 @@ use Rattle.table.specs.declared.place.Place.the-variants.{At, Nowhere}
 use Rattle.table.specs.Table.{records, taken}
 use Rattle.table.specs.WellFormed.{WellFormed}
 use Rattle.table.proofs.Meaning.{wellFormed-is}
+use Rattle.index.specs.Index.{indexOf}
 use Rattle.coverage.specs.Coverage.{asOrdered}
 use Rattle.token.specs.Token.{hasToken}
 use Rattle.gate.specs.Calls.{Setup}
@@ -44,11 +45,12 @@ use Rattle.stages.proofs.Parts.{reading-numbered}
 use Rattle.demands.proofs.Shared.Checks.{read-through, opens}
 use Rattle.demands.proofs.Shared.Named.{placed}
 
--- none of the checks 1 to 9 holds
+-- none of the checks 1, 2, 3, 22 and 4 to 9 holds
 pub record Passed (q : Request) (state : State) : Type 0 where
   pub sizes : requestFits q state ≡ true
   pub orders : ordersGood (q .orders) ≡ true
   pub well : WellFormed (records (state .table))
+  pub index : state .index ≡ indexOf (records (state .table))
   pub value : requestAnswer (q .value) ≡ Answer.Good
   pub lines : (isToken (q .method) && (goodBlock (q .head) && goodBlock (q .aside))) ≡ true
   pub once : (twice q (q .head) || twice q (q .aside)) ≡ false
@@ -69,6 +71,7 @@ all-passed q state entry reading opened =
       sizes = entered .sizes;
       orders = entered .orders;
       well = wellFormed-is (records (state .table)) (entered .formed);
+      index = entered .index;
       value = value-good (q .value) (grammar (q .value)) refl (past 4) (not-false _ (past 5));
       lines = not-false _ (past 6);
       once = past 7;

@@ -7,7 +7,7 @@ use Prim.Native.Nat.{ℕ}
 use native.Mathlib.Omega.{arith}
 use borrow.Author.Tests.{eqb-true, eqb-false}
 use lib.Dec.{eqb}
-use Rattle.gate.specs.State.{State, holding, untouched}
+use Rattle.gate.specs.State.{State, indexed, untouched}
 use Rattle.stages.specs.Checks.{first}
 use Rattle.gate.specs.Entry.{stateChecks}
 use Rattle.table.specs.Session.{without}
@@ -17,18 +17,20 @@ use Rattle.demands.proofs.Shared.Order.{first-among, first-exactly}
 use Rattle.gate.proofs.Numbers.{end-numbered}
 use Rattle.demands.proofs.Shared.Named.{somewhere, freed-there}
 use Rattle.demands.proofs.Shared.Passed.{table-passed, session-passed}
+use Rattle.demands.proofs.Shared.Indexes.{without-right}
 use Rattle.demands.specs.Effects.{endNumbers, Ended, EndEffects}
 
 ends : (iv : List ℕ) (state : State) → first (endChecks iv state) ≡ 0 → Ended iv state (endOutcome 0 iv state)
 ends iv state none =
     let s = somewhere (state .table) iv (session-passed iv state none) in
-    record { session = s; freed = freed-there (state .table) iv (s .place) (table-passed iv state none) (s .is) }
+    let w = table-passed iv state none in
+    record { session = s; freed = freed-there (state .table) iv (s .place) w (s .is); index = without-right (state .table) iv w }
 
 end-by : (iv : List ℕ) (state : State) (n : ℕ) → first (endChecks iv state) ≡ n → List·Memᴰ n endNumbers → Exactly (endChecks iv state) n
     → EndEffects iv state (endOutcome n iv state)
 end-by iv state n f m x = by (eqb n 0) refl
   where
-    by : (t : Bool) → eqb n 0 ≡ t → EndEffects iv state (cond t (untouched 0 [] (holding (without (state .table) iv))) (untouched n [] state))
+    by : (t : Bool) → eqb n 0 ≡ t → EndEffects iv state (cond t (untouched 0 [] (indexed (without (state .table) iv))) (untouched n [] state))
     by true e =
         let z = eqb-true n 0 e in
         record {

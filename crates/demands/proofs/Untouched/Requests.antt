@@ -2,7 +2,7 @@
 -- Assumes nothing.
 use mathlib.Core.Path.{_≡_, refl, sym, ap, subst, _∙_}
 use mathlib.Core.Bool.{Bool, true, false, true≢false, cond, _||_}
-use mathlib.Core.List.{List·Memᴰ, List·Memᴰ·head}
+use mathlib.Core.List.{List, List·Memᴰ, List·Memᴰ·head}
 use mathlib.Core.Logic.{inl, inr}
 use Prim.Native.Nat.{ℕ}
 use native.Mathlib.Omega.{arith}
@@ -15,12 +15,12 @@ use Rattle.table.proofs.Sessions.{recordAt-fits, stepped-fits}
 use Rattle.reply.specs.Replies.{invalidation}
 use Rattle.reply.proofs.Lengths.{length-invalidation}
 use Rattle.stages.specs.Request.{Request}
-use Rattle.gate.specs.State.{State, holding, untouched, replied}
+use Rattle.gate.specs.State.{State, holding, indexed, untouched, replied}
 use Rattle.stages.specs.Checks.{first, nowhere}
 use Rattle.gate.specs.Entry.{stateChecks, entryChecks}
-use Rattle.table.specs.Session.{placeOf, without}
-use Rattle.stages.specs.Parts.{ivOf, hashOf, nonceOf, tokenOf, ordered, readingPart, coveringPart, tokenPart, signaturePart, vouchingPart, sessionPart, noncePart, admittingPart, invalidates}
-use Rattle.gate.specs.Judge.{entryPart, requestChecks, tableAfter, answered, outcomeAt, judged}
+use Rattle.table.specs.Session.{placeOf, with-record, without}
+use Rattle.stages.specs.Parts.{ivOf, hashOf, nonceOf, tokenOf, ordered, nextOf, readingPart, coveringPart, tokenPart, signaturePart, vouchingPart, sessionPart, noncePart, admittingPart, invalidates}
+use Rattle.gate.specs.Judge.{entryPart, requestChecks, stateAfter, answered, outcomeAt, judged}
 use Rattle.demands.specs.Order.{Exactly}
 use Rattle.stages.proofs.Checks.{comes-later}
 use Rattle.demands.proofs.Shared.Order.{first-among, first-exactly}
@@ -32,16 +32,18 @@ use Rattle.demands.specs.Tables.{Replaced, SessionAt}
 use Rattle.demands.proofs.Shared.Stored.{replaced}
 use Rattle.demands.proofs.Shared.Named.{session-found, somewhere, freed-there, freed-nowhere}
 use Rattle.demands.proofs.Shared.Passed.{Passed, passed, accepted-passed}
+use Rattle.demands.proofs.Shared.Indexes.{without-right}
 use Rattle.demands.proofs.Shared.Carried.{nonce-small}
 use Rattle.demands.specs.Effects.{judgeNumbers, TenOrThirteen, Invalidated, Moved, Accepted, JudgeEffects}
 
 -- at 10 and 13 the record is freed, and the reply is the invalidation
-freed-by : (q : Request) (n : ℕ) (state : State) → Passed q state → Invalidated q state (replied n (invalidation (hashOf q) (tokenOf q .key)) (q .reply) (holding (without (state .table) (ivOf q))))
+freed-by : (q : Request) (n : ℕ) (state : State) → Passed q state → Invalidated q state (replied n (invalidation (hashOf q) (tokenOf q .key)) (q .reply) (indexed (without (state .table) (ivOf q))))
 freed-by q n state p = record {
   long = length-invalidation (hashOf q) (tokenOf q .key);
-  reply = fronted-replied n (invalidation (hashOf q) (tokenOf q .key)) (q .reply) (holding (without (state .table) (ivOf q)));
+  reply = fronted-replied n (invalidation (hashOf q) (tokenOf q .key)) (q .reply) (indexed (without (state .table) (ivOf q)));
   freed = λ place s. freed-there (state .table) (ivOf q) place (p .well) s;
-  kept = λ none. ap holding (freed-nowhere (state .table) (ivOf q) none);
+  kept = λ none. ap indexed (freed-nowhere (state .table) (ivOf q) none) ∙ ap (holding (state .table)) (sym (p .index));
+  index = without-right (state .table) (ivOf q) (p .well);
 }
 
 stepped-there : (q : Request) (state : State) (place : ℕ) → Passed q state → SessionAt (state .table) (ivOf q) place → Bytes (state .table)
@@ -60,16 +62,17 @@ stepped-there q state place p s b o =
       hash = ap (λ (x : Record). x .hash) (all .here);
     }
 
-accepts : (q : Request) (state : State) → first (requestChecks q state) ≡ 0 → Accepted q state (replied 0 (tokenOf q .id) (q .reply) (holding (steppedFor q (state .table))))
+accepts : (q : Request) (state : State) → first (requestChecks q state) ≡ 0 → Accepted q state (replied 0 (tokenOf q .id) (q .reply) (holding (steppedFor q (state .table)) (state .index)))
 accepts q state e =
     let p = accepted-passed q state e in
     let f = passes-finds q state (accepted-passes q state e) in
     let s = somewhere (state .table) (ivOf q) (ap nowhere (f .finds)) in
     record {
       session = s;
-      reply = fronted-replied 0 (tokenOf q .id) (q .reply) (holding (steppedFor q (state .table)));
+      reply = fronted-replied 0 (tokenOf q .id) (q .reply) (holding (steppedFor q (state .table)) (state .index));
+      index = refl;
       ordered = λ b o. stepped-there q state (s .place) p (s .is) b o;
-      unordered = λ o. ap holding (unordered-table q (state .table) o);
+      unordered = λ o. ap (λ (t : List ℕ). holding t (state .index)) (unordered-table q (state .table) o);
     }
 
 ten-or-thirteen : (n : ℕ) → invalidates n ≡ true → TenOrThirteen n
@@ -97,7 +100,7 @@ idle-found q state e =
     finds q state (noncePart q (state .table)) 13 (comes-later (vouchingPart q) (admittingPart q (state .table)) 13 refl refl (read .later) .later) (λ z. omega arith)
 
 -- the three ways in which a judged request ends
-judge-zero : (q : Request) (state : State) → first (requestChecks q state) ≡ 0 → JudgeEffects q state (replied 0 (tokenOf q .id) (q .reply) (holding (steppedFor q (state .table))))
+judge-zero : (q : Request) (state : State) → first (requestChecks q state) ≡ 0 → JudgeEffects q state (replied 0 (tokenOf q .id) (q .reply) (holding (steppedFor q (state .table)) (state .index)))
 judge-zero q state e = record {
   listed = List·Memᴰ·head refl;
   in-order = subst (Exactly (requestChecks q state)) e (first-exactly (requestChecks q state) (request-numbered q state));
@@ -108,7 +111,7 @@ judge-zero q state e = record {
 }
 
 judge-freed : (q : Request) (state : State) (n : ℕ) → first (requestChecks q state) ≡ n → List·Memᴰ n judgeNumbers → invalidates n ≡ true
-    → JudgeEffects q state (replied n (invalidation (hashOf q) (tokenOf q .key)) (q .reply) (holding (without (state .table) (ivOf q))))
+    → JudgeEffects q state (replied n (invalidation (hashOf q) (tokenOf q .key)) (q .reply) (indexed (without (state .table) (ivOf q))))
 judge-freed q state n e m u =
     let two = ten-or-thirteen n u in
     let p = two-passed q state n two e in
@@ -134,15 +137,23 @@ judge-kept q state n e m z u = record {
 
 judge-by : (q : Request) (state : State) (n : ℕ) → first (requestChecks q state) ≡ n → List·Memᴰ n judgeNumbers
     → JudgeEffects q state (outcomeAt n q state)
-unfolding answered tableAfter without
+unfolding answered stateAfter without
 judge-by q state n e m = by (eqb n 0) refl (invalidates n) refl
   where
+    next-state : (o : Bool) → State
+    next-state o = cond o (holding (with-record (state .table) (placeOf (state .table) (ivOf q)) (nextOf q (state .table))) (state .index)) state
+
     left : Bool → Bool → State
-    left t u = holding (cond t (steppedFor q (state .table)) (cond u (without (state .table) (ivOf q)) (state .table)))
+    left t u = cond t (next-state (ordered q)) (cond u (indexed (without (state .table) (ivOf q))) state)
+
+    one : (o : Bool) → holding (cond o (with-record (state .table) (placeOf (state .table) (ivOf q)) (nextOf q (state .table))) (state .table)) (state .index) ≡ next-state o
+    one true = refl
+    one false = refl
 
     by : (t : Bool) → eqb n 0 ≡ t → (u : Bool) → invalidates n ≡ u
         → JudgeEffects q state (cond t (replied 0 (tokenOf q .id) (q .reply) (left t u)) (cond u (replied n (invalidation (hashOf q) (tokenOf q .key)) (q .reply) (left t u)) (untouched n (q .reply) (left t u))))
-    by true z u v = judge-zero q state (e ∙ eqb-true n 0 z)
+    by true z u v =
+        subst (λ (s : State). JudgeEffects q state (replied 0 (tokenOf q .id) (q .reply) s)) (one (ordered q)) (judge-zero q state (e ∙ eqb-true n 0 z))
     by false z true v = judge-freed q state n e m v
     by false z false v = judge-kept q state n e m z v
 

@@ -1,0 +1,56 @@
+-- The index that a call leaves fits the table that it leaves.
+-- Assumes nothing.
+use mathlib.Core.Path.{_≡_, refl, sym, ap, subst, _∙_}
+use mathlib.Core.List.{List}
+use Prim.Native.Nat.{ℕ}
+use native.Mathlib.Omega.{arith}
+use lib.ListN.{length, getD, set}
+use Rattle.hashes.specs.Hashes.{hashMask}
+use Rattle.table.specs.declared.session.Record.{Record}
+use Rattle.table.specs.declared.place.Place.{Place}
+use Rattle.table.specs.declared.place.Place.the-variants.{At, Nowhere}
+use Rattle.table.specs.Record.{freed, begun}
+use Rattle.table.specs.Session.{placeOf, with-record, without}
+use Rattle.table.specs.Table.{places, records}
+use Rattle.table.specs.WellFormed.{WellFormed}
+use Rattle.table.proofs.Records.{length-records, records-stored, freed-fits}
+use Rattle.table.proofs.Meaning.{freed-sound}
+use Rattle.table.proofs.Found.{found-at}
+use Rattle.table.proofs.Sessions.{begun-sound, begun-fits}
+use Rattle.table.proofs.Stored.{stored-well, alone-new}
+use Rattle.index.specs.Index.{indexOf}
+use Rattle.index.specs.Fits.{Fits}
+use Rattle.index.proofs.Held.{fits-one}
+use Rattle.gate.specs.Calls.{Setup}
+use Rattle.gate.specs.State.{State, indexed}
+use Rattle.gate.specs.Setup.{chosenOf, expiryOf, withSession}
+use Rattle.demands.specs.Effects.{Right}
+use Rattle.demands.proofs.Shared.Stored.{taken-within}
+use Rattle.demands.proofs.Shared.Answers.{begun-table}
+use Rattle.demands.proofs.Shared.Passed.{Takes}
+
+-- a session's record freed
+without-well : (table iv : List ℕ) → WellFormed (records table) → WellFormed (records (without table iv))
+unfolding without
+without-well table iv w = by (placeOf table iv) refl
+  where
+    by : (p : Place) → placeOf table iv ≡ p → WellFormed (records (with-record table p freed))
+    by (At i) e =
+        let h = found-at (records table) iv i e .0 in
+        rw (records-stored table i freed (omega (arith, length-records table)) freed-fits)
+        (stored-well (records table) i freed h w freed-sound (λ u. absurd (omega arith)))
+    by Nowhere e = w
+
+pub without-right : (table iv : List ℕ) → WellFormed (records table) → Right (indexed (without table iv))
+without-right table iv w = fits-one (records (without table iv)) (without-well table iv w)
+
+-- a session set up
+begun-well : (s : Setup) (state : State) → Takes s state → WellFormed (records (state .table)) → WellFormed (records (withSession s (state .table)))
+begun-well s state t w =
+    let new = begun (s .iv) (expiryOf s) (hashMask (chosenOf s)) in
+    let within = taken-within (state .table) (s .clock) (t .place) (t .takes) in
+    rw (begun-table s (state .table) (t .place) (t .takes), records-stored (state .table) (t .place) new within (begun-fits (s .iv) (expiryOf s) (chosenOf s) (t .long) (t .small)))
+    (stored-well (records (state .table)) (t .place) new (omega (arith, within, length-records (state .table))) w (begun-sound (s .iv) (expiryOf s) (chosenOf s)) (alone-new (records (state .table)) (t .place) new (t .unused)))
+
+pub begun-right : (s : Setup) (state : State) → Takes s state → WellFormed (records (state .table)) → Right (indexed (withSession s (state .table)))
+begun-right s state t w = fits-one (records (withSession s (state .table))) (begun-well s state t w)
