@@ -291,7 +291,7 @@ module _ (s : Setup) (state : State) (done : first (setupChecks s state) ≡ 0) 
     record-is = ap (λ (t : List ℕ). recordAt t (takes .place)) table-is ∙ there .here
 
     index-is : after .index ≡ indexOf (records (after .table))
-    index-is = setUp-index s state done
+    index-is = setUp-index s state (setUp-number s state ∙ done)
 
     state-fits : stateFits after ≡ true
     unfolding stateFits tableFits

@@ -4,31 +4,42 @@
 -- `accepted-exactly` is that sentence. `verdict-exactly` says more: which of 0, 15 and 16 is answered, and it asks only that no two setups
 -- that were answered 0 had one IV. The calls before are any, with any arguments and answers, and need not order nonces. The table has any
 -- number of records: where that is not 1 to 4,096, each call answers 1. A session is known by its IV (document 01).
--- `well-formed` and `never-malformed`: such a table stays well formed and keeps its length, so 3 is never answered.
+-- `well-formed` and `never-malformed`: such a table stays well formed and keeps its length, so 3 is never answered. `index-right` and
+-- `never-unindexed`: beside a table of 1 to 4,096 records an index that began without an entry stays the one that fits, so 22 is never answered.
 -- Assumes nothing.
 pub mod Sessions
 pub mod Tables
 pub mod One
 pub mod Calls
 pub mod Lent
-use mathlib.Core.Path.{_≡_, sym, ap, _∙_}
+use mathlib.Core.Path.{_≡_, refl, sym, ap, subst, _∙_}
 use mathlib.Core.Logic.{_↔_}
 use mathlib.Core.Bool.{true}
 use mathlib.Core.List.{List, [], _∷_}
-use Prim.Native.Nat.{ℕ, _*_}
+use Prim.Native.Nat.{ℕ, zero, suc, _*_, _%_, _≤_}
 use native.Mathlib.Omega.{arith}
-use borrow.Author.Tests.{eqb-true, eq-eqb}
-use lib.ListN.{length, length-replicate}
+use borrow.Author.Tests.{eqb-true, eq-eqb, le-leb}
+use lib.ListN.{length, getD, replicate, length-replicate}
 use Rattle.window.specs.declared.Stepped.{Stepped}
 use Rattle.window.specs.Window.{numberOf}
 use Rattle.window.specs.History.{admits, verdictAfter}
 use Rattle.window.proofs.Tracks.{right, admitted}
-use Rattle.table.specs.Record.{size}
-use Rattle.table.specs.Table.{records}
+use Rattle.cells.specs.Runs.{same}
+use Rattle.cells.proofs.Equality.{same-self}
+use Rattle.table.specs.declared.session.Record.{Record}
+use Rattle.table.specs.Record as R
+use Rattle.table.specs.Record.{size, freed}
+use Rattle.table.specs.Table.{places, records}
 use Rattle.table.specs.WellFormed.{wellFormed}
+use Rattle.table.proofs.Records.{length-records}
 use Rattle.table.proofs.Meaning.{is-wellFormed}
+use Rattle.index.specs.Index.{filled, coded, indexOf}
+use Rattle.index.proofs.Coded.{vacated}
+use Rattle.index.proofs.Held.{fits-only, length-indexOf}
 use Rattle.signed.specs.SignedText.{ordersNonce}
 use Rattle.stages.specs.Request.{Request}
+use Rattle.gate.specs.State.{State}
+use Rattle.gate.specs.Sizes.{tableFits, stateFits}
 use Rattle.gate.specs.Entry.{stateChecks, entryChecks}
 use Rattle.gate.specs.Setup as S
 use Rattle.gate.specs.Setup.{offerPart, lastingPart, roomPart, setupChecks}
@@ -37,9 +48,11 @@ use Rattle.gate.specs.Judge.{entryPart, requestChecks, judged}
 use Rattle.gate.specs.End.{endChecks}
 use Rattle.gate.specs.Remake.{remakeChecks}
 use Rattle.demands.specs.History.{Call, setting-up, judging, judging-one, ending, making-index, takenOut, answer, empty, after, acceptedIn, setUpIn, chosenIn, lentIn, Apart}
+use Rattle.demands.specs.Effects.{Right}
 use Rattle.demands.specs.Passing.{PassesOthers}
 use Rattle.demands.proofs.Shared.Checks.{never-given}
-use Rattle.demands.proofs.History.Tables.{Standing, empty-standing}
+use Rattle.demands.proofs.Index.Calls.{call-right}
+use Rattle.demands.proofs.History.Tables.{Standing, held, empty-records, empty-standing}
 use Rattle.demands.proofs.Shared.Answers.{setUp-number, ended-number, remade-number, judged-number}
 use Rattle.demands.proofs.Shared.Others.{accepts-zero, passes-finds, passes-window}
 use Rattle.demands.proofs.History.Lent.{lent-apart}
@@ -122,3 +135,65 @@ never-malformed n calls (ending iv) e =
 never-malformed n calls making-index e =
     let well = well-formed n calls .0 in
     never-given 3 (remakeChecks (after (empty n) calls)) (λ z. omega arith) (rw well) (sym (remade-number _) ∙ e)
+
+-- the index of an empty table
+empty-right : (n : ℕ) → Right (empty n)
+empty-right n = record {
+  ps = [];
+  used = λ p s. absurd (omega (arith, s .within));
+  all = λ p u. absurd (unused p (u .1));
+  rising = λ i j l m. absurd (omega arith);
+  bytes = sym (vacated n) ∙ ap (λ (k : ℕ). coded (filled k [])) (sym (ap length (empty-records n) ∙ length-replicate n freed));
+}
+  where
+    all-freed : (k p : ℕ) → getD (replicate k freed) p freed .used ≡ 0
+    all-freed zero p = refl
+    all-freed (suc k) zero = refl
+    all-freed (suc k) (suc p) = all-freed k p
+
+    unused : (p : ℕ) → getD (records (empty n .table)) p freed .used ≡ 1 → ⊥
+    unused p u =
+        let free = ap (λ (rs : List Record). getD rs p freed .used) (empty-records n) ∙ all-freed n p in
+        omega arith
+
+-- its size is right, and so is the table's
+sized : (n : ℕ) → 1 ≤ n → n ≤ 4096 → (state : State) → Right state → length (state .table) ≡ size * n → stateFits state ≡ true
+unfolding stateFits tableFits
+sized n some few state right long =
+    rw (
+      eq-eqb (length (state .table) % size) 0 (omega arith),
+      le-leb size (length (state .table)) (omega arith),
+      le-leb (length (state .table)) (4096 * size) (omega arith),
+      eq-eqb (length (state .index)) (2 * places (state .table)) (ap length (fits-only _ _ right) ∙ length-indexOf (records (state .table)) ∙ ap (λ (k : ℕ). 2 * k) (length-records (state .table))),
+    ) refl
+
+-- after any calls the index is the one that fits
+pub index-right : (n : ℕ) → 1 ≤ n → n ≤ 4096 → (calls : List Call) → Right (after (empty n) calls)
+unfolding after
+index-right n some few [] = empty-right n
+index-right n some few (call ∷ earlier) =
+    let st = standing n earlier in
+    let state = after (empty n) earlier in
+    let right = index-right n some few earlier in
+    call-right state (sized n some few state right (st .long))
+    (λ i l. subst (λ (r : Record). R.Fits r) (sym (held n (state .table) _ _ _ st i (rw length-records l))) (st .sessions .fit i (rw length-records l)))
+    (st .sessions .well) right call
+
+-- so no further call answers 22
+pub never-unindexed : (n : ℕ) → 1 ≤ n → n ≤ 4096 → (calls : List Call) (call : Call) → answer call (after (empty n) calls) .number ≡ 22 → ⊥
+unfolding setupChecks S.entryPart offerPart lastingPart roomPart requestChecks entryPart readingPart coveringPart tokenPart signaturePart sessionPart noncePart endChecks remakeChecks entryChecks stateChecks
+never-unindexed n some few calls call e = by call e
+  where
+    state : State
+    state = after (empty n) calls
+
+    fits : same (state .index) (indexOf (records (state .table))) ≡ true
+    fits = ap (same (state .index)) (sym (fits-only _ _ (index-right n some few calls))) ∙ same-self (state .index)
+
+    by : (c : Call) → answer c state .number ≡ 22 → ⊥
+    by (setting-up s) e = never-given 22 (setupChecks s state) (λ z. omega arith) (rw fits) (sym (setUp-number s state) ∙ e)
+    by (judging q) e = never-given 22 (requestChecks q state) (λ z. omega arith) (rw fits) (sym (judged-number q state) ∙ e)
+    by (judging-one place q) e =
+        never-given 22 (requestChecks q (takenOut place state)) (λ z. omega arith) (rw (same-self (indexOf (records (takenOut place state .table))))) (sym (judged-number q _) ∙ e)
+    by (ending iv) e = never-given 22 (endChecks iv state) (λ z. omega arith) (rw fits) (sym (ended-number iv state) ∙ e)
+    by making-index e = never-given 22 (remakeChecks state) (λ z. omega arith) refl (sym (remade-number state) ∙ e)

@@ -11,4 +11,5 @@ pub mod Determined
 pub mod Client
 pub mod Age
 pub mod Chosen
+pub mod Index
 pub mod Witnesses

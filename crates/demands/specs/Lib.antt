@@ -1,5 +1,5 @@
 -- What the demands speak of: of demand 1 Order, Tables and Effects, of demand 2 History and Passing, of demand 3 Passing and Agreement; a request that meets what they ask: Client;
--- how long it is taken: Age.
+-- how long it is taken: Age; a session looked up through the index: Lookup.
 pub mod Order
 pub mod Tables
 pub mod Effects
@@ -8,3 +8,4 @@ pub mod Passing
 pub mod Agreement
 pub mod Client
 pub mod Age
+pub mod Lookup

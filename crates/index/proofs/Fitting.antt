@@ -2,7 +2,6 @@
 -- Assumes nothing.
 use mathlib.Core.Path.{_≡_, refl, sym, ap, ap₂, subst, _∙_}
 use mathlib.Core.List.{List, _++_}
-use mathlib.Core.Logic.{_⊎_, inl, inr, ⊎-elim}
 use mathlib.Core.Bool.{Bool, true, false, true≢false, cond, _&&_, or-true}
 use Prim.Native.Nat.{ℕ, zero, suc, _+_, _-_, _*_, _≤_, _<_}
 use native.Mathlib.Numerals.{add-one}
@@ -16,16 +15,15 @@ use Rattle.cells.proofs.Tests.{tested, both}
 use Rattle.cells.proofs.Equality.{same-equal, same-self}
 use Rattle.table.specs.declared.session.Record.{Record}
 use Rattle.table.specs.Record.{freed}
-use Rattle.table.specs.Table.{places, records, isUsed}
-use Rattle.table.specs.WellFormed.{WellFormed, wellFormed}
+use Rattle.table.specs.Table.{isUsed}
+use Rattle.table.specs.WellFormed.{wellFormed}
 use Rattle.table.proofs.Tests.{refuted}
-use Rattle.table.proofs.Records.{length-records}
 use Rattle.table.proofs.Meaning.{sound-is, is-sound, wellFormed-is, is-wellFormed}
-use Rattle.index.specs.Index.{precedes, lower, ranked, vacant, filled, coded, indexOf}
+use Rattle.index.specs.Index.{lower, ranked, vacant, coded, indexOf}
 use Rattle.index.specs.Fits.{UsedAt}
-use Rattle.index.specs.InnerEntries.{entryAt, usedAt, risesAt, vacantAt, every, soundAt, usedTo, Holds}
+use Rattle.index.specs.InnerEntries.{entryAt, usedAt, risesAt, vacantAt, every, soundAt, usedTo}
 use Rattle.index.proofs.Precedence.{precedes-trans}
-use Rattle.index.proofs.Ranked.{Sorted, Rises, In, in-stands, stands-in, at-sorted, ranked-in, ranked-keeps, length-ranked, used-most, only-one, rising-apart}
+use Rattle.index.proofs.Ranked.{Sorted, Rises, In, in-stands, at-sorted, ranked-in, ranked-keeps, length-ranked, used-most, only-one, rising-apart}
 use Rattle.index.proofs.Coded.{decoded, length-decoded, decoded-at, coded-decoded}
 use Rattle.index.proofs.Held.{used-told, told-used, holds-used, holds-front, holds-rest, formed-holds}
 

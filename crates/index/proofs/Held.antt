@@ -32,10 +32,10 @@ pub told-used : (table : List Record) (p : ℕ) → UsedAt table p → usedAt ta
 told-used table p u = rw (lt-ltb _ _ (u .0), eq-eqb _ _ (u .1))
 
 -- the entries of an index that holds some places
-filled-front : (n : ℕ) (ps : List ℕ) (k : ℕ) → k < length ps → getD (filled n ps) k 0 ≡ getD ps k 0
+pub filled-front : (n : ℕ) (ps : List ℕ) (k : ℕ) → k < length ps → getD (filled n ps) k 0 ≡ getD ps k 0
 filled-front n ps k l = List·getD-append ps (replicate (n - length ps) vacant) 0 k l
 
-filled-rest : (n : ℕ) (ps : List ℕ) (k : ℕ) → length ps ≤ k → k < n → getD (filled n ps) k 0 ≡ vacant
+pub filled-rest : (n : ℕ) (ps : List ℕ) (k : ℕ) → length ps ≤ k → k < n → getD (filled n ps) k 0 ≡ vacant
 filled-rest n ps k l m =
     let there : length ps + (k - length ps) ≡ k = omega arith in
     ap (λ (i : ℕ). getD (filled n ps) i 0) (sym there)

@@ -3,30 +3,30 @@
 use mathlib.Core.Path.{_≡_, refl, sym, ap, ap₂, subst, _∙_}
 use mathlib.Core.List.{List, [], _∷_, _++_}
 use mathlib.Core.Logic.{_⊎_, inl, inr, ⊎-elim}
-use mathlib.Core.Bool.{Bool, true, false, true≢false}
+use mathlib.Core.Bool.{true, false, true≢false}
 use Prim.Native.Nat.{ℕ, zero, suc, _*_, _/_, _≤_, _<_}
 use native.Mathlib.Omega.{arith}
-use borrow.Author.Tests.{eqb-true}
-use lib.ListN.{length, getD, set, take, drop, length-set, length-append, length-drop}
-use lib.Seq.{set-getD, take-at, drop-at, length-take-le, drop-drop}
+use lib.ListN.{length, getD, set, take, drop, length-set}
+use lib.Seq.{set-getD, take-at, drop-at, length-take-le}
 use Rattle.cells.specs.Runs.{spliced}
 use Rattle.cells.proofs.Runs.{length-spliced}
 use Rattle.table.specs.declared.session.Record.{Record}
 use Rattle.table.specs.declared.place.Place.the-variants.{At, Nowhere}
-use Rattle.table.specs.Record.{size, freed, recordBytes, Fits}
+use Rattle.table.specs.Record as R
+use Rattle.table.specs.Record.{size, freed, recordBytes}
 use Rattle.table.specs.Session.{with-record}
 use Rattle.table.specs.Table.{places, records, isUsed, holds, found}
 use Rattle.table.specs.WellFormed.{Sound, WellFormed, wellFormed}
-use Rattle.table.proofs.Tests.{refuted, used-holds}
+use Rattle.table.proofs.Tests.{used-holds}
 use Rattle.table.proofs.Records.{length-recordBytes, length-records, records-stored, freed-fits}
 use Rattle.table.proofs.Meaning.{freed-sound, wellFormed-is, is-wellFormed}
 use Rattle.table.proofs.Found.{found-nowhere}
 use Rattle.table.proofs.Stored.{stored-here, stored-other, equal-or-not, stored-well, found-kept, alone-new}
-use Rattle.index.specs.Index.{among, rankedTo, ranked, vacant, filled, coded, indexOf, Indexed}
-use Rattle.index.specs.Fits.{UsedAt, Stands}
-use Rattle.index.specs.InnerEntries.{usedTo, Holds, Enterable, Entered}
+use Rattle.index.specs.Index.{precedes, among, rankedTo, ranked, vacant, filled, coded, indexOf, Indexed}
+use Rattle.index.specs.Fits.{UsedAt, Fits}
+use Rattle.index.specs.InnerEntries.{Holds, Enterable, Entered}
 use Rattle.index.proofs.Precedence.{precedes-trans, follows}
-use Rattle.index.proofs.Ranked.{In, Sorted, Rises, removed, removed-in, removed-rest, removed-sorted, removed-other, sorted-map, in-among, among-in, sorted-among, in-ranked, ranked-in, length-ranked, used-fewer, ranked-rises, rising-one, at-sorted, sorted-at, stands-in, in-stands}
+use Rattle.index.proofs.Ranked.{In, Sorted, Rises, removed, removed-in, removed-rest, removed-sorted, removed-other, sorted-map, in-among, among-in, sorted-among, in-ranked, ranked-in, length-ranked, used-fewer, ranked-rises, rising-one, sorted-at, stands-in}
 use Rattle.index.proofs.Held.{indexed-holds}
 use Rattle.index.proofs.Changed.{Without}
 
@@ -58,6 +58,15 @@ module _ (before after : List Record) (long : length before ≡ length after)
   pub index-same : indexOf before ≡ indexOf after
   unfolding indexOf
   index-same = ap₂ (λ (n : ℕ) (ps : List ℕ). coded (filled n ps)) long (ranked-same (length before) ∙ ap (rankedTo after) long)
+
+  pub fits-same : {index : List ℕ} → Fits before index → Fits after index
+  fits-same f = record {
+    ps = f .ps;
+    used = λ p s. let u = f .used p s in (omega (arith, u .0), sym (marks p) ∙ u .1);
+    all = λ p u. f .all p (omega (arith, u .0), marks p ∙ u .1);
+    rising = λ i j l m. ap₂ precedes (sym (ivs (getD (f .ps) i 0))) (sym (ivs (getD (f .ps) j 0))) ∙ f .rising i j l m;
+    bytes = f .bytes ∙ ap (λ (n : ℕ). coded (filled n (f .ps))) long;
+  }
 
 unused : (x : Record) → x ≡ freed → x .used ≡ 1 → ⊥
 unused x e u = let z = ap (λ (y : Record). y .used) e in omega arith
@@ -155,7 +164,7 @@ module _ (table : List ℕ) (place : ℕ) (within : place < places table) where
       ∙ found-kept (records table) place freed inside iv (sym (found-nowhere (records table) iv e place inside))
       ∙ e
 
-  pub stored-indexed : (r : Record) (after : List ℕ) → Fits r → places table ≤ vacant → WellFormed (set (records table) place r)
+  pub stored-indexed : (r : Record) (after : List ℕ) → R.Fits r → places table ≤ vacant → WellFormed (set (records table) place r)
       → after ≡ indexOf (set (records table) place r) → Indexed (with-record table (At place) r) after
   stored-indexed r after f few w e = record {
     few = omega (arith, places-kept r (f .iv));
@@ -180,7 +189,7 @@ module _ (table : List ℕ) (place : ℕ) (within : place < places table) where
         stored-indexed freed index freed-fits (h .few) (freed-well (records table) formed place inside) (h .fits ∙ ap indexOf (sym same))
 
     -- taken: a record that was free, with an IV that stands nowhere
-    module _ (r : Record) (f : Fits r) (u : r .used ≡ 1) (s : Sound r) (free : getD (records table) place freed ≡ freed) (new : found (records table) (r .iv) ≡ Nowhere) where
+    module _ (r : Record) (f : R.Fits r) (u : r .used ≡ 1) (s : Sound r) (free : getD (records table) place freed ≡ freed) (new : found (records table) (r .iv) ≡ Nowhere) where
       after-holds : Holds (set (records table) place r) index (ranked (records table))
       after-holds = record {
         used = λ p i. used (records table) formed place r inside free u s new p (stands-in p (ranked (records table)) i);
@@ -237,7 +246,7 @@ module _ (table : List ℕ) (place : ℕ) (within : place < places table) {clear
   pub inside-cleared : place < places cleared
   inside-cleared = rw e (rw (places-kept table place within freed refl) within)
 
-  module _ (r : Record) (f : Fits r) (u : r .used ≡ 1) (s : Sound r) (new : found (records table) (r .iv) ≡ Nowhere) {index stored : List ℕ}
+  module _ (r : Record) (f : R.Fits r) (u : r .used ≡ 1) (s : Sound r) (new : found (records table) (r .iv) ≡ Nowhere) {index stored : List ℕ}
       (h : Indexed cleared index) (g : stored ≡ with-record cleared (At place) r) where
     free : getD (records cleared) place freed ≡ freed
     free = rw e (freed-here table place within)

@@ -1,6 +1,6 @@
 -- An index made record by record.
 -- Assumes nothing.
-use mathlib.Core.Path.{_≡_, refl, sym, ap, _∙_}
+use mathlib.Core.Path.{_≡_, sym, ap, _∙_}
 use mathlib.Core.List.{List}
 use mathlib.Core.Bool.{true, false}
 use Prim.Native.Nat.{ℕ, _+_, _*_, _≤_, _<_}
@@ -13,7 +13,6 @@ use Rattle.table.specs.Record.{freed}
 use Rattle.table.specs.Table.{isUsed}
 use Rattle.table.specs.WellFormed.{WellFormed}
 use Rattle.index.specs.Index.{among, rankedTo, vacant, filled, coded, indexOf}
-use Rattle.index.specs.Fits.{UsedAt}
 use Rattle.index.specs.InnerEntries.{Holds, Enterable, Entered, Made}
 use Rattle.index.proofs.Ranked.{Rises, sorted-at, stands-in, in-ranked, length-ranked, used-most, ranked-rises}
 use Rattle.index.proofs.Coded.{length-coded, vacated, length-filled}

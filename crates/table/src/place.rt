@@ -3,7 +3,7 @@ ghost use mathlib.Core.Path.{_≡_};
 ghost use Prim.Native.Nat.{_+_, _*_, _<_, _≤_};
 ghost use lib.ListN.{length, drop};
 ghost use Rattle.cells.specs.Runs.{part, same};
-ghost use Rattle.table.specs.Table.{places, recordAt, records, firstFrom, holds, isFree, lapsed, found, taken, Placed};
+ghost use Rattle.table.specs.Table.{places, recordAt, records, firstFrom, holds, isFree, lapsed, taken, Placed};
 use super::session::SIZE;
 use window::time::Time;
 
@@ -52,13 +52,6 @@ pub fn find_from(table: &[u8], start: usize, iv: &[u8]) -> Place
         i += 1;
     }
     Place::Nowhere
-}
-
-// The place of the used record with this IV.
-pub fn find(table: &[u8], iv: &[u8]) -> Place
-    ensures { λ r. ⌜ Placed (found (records (now (table .entry))) (now (iv .entry))) (places (now (table .entry))) r ⌝ }
-{
-    find_from(table, 0, iv)
 }
 
 // Whether a place is free.

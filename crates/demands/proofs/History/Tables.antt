@@ -36,7 +36,7 @@ empty-chunks (suc n) =
     ∙ ap (λ (l : List ℕ). chunks (suc n) l) (sym (replicate-append-replicate size (size * n) 0))
     ∙ ap (λ (l : List Record). freed ∷ l) (empty-chunks n)
 
-empty-records : (n : ℕ) → records (empty n .table) ≡ replicate n freed
+pub empty-records : (n : ℕ) → records (empty n .table) ≡ replicate n freed
 unfolding records
 empty-records n =
     let all : places (empty n .table) ≡ n = omega (arith, length-replicate {A = ℕ} (size * n) 0) in

@@ -1,28 +1,29 @@
 -- The index that a call leaves fits the table that it leaves.
 -- Assumes nothing.
-use mathlib.Core.Path.{_≡_, refl, sym, ap, subst, _∙_}
+use mathlib.Core.Path.{_≡_, refl, sym, ap, _∙_}
 use mathlib.Core.List.{List}
-use Prim.Native.Nat.{ℕ}
+use mathlib.Core.Logic.{_⊎_, inl, inr}
+use Prim.Native.Nat.{ℕ, _*_, _<_}
 use native.Mathlib.Omega.{arith}
-use lib.ListN.{length, getD, set}
+use lib.ListN.{length, getD, set, length-set}
+use Rattle.cells.specs.Runs.{spliced}
 use Rattle.hashes.specs.Hashes.{hashMask}
 use Rattle.table.specs.declared.session.Record.{Record}
 use Rattle.table.specs.declared.place.Place.{Place}
 use Rattle.table.specs.declared.place.Place.the-variants.{At, Nowhere}
-use Rattle.table.specs.Record.{freed, begun}
+use Rattle.table.specs.Record.{size, recordOf, freed, begun}
 use Rattle.table.specs.Session.{placeOf, with-record, without}
-use Rattle.table.specs.Table.{places, records}
+use Rattle.table.specs.Table.{places, recordAt, records}
 use Rattle.table.specs.WellFormed.{WellFormed}
-use Rattle.table.proofs.Records.{length-records, records-stored, freed-fits}
+use Rattle.table.proofs.Records.{length-records, records-at, records-spliced, records-stored, freed-fits}
 use Rattle.table.proofs.Meaning.{freed-sound}
 use Rattle.table.proofs.Found.{found-at}
 use Rattle.table.proofs.Sessions.{begun-sound, begun-fits}
-use Rattle.table.proofs.Stored.{stored-well, alone-new}
-use Rattle.index.specs.Index.{indexOf}
-use Rattle.index.specs.Fits.{Fits}
+use Rattle.table.proofs.Stored.{equal-or-not, stored-here, stored-other, stored-well, alone-new}
 use Rattle.index.proofs.Held.{fits-one}
+use Rattle.index.proofs.Kept.{fits-same}
 use Rattle.gate.specs.Calls.{Setup}
-use Rattle.gate.specs.State.{State, indexed}
+use Rattle.gate.specs.State.{State, holding, indexed}
 use Rattle.gate.specs.Setup.{chosenOf, expiryOf, withSession}
 use Rattle.demands.specs.Effects.{Right}
 use Rattle.demands.proofs.Shared.Stored.{taken-within}
@@ -30,7 +31,7 @@ use Rattle.demands.proofs.Shared.Answers.{begun-table}
 use Rattle.demands.proofs.Shared.Passed.{Takes}
 
 -- a session's record freed
-without-well : (table iv : List ℕ) → WellFormed (records table) → WellFormed (records (without table iv))
+pub without-well : (table iv : List ℕ) → WellFormed (records table) → WellFormed (records (without table iv))
 unfolding without
 without-well table iv w = by (placeOf table iv) refl
   where
@@ -54,3 +55,23 @@ begun-well s state t w =
 
 pub begun-right : (s : Setup) (state : State) → Takes s state → WellFormed (records (state .table)) → Right (indexed (withSession s (state .table)))
 begun-right s state t w = fits-one (records (withSession s (state .table))) (begun-well s state t w)
+
+-- a record with the same mark and IV laid over a place
+pub laid-right : (table index : List ℕ) (place : ℕ) (bytes : List ℕ) → place < places table → length bytes ≡ size
+    → recordOf bytes .used ≡ recordAt table place .used → recordOf bytes .iv ≡ recordAt table place .iv
+    → Right (holding table index) → Right (holding (spliced table (size * place) bytes) index)
+laid-right table index place bytes within long used iv right =
+    rw (records-spliced table bytes place within long)
+    (fits-same (records table) (set (records table) place (recordOf bytes)) (sym (length-set (records table) place (recordOf bytes)))
+    (λ p. kept (λ (r : Record). r .used) p (sym used) (equal-or-not p place)) (λ p. kept (λ (r : Record). r .iv) p (sym iv) (equal-or-not p place)) right)
+  where
+    inside : place < length (records table)
+    inside = omega (arith, length-records table)
+
+    kept : {A : Type 0} (field : Record → A) (p : ℕ) → field (recordAt table place) ≡ field (recordOf bytes) → (p ≡ place) ⊎ (p ≡ place → ⊥)
+        → field (getD (records table) p freed) ≡ field (getD (set (records table) place (recordOf bytes)) p freed)
+    kept field p e (inl here) =
+        ap (λ (k : ℕ). field (getD (records table) k freed)) here
+        ∙ ap field (records-at table place within) ∙ e
+        ∙ sym (ap (λ (k : ℕ). field (getD (set (records table) place (recordOf bytes)) k freed)) here ∙ ap field (stored-here (records table) place (recordOf bytes) inside))
+    kept field p e (inr other) = ap field (sym (stored-other (records table) place (recordOf bytes) inside p other))

@@ -8,11 +8,13 @@ use native.Mathlib.Omega.{arith}
 use borrow.Author.Tests.{eqb-true, eqb-false, not-false}
 use lib.Dec.{eqb}
 use Rattle.table.specs.Table.{records}
-use Rattle.table.proofs.Meaning.{wellFormed-is}
+use Rattle.table.specs.WellFormed.{WellFormed}
+use Rattle.table.proofs.Meaning.{wellFormed-is, is-wellFormed}
 use Rattle.index.proofs.Held.{fits-one}
 use Rattle.stages.specs.Checks.{first}
 use Rattle.stages.proofs.Checks.{numbered, passed-at}
 use Rattle.gate.specs.State.{State, indexed, untouched}
+use Rattle.gate.specs.Sizes.{stateFits}
 use Rattle.gate.specs.Remake.{remakeChecks, remakeOutcome, remade}
 use Rattle.demands.specs.Order.{Exactly}
 use Rattle.demands.specs.Effects.{remakeNumbers, Right, RemakeEffects}
@@ -54,3 +56,10 @@ pub remake-effects : (state : State) → RemakeEffects state (remade state)
 unfolding remade remakeChecks
 remake-effects state =
     remake-by state (first (remakeChecks state)) refl (first-among (remakeChecks state)) (first-exactly (remakeChecks state) (remake-numbered state))
+
+-- where the sizes fit and the table is well formed, nothing refuses
+pub made-all : (state : State) → stateFits state ≡ true → WellFormed (records (state .table)) → (remade state .number ≡ 0) × Right (remade state .state)
+unfolding remade remakeChecks
+made-all state size w =
+    let none : first (remakeChecks state) ≡ 0 = rw (size, is-wellFormed (records (state .table)) w) refl in
+    rw none (refl, made-right state none)

@@ -82,7 +82,7 @@ ten-or-thirteen n e = by (eqb n 10) refl e
     by true p f = inl (eqb-true n 10 p)
     by false p f = inr (eqb-true n 13 f)
 
-two-invalidate : (n : ℕ) → TenOrThirteen n → invalidates n ≡ true
+pub two-invalidate : (n : ℕ) → TenOrThirteen n → invalidates n ≡ true
 two-invalidate n (inl e) = ap invalidates e
 two-invalidate n (inr e) = ap invalidates e
 

@@ -5,7 +5,7 @@ use mathlib.Core.List.{[]}
 use native.Mathlib.Omega.{arith}
 use borrow.Author.Needs.{needs}
 use borrow.Author.Tests.{not-true, not-false}
-use Rattle.gate.specs.State.{State, holding, outcome}
+use Rattle.gate.specs.State.{holding, outcome}
 use Rattle.gate.specs.Remake.{remakeChecks, remade}
 use Rattle.gate.proofs.Numbers.{stated}
 use Rattle.gate.proofs.gate_index.Statement.{statement}

@@ -1,16 +1,14 @@
 -- `lookup::find` meets its contract.
 -- Assumes nothing.
 use mathlib.Core.Path.{_≡_, sym, ap, _∙_}
-use mathlib.Core.Bool.{Bool, true≢false}
+use mathlib.Core.Bool.{true≢false}
 use native.Mathlib.Omega.{arith}
 use lib.ListN.{getD}
-use Rattle.table.specs.declared.session.Record.{Record}
 use Rattle.table.specs.Record.{freed}
 use Rattle.table.specs.Table.{records, holds}
 use Rattle.table.proofs.Records.{length-records, records-at}
 use Rattle.table.proofs.Found.{at-found}
 use Rattle.table.proofs.Meaning.{wellFormed-is}
-use Rattle.index.specs.InnerEntries.{entryAt}
 use Rattle.index.proofs.Held.{indexed-holds, holds-long}
 use Rattle.index.proofs.Finding.{missing}
 use Rattle.index.proofs.lookup.find.Statement.{statement}

@@ -1,9 +1,8 @@
 -- `lookup::rank` meets its contract.
 -- Assumes nothing.
-use Prim.Native.Nat.{ℕ, _+_, _-_, _*_, _/_}
-use mathlib.Core.Path.{_≡_, sym, ap, _∙_}
+use Prim.Native.Nat.{_+_, _-_, _/_}
+use mathlib.Core.Path.{sym, ap, _∙_}
 use native.Mathlib.Omega.{arith}
-use lib.ListN.{length}
 use Rattle.table.specs.Table.{records}
 use Rattle.table.proofs.Records.{length-records}
 use Rattle.index.specs.InnerEntries.{lowAt}

@@ -1,11 +1,9 @@
 -- `rule::rises` meets its contract.
 -- Assumes nothing.
-use Prim.Native.Nat.{_<_}
-use mathlib.Core.Path.{_≡_, sym, _∙_}
+use mathlib.Core.Path.{sym, _∙_}
 use native.Mathlib.Omega.{arith}
 use borrow.Author.Needs.{needs}
 use borrow.Author.Tests.{not-true, not-false, eq-eqb, ne-eqb}
-use Rattle.table.specs.Table.{places}
 use Rattle.index.specs.InnerEntries.{risesAt}
 use Rattle.index.proofs.Keys.{used-within}
 use Rattle.index.proofs.rule.rises.Statement.{statement}
