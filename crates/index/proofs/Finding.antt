@@ -5,8 +5,8 @@ use mathlib.Core.List.{List, _∷_, _++_}
 use mathlib.Core.Bool.{true, false, true≢false}
 use Prim.Native.Nat.{ℕ, _+_, _≤_, _<_}
 use native.Mathlib.Omega.{arith}
-use borrow.Author.Tests.{eqb-true, eqb-false, leb-true, leb-false}
-use lib.Dec.{eqb, leb}
+use borrow.Author.Tests.{eqb-true, eqb-false, leb-true, leb-false, ltb-true, ltb-false}
+use lib.Dec.{eqb, leb, ltb}
 use lib.ListN.{length, getD, take, drop}
 use Rattle.cells.proofs.Tests.{tested, both}
 use Rattle.table.specs.declared.session.Record.{Record}
@@ -93,6 +93,15 @@ module _ {table : List Record} {index ps : List ℕ} (h : Holds table index ps) 
   rank-among place e room =
       let most = rank-most room in
       among-at table place ps at most (λ k l. rw e (low-front k l (omega arith))) (λ l. rw e (high-rest at (omega arith) l))
+
+-- two ranks of one IV are one
+pub rank-determined : (table : List Record) (index iv : List ℕ) (r s : ℕ) → Ranks table index iv r → Ranks table index iv s → r ≡ s
+rank-determined table index iv r s a b =
+    tested (ltb r s) (λ t. absurd (clash r s a b (ltb-true r s t)))
+    (λ t. tested (ltb s r) (λ u. absurd (clash s r b a (ltb-true s r u))) (λ u. let least = ltb-false r s t in let most = ltb-false s r u in omega arith))
+  where
+    clash : (i j : ℕ) → Ranks table index iv i → Ranks table index iv j → i < j → ⊥
+    clash i j c d l = true≢false (sym (d .below i l) ∙ c .above i (omega arith) (omega (arith, d .within)))
 
 -- an entry that names another record at the rank: none has the IV
 module _ {table index : List ℕ} (indexed : Indexed table index) (iv : List ℕ) {at : ℕ} (r : Ranks (records table) index iv at) where
