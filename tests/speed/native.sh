@@ -15,9 +15,10 @@ native() {
     "$clang" --target="$machine-linux-gnu" "$(grep -m 1 '^-O' "$own/$1.words")" -fPIC -c -x ir -o "$own/$1.o" -
 }
 
-# handed_over NAME: target/native/NAME.bc and NAME.words, what the kit hands to its compiler: it is given one that keeps them
+# handed_over NAME: target/native/NAME.bc and NAME.words, what the kit hands to its compiler: it is given one that keeps them. Proofs are
+# by the kit's place, so this proves the crates anew, in a tree of its own.
 handed_over() {
-  local below file
+  local below file tree
   rm -rf "${own:?}"
   mkdir -p "$own/kit/$tools/bin"
   cat > "$own/kit/$tools/bin/clang" <<SCRIPT
@@ -32,5 +33,8 @@ SCRIPT
       [[ -e $own/kit/$below/${file##*/} ]] || ln -s "$file" "$own/kit/$below/"
     done
   done
-  RATTLE_HOME=$own/kit rt staticlib "$1"
+  tree=$(mktemp -d)
+  cp -r crates.txt crates "$tree"
+  (cd "$tree" && RATTLE_HOME=$own/kit rt staticlib "$1")
+  rm -rf "$tree"
 }

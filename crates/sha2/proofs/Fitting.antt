@@ -7,7 +7,7 @@ use Rattle.cells.specs.Runs.{part}
 use Rattle.hashes.specs.declared.Hash.{Hash}
 use Rattle.hashes.specs.declared.Hash.the-variants.{Sha256, Sha512}
 use Rattle.sha2.specs.declared.Words.{Words}
-use Rattle.sha2.specs.Word.{bits}
+use Rattle.sha2.specs.Word.{bits, _⊞⟨_⟩_}
 use Rattle.sha2.specs.Constants.{K, initial}
 use Rattle.sha2.specs.Block.{turns, schedule, rounds, sumOf, afterBlock}
 use Rattle.sha2.specs.Hash.{blockSize, afterBlocks}

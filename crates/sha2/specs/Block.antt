@@ -10,7 +10,7 @@ use Rattle.cells.specs.Runs.{part}
 use Rattle.hashes.specs.declared.Hash.{Hash}
 use Rattle.hashes.specs.declared.Hash.the-variants.{Sha256, Sha512}
 use Rattle.sha2.specs.declared.Words.{Words}
-use Rattle.sha2.specs.Word.{width, Ch, Maj, Σ0, Σ1, σ0, σ1}
+use Rattle.sha2.specs.Word.{width, _⊞⟨_⟩_, Ch, Maj, Σ0, Σ1, σ0, σ1}
 use Rattle.sha2.specs.Constants.{K}
 
 -- rounds, and words in the schedule
