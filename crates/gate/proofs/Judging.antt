@@ -20,7 +20,7 @@ use Rattle.table.specs.Record.{freed, recordBytes, Fits}
 use Rattle.table.specs.Table.{places, records, holds, Within}
 use Rattle.index.specs.Index.{indexOf, Indexed}
 use Rattle.index.proofs.Held.{length-indexOf}
-use Rattle.index.proofs.Kept.{index-same}
+use Rattle.index.proofs.Alike.{index-same}
 use Rattle.stages.specs.declared.settling.Decision.{Decision}
 use Rattle.stages.specs.Request.{Request}
 use Rattle.stages.specs.Checks.{Check, first, nowhere}

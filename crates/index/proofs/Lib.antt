@@ -8,5 +8,7 @@ pub mod Held
 pub mod Fitting
 pub mod Finding
 pub mod Changed
+pub mod Alike
 pub mod Kept
+pub mod Beside
 pub mod Making

@@ -21,7 +21,7 @@ use Rattle.table.proofs.Found.{found-at}
 use Rattle.table.proofs.Sessions.{begun-sound, begun-fits}
 use Rattle.table.proofs.Stored.{equal-or-not, stored-here, stored-other, stored-well, alone-new}
 use Rattle.index.proofs.Held.{fits-one}
-use Rattle.index.proofs.Kept.{fits-same}
+use Rattle.index.proofs.Alike.{fits-same}
 use Rattle.gate.specs.Calls.{Setup}
 use Rattle.gate.specs.State.{State, holding, indexed}
 use Rattle.gate.specs.Setup.{chosenOf, expiryOf, withSession}

@@ -8,7 +8,7 @@ use Rattle.table.specs.declared.place.Place.{Place}
 use Rattle.table.specs.declared.place.Place.the-variants.{At}
 use Rattle.table.specs.Session.{with-record}
 use Rattle.table.specs.Table.{places, Within}
-use Rattle.index.proofs.Kept.{indexed-same}
+use Rattle.index.proofs.Beside.{indexed-same}
 use Rattle.index.proofs.change.free.Statement.{statement}
 use Rattle.index.proofs.change.free.Tie as tie
 

@@ -16,7 +16,7 @@ use Rattle.index.specs.InnerEntries.{Ranks}
 use Rattle.index.proofs.Ranked.{in-stands, ranked-in}
 use Rattle.index.proofs.Held.{indexed-holds, holds-long}
 use Rattle.index.proofs.Changed.{room-taken, entry-taken}
-use Rattle.index.proofs.Kept.{freed-used, freed-unused}
+use Rattle.index.proofs.Beside.{freed-used, freed-unused}
 use Rattle.index.proofs.change.leave.Statement.{statement}
 use Rattle.index.proofs.change.leave.Tie as tie
 

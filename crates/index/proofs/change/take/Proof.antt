@@ -2,7 +2,7 @@
 -- Assumes nothing.
 use borrow.Author.Needs.{needs}
 use Rattle.table.specs.Record.{Fits}
-use Rattle.index.proofs.Kept.{inside-cleared, over-enterable, over-indexed}
+use Rattle.index.proofs.Beside.{inside-cleared, over-enterable, over-indexed}
 use Rattle.index.proofs.change.take.Statement.{statement}
 use Rattle.index.proofs.change.take.Tie as tie
 
