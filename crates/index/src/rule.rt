@@ -11,7 +11,6 @@ ghost use Rattle.index.specs.InnerEntries.{entryAt, risesAt, vacantAt, e
 use super::entries;
 use super::order;
 use table::rule;
-use table::session;
 use table::session::SIZE;
 
 // How many records are used, where all are sound.
@@ -27,11 +26,10 @@ fn tally(table: &[u8]) -> Tallied
     let mut used: usize = 0;
     let mut i: usize = 0;
     while i < n {
-        let here = session::read(table, i);
-        if !rule::record_sound(here) {
+        if !rule::sound_at(table, i) {
             return Tallied::Unsound;
         }
-        if here.used == 1 {
+        if table[SIZE * i] == 1 {
             used += 1;
         }
         i += 1;

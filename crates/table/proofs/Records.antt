@@ -2,19 +2,19 @@
 -- Assumes nothing.
 use mathlib.Core.Path.{_≡_, refl, sym, ap, ap₂, _∙_}
 use mathlib.Core.List.{List, [], _∷_, _++_, append-assoc}
-use Prim.Native.Nat.{ℕ, zero, suc, _+_, _-_, _*_, _/_, _≤_, _<_}
+use Prim.Native.Nat.{ℕ, zero, suc, _+_, _-_, _*_, _/_, _%_, _^_, _≤_, _<_}
 use native.Mathlib.Nat.{zero-add, add-zero, suc-add}
 use native.Mathlib.Omega.{arith}
 use lib.Dec.{lit<}
 use lib.ListN.{length, getD, take, drop, set, replicate, length-append, length-take, length-drop, take-append-drop, drop-of-length-le}
-use lib.Seq.{take-at, drop-at, take-add, drop-drop, drop-cons, getD-at, getD-take, getD-drop}
+use lib.Seq.{take-suc, take-at, drop-at, take-add, drop-drop, drop-cons, getD-at, getD-take, getD-drop}
 use Rattle.cells.specs.Runs.{spliced, part, Bytes}
 use Rattle.cells.specs.Numbers.{bytesOf, number}
 use Rattle.cells.proofs.Runs.{lent, spliced-front, fronted-whole, length-spliced, length-part}
 use Rattle.cells.specs.InnerLaid.{Laid}
 use Rattle.cells.proofs.Laid.{laid-more}
 use Rattle.cells.proofs.Cuts.{bytes-part, part-part}
-use Rattle.cells.proofs.Numbers.{length-bytesOf, number-of, bytesOf-number}
+use Rattle.cells.proofs.Numbers.{length-bytesOf, number-of, bytesOf-number, number-append}
 use Rattle.table.specs.declared.session.Record.{Record}
 use Rattle.table.specs.Record.{size, recordBytes, recordOf, Fits, freed}
 use Rattle.table.specs.Table.{places, recordAt, chunks, records}
@@ -161,6 +161,28 @@ module _ (bytes : List ℕ) (place : ℕ) (h : place < places bytes) where
   pub expiry-at : recordAt bytes place .expiry .0 ≡ number (part bytes (size * place + 13) 4)
   unfolding recordOf
   expiry-at = ap number (part-part bytes (size * place) size 13 4 (omega arith) (omega arith))
+
+  pub any-at : recordAt bytes place .any ≡ getD bytes (size * place + 17) 0
+  unfolding recordOf
+  any-at = getD-take size (drop (size * place) bytes) 17 0 (omega arith) ∙ getD-drop (size * place) bytes 17 0
+
+  pub hash-at : recordAt bytes place .hash ≡ getD bytes (size * place + 30) 0
+  unfolding recordOf
+  hash-at = getD-take size (drop (size * place) bytes) 30 0 (omega arith) ∙ getD-drop (size * place) bytes 30 0
+
+  -- the lowest bit is that of the last byte
+  pub lowest-at : recordAt bytes place .bits % 2 ≡ getD bytes (size * place + 29) 0 % 2
+  unfolding recordOf number
+  lowest-at =
+      let at = size * place + 22 in
+      let last : at + 7 ≡ size * place + 29 = omega arith in
+      let bits = ap number (part-part bytes (size * place) size 22 8 (omega arith) (omega arith) ∙ take-suc (drop at bytes) 7 0 (rw length-drop (omega arith))) in
+      ap (λ (n : ℕ). n % 2) (bits ∙ number-append (take 7 (drop at bytes)) (getD (drop at bytes) 7 0 ∷ []))
+      ∙ even (number (take 7 (drop at bytes))) (getD (drop at bytes) 7 0)
+      ∙ ap (λ (b : ℕ). b % 2) (getD-drop at bytes 7 0 ∙ ap (λ (i : ℕ). getD bytes i 0) last)
+    where
+      even : (n b : ℕ) → (n * 2 ^ 8 + (b * 2 ^ 0 + 0)) % 2 ≡ b % 2
+      even n b = omega arith
 
 module _ (xs ys : List ℕ) (n k : ℕ) (h : n + k ≤ length xs) where
   regrouped : spliced xs (n + k) ys ≡ take n xs ++ (take k (drop n xs) ++ (ys ++ drop (length ys) (drop (n + k) xs)))

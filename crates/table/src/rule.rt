@@ -48,6 +48,18 @@ pub fn record_sound(session: Record) -> bool
     (session.used == 1) & (hashes::names_one(session.hash as u64) & window_sound(session))
 }
 
+// Whether the record at a place is sound. Of a session with a nonce, the usual one, four bytes are looked at where they lie.
+pub fn sound_at(table: &[u8], place: usize) -> bool
+    requires { ⌜ place < places (now table) ⌝ }
+    ensures { λ r. ⌜ r ≡ sound (recordAt (now (table .entry)) place) ⌝ }
+{
+    let at = SIZE * place;
+    if (table[at] != 1) | (table[at + 17] != 1) {
+        return record_sound(session::read(table, place));
+    }
+    hashes::names_one(table[at + 30] as u64) & (table[at + 29] % 2 == 1)
+}
+
 // Whether the record at a place is sound, and no record after it has its IV where it is used.
 fn fits_at(table: &[u8], place: usize) -> bool
     requires { ⌜ place < places (now table) ⌝ }
