@@ -94,7 +94,15 @@ module _ (table : List Record) (index : List ℕ) where
   unfolding risesAt
   risen-used k e = used-told table (entryAt index k) (both (usedAt table (entryAt index k)) _ e .0)
 
-  rises-at : (k : ℕ) → UsedAt table (entryAt index k) → (1 ≤ k → lower table (entryAt index (k - 1)) (entryAt index k) ≡ true)
+  pub rises-unused : (k : ℕ) → usedAt table (entryAt index k) ≡ false → risesAt table index k ≡ false
+  unfolding risesAt
+  rises-unused k e = rw e
+
+  pub rises-later : (k : ℕ) → usedAt table (entryAt index k) ≡ true → 1 ≤ k → risesAt table index k ≡ lower table (entryAt index (k - 1)) (entryAt index k)
+  unfolding risesAt
+  rises-later k e o = rw (e, ne-eqb k 0 (λ z. omega arith))
+
+  pub rises-at : (k : ℕ) → UsedAt table (entryAt index k) → (1 ≤ k → lower table (entryAt index (k - 1)) (entryAt index k) ≡ true)
       → risesAt table index k ≡ true
   unfolding risesAt
   rises-at zero u r = rw (told-used table (entryAt index 0) u)

@@ -2,10 +2,10 @@
 -- Assumes nothing.
 use mathlib.Core.Path.{_≡_, refl, sym, ap, ap₂, _∙_}
 use mathlib.Core.List.{List, [], _∷_}
-use mathlib.Core.Bool.{true, false, _&&_, _||_}
+use mathlib.Core.Bool.{Bool, true, false, not, _&&_, _||_}
 use Prim.Native.Nat.{ℕ, _+_, _*_, _^_, _≤_, _<_}
 use native.Mathlib.Omega.{arith}
-use borrow.Author.Tests.{ltb-true, ltb-false, eqb-true, eqb-false, lt-ltb, le-ltb}
+use borrow.Author.Tests.{ltb-true, ltb-false, eqb-true, eqb-false, lt-ltb, le-ltb, not-false}
 use lib.Arith.{digits-lt}
 use lib.Dec.{eqb, ltb}
 use lib.ListN.{length, getD, drop}
@@ -20,8 +20,9 @@ use Rattle.table.specs.declared.session.Record.{Record}
 use Rattle.table.specs.Record.{size, freed}
 use Rattle.table.specs.Table.{places, records}
 use Rattle.table.proofs.Records.{length-records, records-at, used-at, iv-at}
-use Rattle.index.specs.Index.{precedes}
-use Rattle.index.specs.InnerEntries.{usedAt}
+use Rattle.index.specs.Index.{precedes, lower}
+use Rattle.index.specs.declared.order.Key.{Key}
+use Rattle.index.specs.InnerEntries.{worth, usedAt}
 
 -- numbers of two digits: the first decide, and where they are equal the second
 by-digits : (w x y m n : ℕ) → m < w → n < w → (ltb x y || (eqb x y && ltb m n)) ≡ ltb (x * w + m) (y * w + n)
@@ -52,25 +53,21 @@ precedes-number (x ∷ xs) (y ∷ ys) b d long =
     rw (precedes-number xs ys (bytes-rest x xs b) (bytes-rest y ys d) rest, ← rest)
     (by-digits (2 ^ (8 * length xs)) x y (number xs) (number ys) low high)
 
+pub precedes-twelve : (xs ys : List ℕ) (at bt : ℕ) → Bytes xs → Bytes ys → at + 12 ≤ length xs → bt + 12 ≤ length ys
+    → precedes (part xs at 12) (part ys bt 12) ≡ ltb (number (part xs at 12)) (number (part ys bt 12))
+precedes-twelve xs ys at bt b d h k =
+    precedes-number (part xs at 12) (part ys bt 12) (bytes-part xs at 12 b) (bytes-part ys bt 12 d) (length-part xs at 12 h ∙ sym (length-part ys bt 12 k))
+
 -- twelve bytes in two numbers
-in-two : (xs : List ℕ) (at : ℕ) → at + 12 ≤ length xs → number (part xs at 12) ≡ number (part xs at 8) * 2 ^ 32 + number (part xs (at + 8) 4)
+pub in-two : (xs : List ℕ) (at : ℕ) → at + 12 ≤ length xs → number (part xs at 12) ≡ number (part xs at 8) * 2 ^ 32 + number (part xs (at + 8) 4)
 in-two xs at h =
     ap number (take-add 8 4 (drop at xs)) ∙ number-append (part xs at 8) _
     ∙ rw (drop-drop 8 at xs, length-part xs (at + 8) 4 (omega arith))
 
--- the first eight bytes decide, and where they are equal the last four
-pub precedes-twelve : (xs ys : List ℕ) (at bt : ℕ) → Bytes xs → Bytes ys → at + 12 ≤ length xs → bt + 12 ≤ length ys
-    → precedes (part xs at 12) (part ys bt 12)
-    ≡ (ltb (number (part xs at 8)) (number (part ys bt 8))
-    || (eqb (number (part xs at 8)) (number (part ys bt 8)) && ltb (number (part xs (at + 8) 4)) (number (part ys (bt + 8) 4))))
-precedes-twelve xs ys at bt b d h k =
-    precedes-number (part xs at 12) (part ys bt 12) (bytes-part xs at 12 b) (bytes-part ys bt 12 d) (length-part xs at 12 h ∙ sym (length-part ys bt 12 k))
-    ∙ ap₂ ltb (in-two xs at h) (in-two ys bt k)
-    ∙ sym (by-digits (2 ^ 32) _ _ _ _ (small xs at b h) (small ys bt d k))
-  where
-    small : (zs : List ℕ) (i : ℕ) → Bytes zs → i + 12 ≤ length zs → number (part zs (i + 8) 4) < 2 ^ 32
-    small zs i c l =
-        rw (length-part zs (i + 8) 4 (omega arith)) at (number-below (part zs (i + 8) 4) (bytes-part zs (i + 8) 4 c))
+-- the first parts of two keys decide, and where they are equal the second
+pub by-parts : (a b : Key) → a .1 < 2 ^ 32 → b .1 < 2 ^ 32
+    → (ltb (a .0) (b .0) || (eqb (a .0) (b .0) && ltb (a .1) (b .1))) ≡ ltb (worth a) (worth b)
+by-parts a b = by-digits (2 ^ 32) (a .0) (b .0) (a .1) (b .1)
 
 -- a place's record, in the table's bytes
 module _ (bytes : List ℕ) (place : ℕ) (h : place < places bytes) where
@@ -80,6 +77,14 @@ module _ (bytes : List ℕ) (place : ℕ) (h : place < places bytes) where
   pub iv-bytes : getD (records bytes) place freed .iv ≡ part bytes (size * place + 1) 12
   iv-bytes = ap (λ (r : Record). r .iv) (records-at bytes place h) ∙ iv-at bytes place h
 
+-- the IVs of two places are compared as numbers
+pub lower-number : (bytes : List ℕ) (p q : ℕ) → Bytes bytes → p < places bytes → q < places bytes
+    → lower (records bytes) p q ≡ ltb (number (part bytes (size * p + 1) 12)) (number (part bytes (size * q + 1) 12))
+lower-number bytes p q b h k = ap₂ precedes (iv-bytes bytes p h) (iv-bytes bytes q k) ∙ precedes-twelve bytes bytes (size * p + 1) (size * q + 1) b b (omega arith) (omega arith)
+
 -- a used record stands within the table
 pub used-within : (bytes : List ℕ) (place : ℕ) → usedAt (records bytes) place ≡ true → place < places bytes
 used-within bytes place e = omega (arith, length-records bytes, ltb-true place (length (records bytes)) (both _ _ e .0))
+
+pub told-within : (bytes : List ℕ) (place : ℕ) {used : Bool} → used ≡ usedAt (records bytes) place → not used ≡ false → place < places bytes
+told-within bytes place {used = used} e t = used-within bytes place (sym e ∙ not-false used t)

@@ -1,6 +1,6 @@
 -- An index entry by entry, as the code reads and writes it.
 -- Assumes nothing.
-use Prim.Native.Nat.{ℕ, zero, suc, _+_, _-_, _*_, _≤_, _<_}
+use Prim.Native.Nat.{ℕ, zero, suc, _+_, _-_, _*_, _^_, _≤_, _<_}
 use mathlib.Core.Path.{_≡_}
 use mathlib.Core.List.{List}
 use mathlib.Core.Bool.{Bool, true, false, cond, _&&_, _||_}
@@ -10,10 +10,15 @@ use Rattle.table.specs.declared.session.Record.{Record}
 use Rattle.table.specs.Record.{freed}
 use Rattle.table.specs.Table.{isUsed}
 use Rattle.table.specs.WellFormed.{sound}
+use Rattle.index.specs.declared.order.Key.{Key}
 use Rattle.index.specs.declared.rule.Tallied.{Tallied}
 use Rattle.index.specs.declared.rule.Tallied.the-variants.{Used, Unsound}
 use Rattle.index.specs.Index.{precedes, lower, among, rankedTo, vacant, filled, coded}
 use Rattle.index.specs.Fits.{UsedAt, Stands}
+
+-- an IV's key as one number
+abbrev pub worth : Key → ℕ
+worth key = key .0 * 2 ^ 32 + key .1
 
 -- entry k of an index's bytes
 abbrev pub entryAt : List ℕ → ℕ → ℕ

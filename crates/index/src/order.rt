@@ -1,32 +1,32 @@
 // IVs compared from their first byte.
 ghost use mathlib.Core.Path.{_≡_};
-ghost use Prim.Native.Nat.{_+_, _≤_, _<_};
+ghost use Prim.Native.Nat.{_+_, _≤_};
+ghost use lib.Dec.{ltb};
 ghost use lib.ListN.{length};
 ghost use Rattle.cells.specs.Runs.{part};
-ghost use Rattle.table.specs.Table.{places, records};
-ghost use Rattle.index.specs.Index as I;
-ghost use Rattle.index.specs.InnerEntries.{usedAt, lowAt};
+ghost use Rattle.cells.specs.Numbers.{number};
+ghost use Rattle.table.specs.Table.{records};
+ghost use Rattle.index.specs.InnerEntries.{worth, usedAt, lowAt};
 use table::session::SIZE;
 
-// Two numbers are compared sooner than twelve bytes.
-fn precedes(a: &[u8], at: usize, b: &[u8], bt: usize) -> bool
-    requires { ⌜ (at + 12 ≤ length (now a)) × (bt + 12 ≤ length (now b)) ⌝ }
-    ensures { λ r. ⌜ r ≡ I.precedes (part (now (a .entry)) at 12) (part (now (b .entry)) bt 12) ⌝ }
+// An IV as one number, in two parts: two of them are compared sooner than twelve bytes.
+pub struct Key(pub u64, pub u32);
+
+// The IV that stands in some bytes from byte at on.
+pub fn key_at(s: &[u8], at: usize) -> Key
+    requires { ⌜ at + 12 ≤ length (now s) ⌝ }
+    ensures { λ r. ⌜ worth r ≡ number (part (now (s .entry)) at 12) ⌝ }
 {
-    let x = cells::load64(a, at);
-    let y = cells::load64(b, bt);
-    if x < y {
-        return true;
-    }
-    (x == y) & (cells::load32(a, at + 8) < cells::load32(b, bt + 8))
+    Key(cells::load64(s, at), cells::load32(s, at + 8))
 }
 
-// Whether the IV at one place is lower than that at another.
-pub fn lower(table: &[u8], p: usize, q: usize) -> bool
-    requires { ⌜ (p < places (now table)) × (q < places (now table)) ⌝ }
-    ensures { λ r. ⌜ r ≡ I.lower (records (now (table .entry))) p q ⌝ }
+pub fn below(a: Key, b: Key) -> bool
+    ensures { λ r. ⌜ r ≡ ltb (worth a) (worth b) ⌝ }
 {
-    precedes(table, SIZE * p + 1, table, SIZE * q + 1)
+    if a.0 < b.0 {
+        return true;
+    }
+    (a.0 == b.0) & (a.1 < b.1)
 }
 
 // Whether a used record stands at a place, which may be any number.
@@ -47,5 +47,5 @@ pub fn is_low(table: &[u8], place: usize, iv: &[u8]) -> bool
     if !is_used(table, place) {
         return false;
     }
-    precedes(table, SIZE * place + 1, iv, 0)
+    below(key_at(table, SIZE * place + 1), key_at(iv, 0))
 }

@@ -1,15 +1,16 @@
 // Whether a table is well formed and an index fits it, in one pass over each.
 ghost use mathlib.Core.Path.{_≡_};
 ghost use mathlib.Core.Bool.{_&&_};
-ghost use Prim.Native.Nat.{_+_, _-_, _*_, _≤_, _<_};
+ghost use Prim.Native.Nat.{_+_, _*_, _≤_};
 ghost use lib.ListN.{length};
 ghost use Rattle.cells.specs.Runs.{same};
 ghost use Rattle.table.specs.Table.{places, records};
 ghost use Rattle.table.specs.WellFormed.{wellFormed};
 ghost use Rattle.index.specs.Index.{vacant, indexOf};
-ghost use Rattle.index.specs.InnerEntries.{entryAt, risesAt, vacantAt, every, TallyIs};
+ghost use Rattle.index.specs.InnerEntries.{risesAt, vacantAt, every, TallyIs};
 use super::entries;
 use super::order;
+use super::order::Key;
 use table::rule;
 use table::session::SIZE;
 
@@ -37,29 +38,25 @@ fn tally(table: &[u8]) -> Tallied
     Tallied::Used(used)
 }
 
-fn rises(table: &[u8], index: &[u8], k: usize) -> bool
-    requires { ⌜ (k < places (now table)) × (length (now index) ≡ 2 * places (now table)) × (1 ≤ k → entryAt (now index) (k - 1) < places (now table)) ⌝ }
-    ensures { λ r. ⌜ r ≡ risesAt (records (now (table .entry))) (now (index .entry)) k ⌝ }
-{
-    let place = entries::read(index, k);
-    if !order::is_used(table, place) {
-        return false;
-    }
-    if k == 0 {
-        return true;
-    }
-    order::lower(table, entries::read(index, k - 1), place)
-}
-
+// Whether the first `count` entries name used records by rising IV.
 fn climbs(table: &[u8], index: &[u8], count: usize) -> bool
     requires { ⌜ (count ≤ places (now table)) × (length (now index) ≡ 2 * places (now table)) ⌝ }
     ensures { λ r. ⌜ r ≡ every (risesAt (records (now (table .entry))) (now (index .entry))) count ⌝ }
 {
+    let mut last = Key(0, 0);
     let mut k: usize = 0;
     while k < count {
-        if !rises(table, index, k) {
+        let place = entries::read(index, k);
+        if !order::is_used(table, place) {
             return false;
         }
+        let next = order::key_at(table, SIZE * place + 1);
+        if 0 < k {
+            if !order::below(last, next) {
+                return false;
+            }
+        }
+        last = next;
         k += 1;
     }
     true

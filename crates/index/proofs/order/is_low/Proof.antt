@@ -1,35 +1,45 @@
 -- `is_low` meets its contract: an IV is read only where a used record stands, which is within the table.
 -- Assumes nothing.
-use Prim.Native.Nat.{ℕ, _<_}
-use mathlib.Core.Path.{_≡_, sym, _∙_}
+use Prim.Native.Nat.{_+_, _*_}
+use mathlib.Core.Path.{_≡_, sym, ap₂, _∙_}
 use mathlib.Core.List.{List}
 use mathlib.Core.Bool.{Bool, false, not}
 use native.Mathlib.Omega.{arith}
 use borrow.Author.Needs.{needs}
 use borrow.Author.Tests.{not-true, not-false}
+use lib.Dec.{ltb}
 use lib.Seq.{take-all}
+use Rattle.table.specs.Record.{size}
 use Rattle.table.specs.Table.{places, records}
 use Rattle.index.specs.InnerEntries.{usedAt}
-use Rattle.index.proofs.Keys.{used-within, iv-bytes}
+use Rattle.index.proofs.Keys.{iv-bytes, precedes-twelve, told-within}
 use Rattle.index.proofs.order.is_low.Statement.{statement}
 use Rattle.index.proofs.order.is_low.Tie as tie
 
-within : (bytes : List ℕ) (place : ℕ) {used : Bool} → used ≡ usedAt (records bytes) place → not used ≡ false → place < places bytes
-within bytes place {used = used} e t = used-within bytes place (sym e ∙ not-false used t)
+returns-2 : tie.Need-returns-2
+returns-2 c =
+    let start = c .before .before .before .before .before .before .before in
+    let told = c .before .before .before .before .is-used in
+    let inside = told-within _ _ (told .ensures) (c .before .before .before .if1 .left) in
+    c .below .ensures ∙ ap₂ ltb (c .before .before .key-at .ensures) (c .before .key-at2 .ensures)
+    ∙ sym (precedes-twelve (start .args .table .now) (start .args .iv .now) (size * start .args .place + 1) 0
+    (λ i. c .before .before .before .before .before .before .shared-slice-known .given i .fits)
+    (λ i. c .before .before .before .before .before .shared-slice-known2 .given i .fits) (omega arith) (omega arith))
+    ∙ rw (
+      ← (told .ensures),
+      not-false (told .result) (c .before .before .before .if1 .left),
+      iv-bytes _ _ inside,
+      take-all 12 (start .args .iv .now) (omega arith),
+    )
 
 pub is-low-spec : {M : Type 1} → statement M
 is-low-spec =
     tie.close (tie.spec (λ c κs. search needs)
     (λ c. let told = c .before .is-used in
     rw (← (told .ensures), not-true (told .result) (c .if1 .taken)))
-    (λ c. omega (arith, within _ _ (c .before .is-used .ensures) (c .if1 .left)))
-    (λ c. omega (arith, within _ _ (c .before .is-used .ensures) (c .if1 .left)))
-    (λ c κs. let inside = within _ _ (c .before .is-used .ensures) (c .if1 .left) in (omega arith, omega arith))
-    (λ c. let told = c .before .before .is-used in
-    c .precedes .ensures
-    ∙ rw (
-      ← (told .ensures),
-      not-false (told .result) (c .before .if1 .left),
-      iv-bytes _ _ (within _ _ (told .ensures) (c .before .if1 .left)),
-      take-all 12 (c .before .before .before .before .before .args .iv .now) (omega arith),
-    )))
+    (λ c. omega (arith, told-within _ _ (c .before .is-used .ensures) (c .if1 .left)))
+    (λ c. omega (arith, told-within _ _ (c .before .is-used .ensures) (c .if1 .left)))
+    (λ c κs. let inside = told-within _ _ (c .before .is-used .ensures) (c .if1 .left) in omega arith)
+    (λ c κs. search needs)
+    (λ c κs. search needs)
+    returns-2)
