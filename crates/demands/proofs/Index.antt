@@ -60,13 +60,13 @@ pub only-one-fits : (table : List Record) (index : List ℕ) → Fits table inde
 only-one-fits table index f = fits-only table index f
 
 -- a lookup through the entries finds the record that one of them names
-module _ (table : List Record) (w : WellFormed table) (iv : List ℕ) where
-  named-there : (es : List ℕ) (i : ℕ) → i < length table → holds iv (getD table i freed) ≡ true
+module _ (table : List Record) (iv : List ℕ) where
+  named-there : (es : List ℕ) (i : ℕ) → holds iv (getD table i freed) ≡ true
       → ((k : ℕ) → k < length es → holds iv (getD table (getD es k 0) freed) ≡ true → getD es k 0 ≡ i) → Stands i es → named table iv es ≡ At i
-  named-there [] i l e one s = absurd (omega (arith, s .within))
-  named-there (x ∷ es) i l e one s =
+  named-there [] i e one s = absurd (omega (arith, s .within))
+  named-there (x ∷ es) i e one s =
       tested (holds iv (getD table x freed)) (λ t. rw t (ap At (one 0 (omega arith) t)))
-      (λ t. rw t (named-there es i l e (λ k m. one (suc k) (omega arith)) (behind (s .at) (s .within) (s .is) t)))
+      (λ t. rw t (named-there es i e (λ k m. one (suc k) (omega arith)) (behind (s .at) (s .within) (s .is) t)))
     where
       behind : (at : ℕ) → at < length (x ∷ es) → getD (x ∷ es) at 0 ≡ i → holds iv (getD table x freed) ≡ false → Stands i es
       behind zero m f t = absurd (true≢false (sym e ∙ ap (λ (k : ℕ). holds iv (getD table k freed)) (sym f) ∙ t))
@@ -120,13 +120,13 @@ looked-up table index iv few w f = ap (named table iv) those ∙ by (found table
         let there = found-at table iv i e in
         let used = holds-used iv (getD table i freed) (there .1) in
         let s = in-stands i ps (ranked-in table (length table) i (there .0) (used .0)) in
-        named-there table w iv es i (there .0) (there .1)
+        named-there table iv es i (there .1)
         (λ k l t. ⊎-elim
         (λ m. let told = holds-used iv (getD table (getD es k 0) freed) t in w .apart (getD es k 0) i m (there .0) (told .0) (used .0) (told .1 ∙ sym (used .1)))
         (λ v. absurd (true≢false (sym t ∙ ap (λ (x : ℕ). holds iv (getD table x freed)) v ∙ beyond))) (entry k l))
         (record { at = s .at; within = omega (arith, s .within, h .few, long); is = filled-front (length table) ps (s .at) (s .within) ∙ s .is })
     by Nowhere e =
-        named-nowhere table w iv es (λ k l. ⊎-elim (λ m. found-nowhere table iv e (getD es k 0) m) (λ v. ap (λ (x : ℕ). holds iv (getD table x freed)) v ∙ beyond) (entry k l))
+        named-nowhere table iv es (λ k l. ⊎-elim (λ m. found-nowhere table iv e (getD es k 0) m) (λ v. ap (λ (x : ℕ). holds iv (getD table x freed)) v ∙ beyond) (entry k l))
 
 -- gate_index answers 0 where the sizes fit and the table is well formed, and writes the index that fits
 pub made : (state : State) → stateFits state ≡ true → WellFormed (records (state .table)) → (remade state .number ≡ 0) × Right (remade state .state)

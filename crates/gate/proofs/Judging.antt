@@ -188,7 +188,7 @@ one-index r next f g used iv =
     ivs (suc p) = refl
 
 -- the effect, number by number
-not-zero : (n : ℕ) → invalidates n ≡ true → eqb n 0 ≡ false
+pub not-zero : (n : ℕ) → invalidates n ≡ true → eqb n 0 ≡ false
 not-zero n e = by (eqb n 0) refl
   where
     by : (t : Bool) → eqb n 0 ≡ t → t ≡ false

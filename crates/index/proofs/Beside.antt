@@ -36,20 +36,20 @@ module _ (table : List ℕ) (place : ℕ) (within : place < places table) where
   inside : place < length (records table)
   inside = omega (arith, length-records table)
 
-  pub places-kept : (r : Record) → length (r .iv) ≡ 12 → places (with-record table (At place) r) ≡ places table
+  places-kept : (r : Record) → length (r .iv) ≡ 12 → places (with-record table (At place) r) ≡ places table
   places-kept r v = ap (λ (n : ℕ). n / size) (length-spliced table (recordBytes r) (size * place) (omega (arith, length-recordBytes r v)))
 
   -- a freed record holds zeros, and no IV is found that was not there before
-  pub freed-here : getD (records (with-record table (At place) freed)) place freed ≡ freed
+  freed-here : getD (records (with-record table (At place) freed)) place freed ≡ freed
   freed-here = ap (λ (l : List Record). getD l place freed) (records-stored table place freed within freed-fits) ∙ stored-here (records table) place freed inside
 
-  pub freed-new : (iv : List ℕ) → found (records table) iv ≡ Nowhere → found (records (with-record table (At place) freed)) iv ≡ Nowhere
+  freed-new : (iv : List ℕ) → found (records table) iv ≡ Nowhere → found (records (with-record table (At place) freed)) iv ≡ Nowhere
   freed-new iv e =
       ap (λ (l : List Record). found l iv) (records-stored table place freed within freed-fits)
       ∙ found-kept (records table) place freed inside iv (sym (found-nowhere (records table) iv e place inside))
       ∙ e
 
-  pub stored-indexed : (r : Record) (after : List ℕ) → R.Fits r → places table ≤ vacant → WellFormed (set (records table) place r)
+  stored-indexed : (r : Record) (after : List ℕ) → R.Fits r → places table ≤ vacant → WellFormed (set (records table) place r)
       → after ≡ indexOf (set (records table) place r) → Indexed (with-record table (At place) r) after
   stored-indexed r after f few w e = record {
     few = omega (arith, places-kept r (f .iv));
@@ -96,7 +96,7 @@ module _ (table : List ℕ) (place : ℕ) (within : place < places table) where
             used-fewer (records table) (length (records table)) place inside (ap isUsed free),
           )
 
-      pub taken-enterable : Enterable (records (with-record table (At place) r)) index place
+      taken-enterable : Enterable (records (with-record table (At place) r)) index place
       taken-enterable = subst (λ (l : List Record). Enterable l index place) (sym (records-stored table place r within f)) (record {
         ps = ranked (records table);
         holds = after-holds;
@@ -105,7 +105,7 @@ module _ (table : List ℕ) (place : ℕ) (within : place < places table) where
         other = λ p i. own (records table) formed place r inside free u s new p (stands-in p (ranked (records table)) i);
       })
 
-      pub taken-indexed : {after : List ℕ} → Entered (records (with-record table (At place) r)) index after place → Indexed (with-record table (At place) r) after
+      taken-indexed : {after : List ℕ} → Entered (records (with-record table (At place) r)) index after place → Indexed (with-record table (At place) r) after
       unfolding indexOf
       taken-indexed {after} e =
           stored-indexed r after f (h .few) (taken-well (records table) formed place r inside free u s new)
@@ -113,7 +113,7 @@ module _ (table : List ℕ) (place : ℕ) (within : place < places table) where
           ∙ ap (λ (ps : List ℕ). coded (filled (length (set (records table) place r)) ps)) (taken-ranked (records table) formed place r inside free u s new))
 
 -- a record stored over another
-pub stored-again : (table : List ℕ) (place : ℕ) (r next : Record) → place < places table → length (r .iv) ≡ 12 → length (next .iv) ≡ 12
+stored-again : (table : List ℕ) (place : ℕ) (r next : Record) → place < places table → length (r .iv) ≡ 12 → length (next .iv) ≡ 12
     → with-record (with-record table (At place) r) (At place) next ≡ with-record table (At place) next
 unfolding spliced
 stored-again table place r next within v v' =

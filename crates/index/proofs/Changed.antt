@@ -1,4 +1,4 @@
--- An index after an entry was made or taken out, and a table of which one record was taken or freed beside it.
+-- An index after an entry was made or taken out.
 -- Assumes nothing.
 use mathlib.Core.Path.{_≡_, refl, sym, ap, _∙_}
 use mathlib.Core.List.{List, [], _∷_, _++_, append-nil}

@@ -20,18 +20,18 @@ unfolding coded bytesOf
 length-coded [] = refl
 length-coded (e ∷ es) = omega (arith, length-coded es)
 
-pub coded-append : (xs ys : List ℕ) → coded (xs ++ ys) ≡ coded xs ++ coded ys
+coded-append : (xs ys : List ℕ) → coded (xs ++ ys) ≡ coded xs ++ coded ys
 unfolding coded bytesOf
 coded-append [] ys = refl
 coded-append (x ∷ xs) ys = rw (coded-append xs ys)
 
-pub take-coded : (k : ℕ) (es : List ℕ) → take (2 * k) (coded es) ≡ coded (take k es)
+take-coded : (k : ℕ) (es : List ℕ) → take (2 * k) (coded es) ≡ coded (take k es)
 unfolding coded bytesOf
 take-coded zero es = refl
 take-coded (suc k) [] = take-nil (2 * suc k)
 take-coded (suc k) (e ∷ es) = rw (two-more k, take-coded k es)
 
-pub drop-coded : (k : ℕ) (es : List ℕ) → drop (2 * k) (coded es) ≡ coded (drop k es)
+drop-coded : (k : ℕ) (es : List ℕ) → drop (2 * k) (coded es) ≡ coded (drop k es)
 unfolding coded bytesOf
 drop-coded zero es = refl
 drop-coded (suc k) [] = drop-nil (2 * suc k)

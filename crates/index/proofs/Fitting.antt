@@ -2,7 +2,7 @@
 -- Assumes nothing.
 use mathlib.Core.Path.{_≡_, refl, sym, ap, ap₂, subst, _∙_}
 use mathlib.Core.List.{List, _++_}
-use mathlib.Core.Bool.{Bool, true, false, true≢false, cond, _&&_, or-true}
+use mathlib.Core.Bool.{Bool, true, false, true≢false, cond, _&&_}
 use Prim.Native.Nat.{ℕ, zero, suc, _+_, _-_, _*_, _≤_, _<_}
 use native.Mathlib.Numerals.{add-one}
 use native.Mathlib.Omega.{arith}
@@ -38,7 +38,7 @@ every-at test (suc n) e k l =
     earlier : eqb k n ≡ false → k < n
     earlier f = let differ = eqb-false k n f in omega arith
 
-pub at-every : (test : ℕ → Bool) (n : ℕ) → ((k : ℕ) → k < n → test k ≡ true) → every test n ≡ true
+at-every : (test : ℕ → Bool) (n : ℕ) → ((k : ℕ) → k < n → test k ≡ true) → every test n ≡ true
 unfolding every
 at-every test zero h = refl
 at-every test (suc n) h = rw (at-every test n (λ k l. h k (omega arith)), h n (omega arith))
@@ -72,12 +72,20 @@ used-more table i t e = rw (add-one i, e)
 
 -- entries of which each rises over the one before rise throughout
 module _ (table : List Record) (index : List ℕ) where
+  pub rises-unused : (k : ℕ) → usedAt table (entryAt index k) ≡ false → risesAt table index k ≡ false
+  unfolding risesAt
+  rises-unused k e = rw e
+
+  pub rises-later : (k : ℕ) → usedAt table (entryAt index k) ≡ true → 1 ≤ k → risesAt table index k ≡ lower table (entryAt index (k - 1)) (entryAt index k)
+  unfolding risesAt
+  rises-later k e o = rw (e, ne-eqb k 0 (λ z. omega arith))
+
   step : (k : ℕ) → risesAt table index (suc k) ≡ true → lower table (entryAt index k) (entryAt index (suc k)) ≡ true
   unfolding risesAt
   step k e =
       let one : k ≡ suc k - 1 = omega arith in
       ap (λ (i : ℕ). lower table (entryAt index i) (entryAt index (suc k))) one
-      ∙ rw (ne-eqb (suc k) 0 (λ z. omega arith)) at (both (usedAt table (entryAt index (suc k))) _ e .1)
+      ∙ sym (rises-later (suc k) (both (usedAt table (entryAt index (suc k))) _ e .0) (omega arith)) ∙ e
 
   climbing : (count : ℕ) → every (risesAt table index) count ≡ true
       → (i j : ℕ) → i < j → j < count → lower table (entryAt index i) (entryAt index j) ≡ true
@@ -94,19 +102,11 @@ module _ (table : List Record) (index : List ℕ) where
   unfolding risesAt
   risen-used k e = used-told table (entryAt index k) (both (usedAt table (entryAt index k)) _ e .0)
 
-  pub rises-unused : (k : ℕ) → usedAt table (entryAt index k) ≡ false → risesAt table index k ≡ false
-  unfolding risesAt
-  rises-unused k e = rw e
-
-  pub rises-later : (k : ℕ) → usedAt table (entryAt index k) ≡ true → 1 ≤ k → risesAt table index k ≡ lower table (entryAt index (k - 1)) (entryAt index k)
-  unfolding risesAt
-  rises-later k e o = rw (e, ne-eqb k 0 (λ z. omega arith))
-
   pub rises-at : (k : ℕ) → UsedAt table (entryAt index k) → (1 ≤ k → lower table (entryAt index (k - 1)) (entryAt index k) ≡ true)
       → risesAt table index k ≡ true
   unfolding risesAt
   rises-at zero u r = rw (told-used table (entryAt index 0) u)
-  rises-at (suc k) u r = rw (told-used table (entryAt index (suc k)) u, r (omega arith)) (or-true (eqb (suc k) 0))
+  rises-at (suc k) u r = rises-later (suc k) (told-used table (entryAt index (suc k)) u) (omega arith) ∙ r (omega arith)
 
 module _ (table : List Record) (index : List ℕ) (small : length table ≤ vacant) (bytes : Bytes index) (long : length index ≡ 2 * length table) where
   abbrev n : ℕ

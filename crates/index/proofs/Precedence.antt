@@ -45,7 +45,7 @@ precedes-trans (x ∷ xs) (y ∷ ys) (z ∷ zs) p q =
     (split x y xs ys p)
 
 -- runs of which neither precedes the other are one
-pub precedes-one : (xs ys : List ℕ) → precedes xs ys ≡ false → precedes ys xs ≡ false → xs ≡ ys
+precedes-one : (xs ys : List ℕ) → precedes xs ys ≡ false → precedes ys xs ≡ false → xs ≡ ys
 unfolding precedes
 precedes-one [] [] p q = refl
 precedes-one [] (y ∷ ys) p q = absurd (true≢false p)

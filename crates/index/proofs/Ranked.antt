@@ -43,7 +43,7 @@ in-stands p (q ∷ qs) (inr i) =
     let s = in-stands p qs i in
     record { at = suc (s .at); within = omega (arith, s .within); is = s .is }
 
-pub at-in : (ps : List ℕ) (at : ℕ) → at < length ps → In (getD ps at 0) ps
+at-in : (ps : List ℕ) (at : ℕ) → at < length ps → In (getD ps at 0) ps
 at-in ps at l = stands-in (getD ps at 0) ps (record { at = at; within = l; is = refl })
 
 module _ (R : ℕ → ℕ → Type 0) where
@@ -99,7 +99,7 @@ module _ (table : List Record) where
   rises-self : (p q : ℕ) → p ≡ q → Rises p q → ⊥
   rises-self p q e r = true≢false (sym r ∙ ap (lower table p) (sym e) ∙ precedes-self (getD table p freed .iv))
 
-  pub rises-keeps : (p q : ℕ) → Rises p q → Keeps p q
+  rises-keeps : (p q : ℕ) → Rises p q → Keeps p q
   rises-keeps p q r = refuted (lower table q p) (λ t. rises-self p p refl (precedes-trans _ _ _ r t))
 
   pub removed-other : (ps : List ℕ) (at q : ℕ) → at < length ps → Sorted Rises ps → In q (removed at ps) → q ≡ getD ps at 0 → ⊥
@@ -134,7 +134,7 @@ module _ (table : List Record) where
         by true h (inr (inr j)) = inr (h (inr j))
         by false h j = j
 
-    pub length-among : (ps : List ℕ) → length (among table place ps) ≡ suc (length ps)
+    length-among : (ps : List ℕ) → length (among table place ps) ≡ suc (length ps)
     unfolding among
     length-among [] = refl
     length-among (p ∷ ps) = by (lower table p place) (length-among ps)

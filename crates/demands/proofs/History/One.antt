@@ -41,7 +41,7 @@ use Rattle.demands.proofs.History.Sessions.{Sessions, freed-sessions, s
 use Rattle.demands.proofs.History.Tables.{Standing, held, stored-standing}
 
 -- making the index anew leaves the table alone
-pub caught-table : (number : ℕ) (state : State) → caughtUp number state .table ≡ state .table
+caught-table : (number : ℕ) (state : State) → caughtUp number state .table ≡ state .table
 caught-table number state = by (invalidates number)
   where
     by : (t : Bool) → cond t (remade state .state) state .table ≡ state .table

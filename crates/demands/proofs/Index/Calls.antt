@@ -3,7 +3,7 @@
 use mathlib.Core.Path.{_≡_, refl, sym, ap, subst, _∙_}
 use mathlib.Core.List.{List}
 use mathlib.Core.Logic.{_⊎_, inl, inr, ⊎-elim}
-use mathlib.Core.Bool.{true, false, true≢false}
+use mathlib.Core.Bool.{true, false}
 use Prim.Native.Nat.{ℕ, _*_, _≤_, _<_, _^_}
 use native.Mathlib.Omega.{arith}
 use borrow.Author.Tests.{eqb-true, eqb-false}
@@ -21,15 +21,14 @@ use Rattle.table.specs.declared.place.Place.the-variants.{At, Nowhere}
 use Rattle.table.specs.Session.{placeOf, with-record, without}
 use Rattle.table.specs.Table.{places, recordAt, records}
 use Rattle.table.specs.WellFormed.{WellFormed}
-use Rattle.table.proofs.Records.{length-recordBytes, recordOf-bytes, length-records, records-stored, freed-fits}
+use Rattle.table.proofs.Records.{length-recordBytes, recordOf-bytes}
 use Rattle.table.proofs.Sessions.{stepped-fits}
-use Rattle.table.proofs.Meaning.{freed-sound}
-use Rattle.table.proofs.Stored.{stored-well}
 use Rattle.stages.specs.Request.{Request}
 use Rattle.stages.specs.Parts.{ivOf, nonceOf, ordered, invalidates}
 use Rattle.gate.specs.State.{State, holding}
 use Rattle.gate.specs.Sizes.{tableFits, stateFits}
 use Rattle.stages.specs.Checks.{first}
+use Rattle.gate.proofs.Judging.{not-zero}
 use Rattle.gate.specs.Judge.{requestChecks, judged}
 use Rattle.demands.specs.Effects.{Right, TenOrThirteen}
 use Rattle.demands.specs.History.{Call, setting-up, judging, judging-one, ending, making-index, takenOut, putBack, judgedAt, answer}
@@ -38,7 +37,7 @@ use Rattle.demands.proofs.Shared.Checks.{accepted-passes}
 use Rattle.demands.proofs.Shared.Others.{passes-finds}
 use Rattle.demands.proofs.Shared.Named.{found-session}
 use Rattle.demands.proofs.Shared.Stored.{respliced}
-use Rattle.demands.proofs.Shared.Indexes.{laid-right}
+use Rattle.demands.proofs.Shared.Indexes.{cleared-well, laid-right}
 use Rattle.demands.proofs.Untouched as Untouched
 use Rattle.demands.proofs.Untouched.Requests.{two-invalidate}
 use Rattle.demands.proofs.Untouched.Indexes.{made-all}
@@ -86,10 +85,6 @@ accepted-right q state fit z right =
 sizes-kept : (table after index : List ℕ) → length after ≡ length table → stateFits (holding table index) ≡ true → stateFits (holding after index) ≡ true
 unfolding stateFits tableFits
 sizes-kept table after index e h = rw e h
-
--- 10 and 13 are not 0
-not-zero : (n : ℕ) → invalidates n ≡ true → eqb n 0 ≡ false
-not-zero n e = tested (eqb n 0) (λ t. absurd (true≢false (sym e ∙ ap invalidates (eqb-true n 0 t)))) (λ t. t)
 
 module _ (state : State) (fits : stateFits state ≡ true) (fit : Whole (state .table)) (w : WellFormed (records (state .table))) (right : Right state) where
   module _ (place : ℕ) (q : Request) where
@@ -151,8 +146,7 @@ module _ (state : State) (fits : stateFits state ≡ true) (fit : Whole (state .
         ap (λ (i : ℕ). with-record one (At i) freed) first-place ∙ spliced-front one (recordBytes freed)
         ∙ fronted-whole (recordBytes freed) one (length-recordBytes freed refl ∙ sym (inside .1)) in
         rw bare (
-          rw (records-stored (state .table) place freed (inside .0) freed-fits)
-              (stored-well (records (state .table)) place freed (omega (arith, inside .0, length-records (state .table))) w freed-sound (λ u. absurd (omega arith))),
+          cleared-well (state .table) place (inside .0) w,
           length-spliced (state .table) (recordBytes freed) (size * place) (omega (arith, inside .0, length-recordBytes freed refl)),
         )
     cleared Nowhere e = rw (respliced (state .table) (size * place) size) (w, refl)

@@ -16,11 +16,11 @@ use Rattle.table.specs.Session.{placeOf, with-record, without}
 use Rattle.table.specs.Table.{places, recordAt, records}
 use Rattle.table.specs.WellFormed.{WellFormed}
 use Rattle.table.proofs.Records.{length-records, records-at, records-spliced, records-stored, freed-fits}
-use Rattle.table.proofs.Meaning.{freed-sound}
 use Rattle.table.proofs.Found.{found-at}
 use Rattle.table.proofs.Sessions.{begun-sound, begun-fits}
 use Rattle.table.proofs.Stored.{equal-or-not, stored-here, stored-other, stored-well, alone-new}
 use Rattle.index.proofs.Held.{fits-one}
+use Rattle.index.proofs.Kept.{freed-well}
 use Rattle.index.proofs.Alike.{fits-same}
 use Rattle.gate.specs.Calls.{Setup}
 use Rattle.gate.specs.State.{State, holding, indexed}
@@ -30,16 +30,19 @@ use Rattle.demands.proofs.Shared.Stored.{taken-within}
 use Rattle.demands.proofs.Shared.Answers.{begun-table}
 use Rattle.demands.proofs.Shared.Passed.{Takes}
 
--- a session's record freed
-pub without-well : (table iv : List ℕ) → WellFormed (records table) → WellFormed (records (without table iv))
+-- a record freed
+pub cleared-well : (table : List ℕ) (place : ℕ) → place < places table → WellFormed (records table) → WellFormed (records (with-record table (At place) freed))
+cleared-well table place within w =
+    rw (records-stored table place freed within freed-fits) (freed-well (records table) w place (omega (arith, length-records table)))
+
+without-well : (table iv : List ℕ) → WellFormed (records table) → WellFormed (records (without table iv))
 unfolding without
 without-well table iv w = by (placeOf table iv) refl
   where
     by : (p : Place) → placeOf table iv ≡ p → WellFormed (records (with-record table p freed))
     by (At i) e =
         let h = found-at (records table) iv i e .0 in
-        rw (records-stored table i freed (omega (arith, length-records table)) freed-fits)
-        (stored-well (records table) i freed h w freed-sound (λ u. absurd (omega arith)))
+        cleared-well table i (omega (arith, length-records table)) w
     by Nowhere e = w
 
 pub without-right : (table iv : List ℕ) → WellFormed (records table) → Right (indexed (without table iv))

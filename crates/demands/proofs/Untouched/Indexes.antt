@@ -25,7 +25,7 @@ unfolding remakeChecks
 remake-numbered state = refl
 
 -- the index that is made fits
-pub made-right : (state : State) → first (remakeChecks state) ≡ 0 → Right (indexed (state .table))
+made-right : (state : State) → first (remakeChecks state) ≡ 0 → Right (indexed (state .table))
 unfolding remakeChecks
 made-right state e =
     fits-one (records (state .table)) (wellFormed-is (records (state .table)) (not-false _ (passed-at (remakeChecks state) (remake-numbered state) e 3)))

@@ -1,17 +1,13 @@
 -- `is_low` meets its contract: an IV is read only where a used record stands, which is within the table.
 -- Assumes nothing.
 use Prim.Native.Nat.{_+_, _*_}
-use mathlib.Core.Path.{_≡_, sym, ap₂, _∙_}
-use mathlib.Core.List.{List}
-use mathlib.Core.Bool.{Bool, false, not}
+use mathlib.Core.Path.{sym, ap₂, _∙_}
 use native.Mathlib.Omega.{arith}
 use borrow.Author.Needs.{needs}
 use borrow.Author.Tests.{not-true, not-false}
 use lib.Dec.{ltb}
 use lib.Seq.{take-all}
 use Rattle.table.specs.Record.{size}
-use Rattle.table.specs.Table.{places, records}
-use Rattle.index.specs.InnerEntries.{usedAt}
 use Rattle.index.proofs.Keys.{iv-bytes, precedes-twelve, told-within}
 use Rattle.index.proofs.order.is_low.Statement.{statement}
 use Rattle.index.proofs.order.is_low.Tie as tie

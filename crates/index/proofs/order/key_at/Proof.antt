@@ -1,6 +1,6 @@
 -- `key_at` meets its contract: twelve bytes are eight and then four.
 -- Assumes nothing.
-use mathlib.Core.Path.{sym, _∙_}
+use mathlib.Core.Path.{sym}
 use borrow.Author.Needs.{needs}
 use Rattle.index.proofs.Keys.{in-two}
 use Rattle.index.proofs.order.key_at.Statement.{statement}
