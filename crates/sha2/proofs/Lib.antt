@@ -1,5 +1,6 @@
 -- The laws of this crate: those of Output and Streaming serve callers too, and the others its own functions.
 pub mod ChMaj
+pub mod Rotations
 pub mod Schedule
 pub mod Rounds
 pub mod Fitting

@@ -16,26 +16,33 @@ pub fn maj(x: u32, y: u32, z: u32) -> u32
     y ^ ((x ^ y) & (y ^ z))
 }
 
+// The standard's rotations as rotations within rotations, with fewer operations: left by the difference between one amount and the next, x mixed in, and in the end right by the last amount.
 pub fn big_sigma0(x: u32) -> u32
     ensures { λ r. ⌜ r ≡ Word.Σ0 Sha256 x ⌝ }
 {
-    ((x >> 2) | (x << 30)) ^ ((x >> 13) | (x << 19)) ^ ((x >> 22) | (x << 10))
+    let a = ((x >> 21) | (x << 11)) ^ x;
+    let b = ((a >> 23) | (a << 9)) ^ x;
+    (b >> 22) | (b << 10)
 }
 
 pub fn big_sigma1(x: u32) -> u32
     ensures { λ r. ⌜ r ≡ Word.Σ1 Sha256 x ⌝ }
 {
-    ((x >> 6) | (x << 26)) ^ ((x >> 11) | (x << 21)) ^ ((x >> 25) | (x << 7))
+    let a = ((x >> 27) | (x << 5)) ^ x;
+    let b = ((a >> 18) | (a << 14)) ^ x;
+    (b >> 25) | (b << 7)
 }
 
 pub fn small_sigma0(x: u32) -> u32
     ensures { λ r. ⌜ r ≡ Word.σ0 Sha256 x ⌝ }
 {
-    ((x >> 7) | (x << 25)) ^ ((x >> 18) | (x << 14)) ^ (x >> 3)
+    let a = ((x >> 21) | (x << 11)) ^ x;
+    ((a >> 18) | (a << 14)) ^ (x >> 3)
 }
 
 pub fn small_sigma1(x: u32) -> u32
     ensures { λ r. ⌜ r ≡ Word.σ1 Sha256 x ⌝ }
 {
-    ((x >> 17) | (x << 15)) ^ ((x >> 19) | (x << 13)) ^ (x >> 10)
+    let a = ((x >> 30) | (x << 2)) ^ x;
+    ((a >> 19) | (a << 13)) ^ (x >> 10)
 }

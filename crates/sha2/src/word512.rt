@@ -16,26 +16,33 @@ pub fn maj(x: u64, y: u64, z: u64) -> u64
     y ^ ((x ^ y) & (y ^ z))
 }
 
+// The standard's rotations as rotations within rotations, with fewer operations: left by the difference between one amount and the next, x mixed in, and in the end right by the last amount.
 pub fn big_sigma0(x: u64) -> u64
     ensures { λ r. ⌜ r ≡ Word.Σ0 Sha512 x ⌝ }
 {
-    ((x >> 28) | (x << 36)) ^ ((x >> 34) | (x << 30)) ^ ((x >> 39) | (x << 25))
+    let a = ((x >> 58) | (x << 6)) ^ x;
+    let b = ((a >> 59) | (a << 5)) ^ x;
+    (b >> 39) | (b << 25)
 }
 
 pub fn big_sigma1(x: u64) -> u64
     ensures { λ r. ⌜ r ≡ Word.Σ1 Sha512 x ⌝ }
 {
-    ((x >> 14) | (x << 50)) ^ ((x >> 18) | (x << 46)) ^ ((x >> 41) | (x << 23))
+    let a = ((x >> 60) | (x << 4)) ^ x;
+    let b = ((a >> 41) | (a << 23)) ^ x;
+    (b >> 41) | (b << 23)
 }
 
 pub fn small_sigma0(x: u64) -> u64
     ensures { λ r. ⌜ r ≡ Word.σ0 Sha512 x ⌝ }
 {
-    ((x >> 1) | (x << 63)) ^ ((x >> 8) | (x << 56)) ^ (x >> 7)
+    let a = ((x >> 57) | (x << 7)) ^ x;
+    ((a >> 8) | (a << 56)) ^ (x >> 7)
 }
 
 pub fn small_sigma1(x: u64) -> u64
     ensures { λ r. ⌜ r ≡ Word.σ1 Sha512 x ⌝ }
 {
-    ((x >> 19) | (x << 45)) ^ ((x >> 61) | (x << 3)) ^ (x >> 6)
+    let a = ((x >> 22) | (x << 42)) ^ x;
+    ((a >> 61) | (a << 3)) ^ (x >> 6)
 }
