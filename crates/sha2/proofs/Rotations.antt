@@ -55,13 +55,13 @@ rotated-on {w} a b c x e hx =
     subst (λ (y : ℕ). ROTR w (a + c) (ROTR w (a + b) y) ≡ ROTR w a y) (rw (split (x / 2 ^ a) b) (split x a))
     (parts-on a b c (x / 2 ^ a / 2 ^ b) (x / 2 ^ a % 2 ^ b) (x % 2 ^ a) e (rw (shr-shr x a b) (upper (a + b) c x e hx)) (mod-lt _ (pow-pos b)) (mod-lt x (pow-pos a)))
 
--- σ0 and σ1 but for the shift
+-- two rotations by one within the other
 pub two-rotations : {w : ℕ} (a b c x : ℕ) → w ≡ a + b + c → x < 2 ^ w → ROTR w (a + c) (bitXor (ROTR w (a + b) x) x) ≡ bitXor (ROTR w a x) (ROTR w (a + c) x)
 two-rotations {w} a b c x e hx =
     of-mixed (a + c) b (ROTR w (a + b) x) x (omega (arith, e)) (within w (a + b) x hx) hx
     ∙ ap (λ (y : ℕ). bitXor y (ROTR w (a + c) x)) (rotated-on a b c x e hx)
 
--- Σ0 and Σ1
+-- all three of Σ0 and Σ1
 pub three-rotations : {w : ℕ} (a b c d x : ℕ) → w ≡ a + b + c + d → x < 2 ^ w
     → ROTR w (a + b + d) (bitXor (ROTR w (a + b + c) (bitXor (ROTR w (a + (c + d)) x) x)) x) ≡ bitXor (bitXor (ROTR w a x) (ROTR w (a + b) x)) (ROTR w (a + b + d) x)
 three-rotations {w} a b c d x e hx =

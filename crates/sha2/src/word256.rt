@@ -16,21 +16,20 @@ pub fn maj(x: u32, y: u32, z: u32) -> u32
     y ^ ((x ^ y) & (y ^ z))
 }
 
-// The standard's rotations as rotations within rotations, with fewer operations: left by the difference between one amount and the next, x mixed in, and in the end right by the last amount.
+// Two of the standard's rotations as one within the other, with fewer operations: left by the difference of their amounts, x mixed in, and then right by the larger.
+// A third within them, as for SHA-512, would be fewer still, and slower here: each round waits for the sums of the one before.
 pub fn big_sigma0(x: u32) -> u32
     ensures { λ r. ⌜ r ≡ Word.Σ0 Sha256 x ⌝ }
 {
     let a = ((x >> 21) | (x << 11)) ^ x;
-    let b = ((a >> 23) | (a << 9)) ^ x;
-    (b >> 22) | (b << 10)
+    ((a >> 13) | (a << 19)) ^ ((x >> 22) | (x << 10))
 }
 
 pub fn big_sigma1(x: u32) -> u32
     ensures { λ r. ⌜ r ≡ Word.Σ1 Sha256 x ⌝ }
 {
     let a = ((x >> 27) | (x << 5)) ^ x;
-    let b = ((a >> 18) | (a << 14)) ^ x;
-    (b >> 25) | (b << 7)
+    ((a >> 11) | (a << 21)) ^ ((x >> 25) | (x << 7))
 }
 
 pub fn small_sigma0(x: u32) -> u32
