@@ -1,6 +1,6 @@
 /* A C host that measures the calls of a call file (tests/speed/requests.py). A call that is timed or counted must be accepted.
 
-     host FILE time      the time of each call, median and best of the turns, and what 4,096 records cost of what 64 do
+     host FILE time      the time of each call, median and best of the turns, what 4,096 records cost of what 64 do, and a request of what the hash of its body does
      host FILE stack     how deep each call writes its stack
      host FILE once I    call number I alone, once: for a profiler */
 #define _POSIX_C_SOURCE 200809L
@@ -26,14 +26,16 @@ uint32_t gate_judge(uint64_t mask, uint64_t hashes, IN(extra), LIMITS, IN(server
                     IN(aside), IN(path), IN(body), OUT(table), OUT(index), OUT(reply));
 uint32_t gate_end(IN(iv), OUT(table), OUT(index));
 uint32_t gate_index(IN(table), OUT(index));
+uint32_t prim_sha512(IN(text), OUT(out));
+uint32_t prim_sha256(IN(text), OUT(out));
 
-enum { SETUP, JUDGE, END, INDEX, KINDS };
+enum { SETUP, JUDGE, END, INDEX, SHA_512, SHA_256, KINDS };
 
 static const struct {
     const char *name;
     int orders; /* whether it takes orders and a clock */
     size_t runs;
-} kinds[KINDS] = {{"setup", 1, 6}, {"judge", 1, 8}, {"end", 0, 1}, {"index", 0, 0}};
+} kinds[KINDS] = {{"setup", 1, 6}, {"judge", 1, 8}, {"end", 0, 1}, {"index", 0, 0}, {"sha512", 0, 1}, {"sha256", 0, 1}};
 
 enum { MOST_CALLS = 64, MOST_RUNS = 8, MOST_RECORDS = 4096, TURNS = 15, STACK = 1 << 18, PAINT = 0xa5 };
 
@@ -136,8 +138,12 @@ static uint32_t answer(const call *c) {
         return gate_judge(ORDERS, RUN(1), RUN(2), RUN(3), RUN(4), RUN(5), RUN(6), RUN(7), LENT, reply, sizeof reply);
     case END:
         return gate_end(RUN(0), LENT);
-    default:
+    case INDEX:
         return gate_index(LENT);
+    case SHA_512:
+        return prim_sha512(RUN(0), reply, 64);
+    default:
+        return prim_sha256(RUN(0), reply, 32);
     }
 }
 
@@ -237,6 +243,7 @@ static void print_times(void) {
                (double)lent / median(c) * 1e-6);
     }
     print_ratios(" 4096 records", " 64 records");
+    print_ratios(" judged", " hashed");
 }
 
 /* Stack: the call runs on one that was painted, and the paint that is gone tells how deep it went */

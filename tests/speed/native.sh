@@ -1,9 +1,9 @@
 # For times on a machine that the static library is not compiled for: the module that the kit hands to its compiler, compiled by that
 # compiler for this machine, at the same level. What hosts link is the static library; this tells how its shape fares.
 
-# native NAME: target/native/NAME.o
+# native NAME: target/native/NAME/NAME.o
 native() {
-  local own=$PWD/target/native machine kit tools clang
+  local own=$PWD/target/native/$1 machine kit tools clang
   machine=$(uname -m)
   kit=$(readlink -f "$(command -v rt)")
   kit=${kit%/bin/rt}
@@ -15,7 +15,7 @@ native() {
     "$clang" --target="$machine-linux-gnu" "$(grep -m 1 '^-O' "$own/$1.words")" -fPIC -c -x ir -o "$own/$1.o" -
 }
 
-# handed_over NAME: target/native/NAME.bc and NAME.words, what the kit hands to its compiler: it is given one that keeps them. Proofs are
+# handed_over NAME: NAME.bc and NAME.words beside it, what the kit hands to its compiler: it is given one that keeps them. Proofs are
 # by the kit's place, so this proves the crates anew, in a tree of its own.
 handed_over() {
   local below file tree

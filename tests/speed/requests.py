@@ -1,7 +1,7 @@
 """The calls that tests/speed measures: written to a call file, or timed on the second program's model.
 
-    python3 tests/speed/requests.py accepted FILE   the calls, in the format of tests/second/README.md, and their names in FILE.names
-    python3 tests/speed/requests.py all FILE        the same, and some that take other ways and more stack
+    python3 tests/speed/requests.py accepted FILE   the calls, in the format of tests/second/README.md, and their names in FILE.names; and hashes, as sha512 TEXT
+    python3 tests/speed/requests.py all FILE        the calls, and some that take other ways and more stack
     python3 tests/speed/requests.py time            what each accepted one takes in the model
 
 Each call stands behind its own table and reply lines.
@@ -12,6 +12,7 @@ import random
 import statistics
 import sys
 import time
+from typing import NamedTuple
 
 sys.path.insert(0, os.path.join(os.path.dirname(os.path.abspath(__file__)), "..", "second"))
 
@@ -30,6 +31,16 @@ LINE = 64  # bytes of a line that nobody covers
 RECORDS = (1, 64, 1_024, 4_096)  # of tables whose cost is compared
 TURNS = 9
 TURN = 0.02  # seconds
+
+
+class Hashing(NamedTuple):
+    """A hash alone, which the host makes as it does a call."""
+
+    kind: str
+    arguments: tuple
+    table: bytes = b""
+    index: bytes = b""
+    reply: tuple = REPLY
 
 
 def session(iv, known=hashing.SHA_512):
@@ -99,9 +110,9 @@ def measured():
     maker = Maker(20261115)
     yield "setup", maker.setup()
     yield "judge, small", maker.judge()
-    yield "judge, body of 64 KiB", maker.judge(body=65_536)
+    yield "body of 64 KiB judged", maker.judge(body=65_536)
     yield "judge, small, SHA-256", maker.judge(known=hashing.SHA_256)
-    yield "judge, body of 64 KiB, SHA-256", maker.judge(body=65_536, known=hashing.SHA_256)
+    yield "body of 64 KiB, SHA-256 judged", maker.judge(body=65_536, known=hashing.SHA_256)
     yield "end", maker.end()
     for name, make in (("setup", maker.setup), ("judge", maker.judge), ("end", maker.end), ("index", maker.index)):
         for records in RECORDS:
@@ -113,6 +124,13 @@ def measured():
     yield "judge, 55 names, head of 16 KiB", maker.judge(covered=55, lines=maker.lines(55, 16_384))
     yield "judge, 55 names, lines of 4 bytes", maker.judge(covered=55, lines=[b"a:\r\n"] * 4_096)
     yield "judge, all of it", maker.judge(covered=55, lines=maker.lines(55, 16_384), body=65_536)
+
+
+def hashed():
+    """The hash of a body, beside a request that has such a one."""
+    body = Maker(20261117).run(65_536)
+    yield "body of 64 KiB hashed", Hashing("sha512", (body,))
+    yield "body of 64 KiB, SHA-256 hashed", Hashing("sha256", (body,))
 
 
 def others():
@@ -157,7 +175,7 @@ if __name__ == "__main__":
         case ["time"]:
             time_model()
         case ["accepted", path]:
-            write(path, measured())
+            write(path, [*measured(), *hashed()])
         case ["all", path]:
             write(path, [*measured(), *others()])
         case _:
