@@ -1,4 +1,4 @@
--- Rotations within rotations, with fewer operations than FIPS 180-4 writes them with: the same number.
+-- Rotations within rotations: the same number as rotations side by side, as FIPS 180-4 writes them.
 -- Assumes nothing.
 use mathlib.Core.Path.{_≡_, refl, sym, subst, ap, ap₂, _∙_}
 use Prim.Native.Nat.{ℕ, _+_, _-_, _*_, _/_, _%_, _^_, _<_}

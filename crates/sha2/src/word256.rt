@@ -16,8 +16,8 @@ pub fn maj(x: u32, y: u32, z: u32) -> u32
     y ^ ((x ^ y) & (y ^ z))
 }
 
-// Two of the standard's rotations as one within the other, with fewer operations: left by the difference of their amounts, x mixed in, and then right by the larger.
-// A third within them, as for SHA-512, would be fewer still, and slower here: each round waits for the sums of the one before.
+// Two of the standard's rotations as one within the other, which saves a copy of x: left by the difference of their amounts, x mixed in, and then right by the larger.
+// All three within each other, as for SHA-512, were slower here: each round waits for the sums of the one before.
 pub fn big_sigma0(x: u32) -> u32
     ensures { λ r. ⌜ r ≡ Word.Σ0 Sha256 x ⌝ }
 {

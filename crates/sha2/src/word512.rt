@@ -16,7 +16,8 @@ pub fn maj(x: u64, y: u64, z: u64) -> u64
     y ^ ((x ^ y) & (y ^ z))
 }
 
-// The standard's rotations as rotations within rotations, with fewer operations: left by the difference between one amount and the next, x mixed in, and in the end right by the last amount.
+// The standard's rotations as rotations within rotations: left by the difference between one amount and the next, x mixed in, and in the end right by the last amount.
+// A rotation writes over its word, so the standard's form takes two copies of x more.
 pub fn big_sigma0(x: u64) -> u64
     ensures { λ r. ⌜ r ≡ Word.Σ0 Sha512 x ⌝ }
 {
