@@ -17,7 +17,7 @@ pub fn maj(x: u32, y: u32, z: u32) -> u32
 }
 
 // Two of the standard's rotations as one within the other, which saves a copy of x: left by the difference of their amounts, x mixed in, and then right by the larger.
-// All three within each other, as for SHA-512, were slower here: each round waits for the sums of the one before.
+// All three within each other, as for SHA-512, were measured slower: each step waits for the one before.
 pub fn big_sigma0(x: u32) -> u32
     ensures { λ r. ⌜ r ≡ Word.Σ0 Sha256 x ⌝ }
 {
