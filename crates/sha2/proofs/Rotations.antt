@@ -55,11 +55,11 @@ rotated-on {w} a b c x e hx =
     subst (λ (y : ℕ). ROTR w (a + c) (ROTR w (a + b) y) ≡ ROTR w a y) (rw (split (x / 2 ^ a) b) (split x a))
     (parts-on a b c (x / 2 ^ a / 2 ^ b) (x / 2 ^ a % 2 ^ b) (x % 2 ^ a) e (rw (shr-shr x a b) (upper (a + b) c x e hx)) (mod-lt _ (pow-pos b)) (mod-lt x (pow-pos a)))
 
--- two rotations by one within the other
-pub two-rotations : {w : ℕ} (a b c x : ℕ) → w ≡ a + b + c → x < 2 ^ w → ROTR w (a + c) (bitXor (ROTR w (a + b) x) x) ≡ bitXor (ROTR w a x) (ROTR w (a + c) x)
-two-rotations {w} a b c x e hx =
-    of-mixed (a + c) b (ROTR w (a + b) x) x (omega (arith, e)) (within w (a + b) x hx) hx
-    ∙ ap (λ (y : ℕ). bitXor y (ROTR w (a + c) x)) (rotated-on a b c x e hx)
+-- two rotations by one within the other, and what is mixed in beside them
+pub two-rotations : {w : ℕ} (a b c x z : ℕ) → w ≡ a + b + c → x < 2 ^ w
+    → bitXor (ROTR w (a + c) (bitXor (ROTR w (a + b) x) x)) z ≡ bitXor (bitXor (ROTR w a x) (ROTR w (a + c) x)) z
+two-rotations {w} a b c x z e hx =
+    ap (λ (y : ℕ). bitXor y z) (of-mixed (a + c) b (ROTR w (a + b) x) x (omega (arith, e)) (within w (a + b) x hx) hx ∙ ap (λ (y : ℕ). bitXor y (ROTR w (a + c) x)) (rotated-on a b c x e hx))
 
 -- all three of Σ0 and Σ1
 pub three-rotations : {w : ℕ} (a b c d x : ℕ) → w ≡ a + b + c + d → x < 2 ^ w
@@ -68,4 +68,5 @@ three-rotations {w} a b c d x e hx =
     let y = bitXor (ROTR w (a + (c + d)) x) x in
     let hy = xor-lt w _ x (within w (a + (c + d)) x hx) hx in
     of-mixed (a + b + d) c (ROTR w (a + b + c) y) x (omega (arith, e)) (within w (a + b + c) y hy) hx
-    ∙ ap (λ (z : ℕ). bitXor z (ROTR w (a + b + d) x)) (rotated-on (a + b) c d y e hy ∙ two-rotations a (c + d) b x (omega (arith, e)) hx)
+    ∙ ap (λ (z : ℕ). bitXor z (ROTR w (a + b + d) x)) (rotated-on (a + b) c d y e hy)
+    ∙ two-rotations a (c + d) b x (ROTR w (a + b + d) x) (omega (arith, e)) hx
