@@ -28,10 +28,10 @@ use Rattle.demands.specs.History.{Call, takenOut, judgedAt, empty, after
 use Rattle.demands.proofs.Shared.Checks.{accepted-passes, vouched-decides}
 use Rattle.demands.proofs.Shared.Answers.{judged-number}
 use Rattle.demands.proofs.Shared.Others.{passes-finds, parts}
+use Rattle.demands.proofs.Shared.TakenOut.{own}
 use Rattle.demands.proofs.History.{standing}
 use Rattle.demands.proofs.History.Sessions.{KeptBy}
 use Rattle.demands.proofs.History.Tables.{held}
-use Rattle.demands.proofs.History.One.{own}
 
 -- the record of an accepted request's session keeps the request's hash
 kept : (q : Request) (state : State) (place : ℕ) → first (requestChecks q state) ≡ 0 → placeOf (state .table) (ivOf q) ≡ At place
@@ -69,7 +69,7 @@ module _ (n : ℕ) (calls : List Call) (q : Request) where
       let one = takenOut place now in
       let zero = sym (judged-number q one) ∙ e in
       let f = passes-finds q one (accepted-passes q one zero) in
-      let mine = own n now _ _ _ (standing n calls) place (ivOf q) (f .place) (f .finds) in
+      let mine = own now (standing n calls .sessions .well) place (ivOf q) (f .place) (f .finds) in
       recorded place (mine .there) (sym (ap (λ (r : Record). r .hash) (mine .same-record)) ∙ kept q one 0 zero (mine .here))
 
 -- a request with another hash than its session's is 8, though its token and its signature are right

@@ -51,12 +51,12 @@ use Rattle.demands.specs.History.{Call, setting-up, judging, judging-one
 use Rattle.demands.specs.Effects.{Right}
 use Rattle.demands.specs.Passing.{PassesOthers}
 use Rattle.demands.proofs.Shared.Checks.{never-given}
+use Rattle.demands.proofs.Shared.TakenOut.{one-well}
 use Rattle.demands.proofs.Index.Calls.{call-right}
 use Rattle.demands.proofs.History.Tables.{Standing, held, empty-records, empty-standing}
 use Rattle.demands.proofs.Shared.Answers.{setUp-number, ended-number, remade-number, judged-number}
 use Rattle.demands.proofs.Shared.Others.{accepts-zero, passes-finds, passes-window}
 use Rattle.demands.proofs.History.Lent.{lent-apart}
-use Rattle.demands.proofs.History.One.{one-well}
 use Rattle.demands.proofs.History.Calls.{held-step, call-standing}
 
 -- after any calls the table's sessions are those of the history
@@ -127,7 +127,7 @@ never-malformed n calls (judging q) e =
     never-given 3 (requestChecks q (after (empty n) calls)) (λ z. omega arith) (rw well) (sym (judged-number q _) ∙ e)
 never-malformed n calls (judging-one place q) e =
     let state = after (empty n) calls in
-    let well = is-wellFormed _ (one-well n state _ _ _ (standing n calls) place) in
+    let well = is-wellFormed _ (one-well state (standing n calls .sessions .well) place) in
     never-given 3 (requestChecks q (takenOut place state)) (λ z. omega arith) (rw well) (sym (judged-number q _) ∙ e)
 never-malformed n calls (ending iv) e =
     let well = well-formed n calls .0 in

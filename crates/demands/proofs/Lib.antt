@@ -12,4 +12,5 @@ pub mod Client
 pub mod Age
 pub mod Chosen
 pub mod Index
+pub mod Struck
 pub mod Witnesses

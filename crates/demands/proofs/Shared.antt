@@ -4,6 +4,7 @@ pub mod Order
 pub mod Answers
 pub mod Stored
 pub mod Named
+pub mod TakenOut
 pub mod Passed
 pub mod Carried
 pub mod Indexes

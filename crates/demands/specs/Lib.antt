@@ -1,5 +1,5 @@
 -- What the demands speak of: of demand 1 Order, Tables and Effects, of demand 2 History and Passing, of demand 3 Passing and Agreement; a request that meets what they ask: Client;
--- how long it is taken: Age; a session looked up through the index: Lookup.
+-- how long it is taken: Age; a session looked up through the index: Lookup; calls struck out of a history: Struck.
 pub mod Order
 pub mod Tables
 pub mod Effects
@@ -9,3 +9,4 @@ pub mod Agreement
 pub mod Client
 pub mod Age
 pub mod Lookup
+pub mod Struck

@@ -35,75 +35,22 @@ use Rattle.demands.specs.History.{takenOut, caughtUp, judgedAt, withNonc
 use Rattle.demands.proofs.Shared.Checks.{accepted-passes}
 use Rattle.demands.proofs.Shared.Answers.{remade-table, steppedFor, next, judged-number, judged-table, found-step, ordered-table, unordered-table}
 use Rattle.demands.proofs.Shared.Stored.{respliced}
-use Rattle.demands.proofs.Shared.Named.{found-session, session-found}
+use Rattle.demands.proofs.Shared.TakenOut.{caught-table, Own, own, put-back}
 use Rattle.demands.proofs.Shared.Others.{accepts-zero, passes-finds, passes-window}
 use Rattle.demands.proofs.History.Sessions.{Sessions, freed-sessions, stepped-sessions}
 use Rattle.demands.proofs.History.Tables.{Standing, held, stored-standing}
-
--- making the index anew leaves the table alone
-caught-table : (number : ℕ) (state : State) → caughtUp number state .table ≡ state .table
-caught-table number state = by (invalidates number)
-  where
-    by : (t : Bool) → cond t (remade state .state) state .table ≡ state .table
-    by true = remade-table state
-    by false = refl
 
 module _ (n : ℕ) (state : State) (ivs : List (List ℕ)) (nonces : List ℕ → List ℕ) (hashes : List ℕ → Option Hash) (st : Standing n (state .table) ivs nonces hashes) (place : ℕ) where
   abbrev one : List ℕ
   one = takenOut place state .table
 
-  -- a session that is found there: the record is whole, and it is the table's own
-  pub record Own (iv : List ℕ) : Type 0 where
-    pub within : place < places (state .table)
-    pub whole : length one ≡ size
-    pub here : placeOf one iv ≡ At 0
-    pub same-record : recordAt one 0 ≡ recordAt (state .table) place
-    pub there : placeOf (state .table) iv ≡ At place
-
-  pub own : (iv : List ℕ) (j : ℕ) → placeOf one iv ≡ At j → Own iv
-  own iv j e =
-      let s = found-session one iv j e in
-      let size-is : length one ≡ size = omega (arith, s .within, length-take size (drop (size * place) (state .table)), length-drop (size * place) (state .table)) in
-      let first-place : j ≡ 0 = omega (arith, s .within) in
-      let within : place < places (state .table) = omega (arith, length-take size (drop (size * place) (state .table)), length-drop (size * place) (state .table)) in
-      let same-record : recordAt one 0 ≡ recordAt (state .table) place = ap recordOf (take-all size one (omega arith)) in
-      let there : SessionAt (state .table) iv place = record {
-        within = within;
-        used = sym (ap (λ (r : Record). r .used) same-record) ∙ subst (λ (i : ℕ). recordAt one i .used ≡ 1) first-place (s .used);
-        iv = sym (ap (λ (r : Record). r .iv) same-record) ∙ subst (λ (i : ℕ). recordAt one i .iv ≡ iv) first-place (s .iv);
-      } in
-      record {
-        within = within;
-        whole = size-is;
-        here = e ∙ ap At first-place;
-        same-record = same-record;
-        there = session-found (state .table) iv place (st .sessions .well) there;
-      }
-
-  -- a table of that record alone is well formed
-  pub one-well : WellFormed (records one)
-  one-well = record {
-    each = λ i h. only i (rw length-records at h);
-    apart = λ i j h k u v e. omega (arith, length-records one, length-take size (drop (size * place) (state .table)));
-  }
-    where
-      only : (i : ℕ) → i < places one → Sound (getD (records one) i freed)
-      only i h =
-          let long = length-take size (drop (size * place) (state .table)) in
-          let within : place < places (state .table) = omega (arith, long, length-drop (size * place) (state .table)) in
-          let inside : place < length (records (state .table)) = rw length-records within in
-          let zeroth : i ≡ 0 = omega (arith, long) in
-          subst (λ (r : Record). Sound r)
-          (sym (records-at one i h ∙ ap (recordAt one) zeroth ∙ ap recordOf (take-all size one (omega arith)) ∙ held n (state .table) ivs nonces hashes st place inside))
-          (st .sessions .well .each place inside)
-
   -- another record laid over the one record, and that one put back
-  stored : (iv : List ℕ) (r : Record) {others : List (List ℕ)} {more : List ℕ → List ℕ} {kept : List ℕ → Option Hash} → Own iv → Fits r
+  stored : (iv : List ℕ) (r : Record) {others : List (List ℕ)} {more : List ℕ → List ℕ} {kept : List ℕ → Option Hash} → Own state (st .sessions .well) place iv → Fits r
       → Sessions (set (records (state .table)) place r) others more kept
       → Standing n (spliced (state .table) (size * place) (spliced one (size * 0) (recordBytes r))) others more kept
   stored iv r {others} {more} {kept} o f t =
-      subst (λ (l : List ℕ). Standing n (spliced (state .table) (size * place) l) others more kept)
-      (sym (spliced-front one (recordBytes r) ∙ fronted-whole (recordBytes r) one (length-recordBytes r (f .iv) ∙ sym (o .whole))))
+      subst (λ (l : List ℕ). Standing n l others more kept)
+      (sym (put-back state (st .sessions .well) place r (o .whole) (f .iv)))
       (stored-standing n (state .table) ivs nonces hashes st place r (rw length-records (o .within)) f t)
 
   kept : Standing n (spliced (state .table) (size * place) one) ivs nonces hashes
@@ -116,7 +63,7 @@ module _ (n : ℕ) (state : State) (ivs : List (List ℕ)) (nonces : List ℕ �
     where
       by : (p : Place) → placeOf one iv ≡ p → Standing n (spliced (state .table) (size * place) (with-record one p freed)) ivs nonces hashes
       by (At j) e =
-          let o = own iv j e in
+          let o = own state (st .sessions .well) place iv j e in
           subst (λ (p : Place). Standing n (spliced (state .table) (size * place) (with-record one p freed)) ivs nonces hashes) (sym (o .here) ∙ e)
           (stored iv freed o freed-fits (freed-sessions (records (state .table)) ivs nonces hashes (st .sessions) place (rw length-records (o .within))))
       by Nowhere e = kept
@@ -128,7 +75,7 @@ module _ (n : ℕ) (state : State) (ivs : List (List ℕ)) (nonces : List ℕ �
     stepped-one true o e =
         let passes = accepted-passes q (takenOut place state) e in
         let f = passes-finds q (takenOut place state) passes in
-        let mine = own (ivOf q) (f .place) (f .finds) in
+        let mine = own state (st .sessions .well) place (ivOf q) (f .place) (f .finds) in
         let inside : place < length (records (state .table)) = rw length-records (mine .within) in
         let old : recordAt one 0 ≡ getD (records (state .table)) place freed = mine .same-record ∙ held n (state .table) ivs nonces hashes st place inside in
         let accepts = accepts-zero (stepped q one .verdict) ∙ eq-eqb _ 0 (sym (passes-window q (takenOut place state) passes o) ∙ e) in

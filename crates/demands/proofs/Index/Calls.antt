@@ -37,13 +37,14 @@ use Rattle.demands.proofs.Shared.Checks.{accepted-passes}
 use Rattle.demands.proofs.Shared.Others.{passes-finds}
 use Rattle.demands.proofs.Shared.Named.{found-session}
 use Rattle.demands.proofs.Shared.Stored.{respliced}
+use Rattle.demands.proofs.Shared.TakenOut.{own, put-back}
 use Rattle.demands.proofs.Shared.Indexes.{cleared-well, laid-right}
 use Rattle.demands.proofs.Untouched as Untouched
 use Rattle.demands.proofs.Untouched.Requests.{two-invalidate}
 use Rattle.demands.proofs.Untouched.Indexes.{made-all}
 
 -- by whether a number is 0
-zero-or-not : (n : ℕ) → (n ≡ 0) ⊎ (1 ≤ n)
+pub zero-or-not : (n : ℕ) → (n ≡ 0) ⊎ (1 ≤ n)
 zero-or-not n = tested (eqb n 0) (λ t. inl (eqb-true n 0 t)) (λ t. let z = eqb-false n 0 t in inr (omega arith))
 
 right-kept : {before after : State} → after ≡ before → Right before → Right after
@@ -101,33 +102,15 @@ module _ (state : State) (fits : stateFits state ≡ true) (fit : Whole (state .
     caught-up : invalidates n ≡ false → judgedAt place q state .state ≡ laid
     caught-up e = rw e
 
-    -- a whole record is one of the table's
-    whole : 1 ≤ places one → (place < places (state .table)) × (length one ≡ size)
-    whole h =
-        let long = length-take size (drop (size * place) (state .table)) in
-        let rest = length-drop (size * place) (state .table) in
-        (omega arith, omega arith)
-
-    -- a table of that record alone
-    alone : length one ≡ size → recordAt one 0 ≡ recordAt (state .table) place
-    alone e = ap recordOf (take-all size one (omega arith))
-
     accepted : n ≡ 0 → Right (judgedAt place q state .state)
     accepted z =
         right-kept (caught-up (ap invalidates z) ∙ ap (λ (t : List ℕ). holding (spliced (state .table) (size * place) t) (state .index)) (stepped-is q (takenOut place state) z))
         (tested (ordered q)
         (λ t. let f = passes-finds q (takenOut place state) (accepted-passes q (takenOut place state) (sym (judged-number q (takenOut place state)) ∙ z)) in
-        let s = found-session one (ivOf q) (f .place) (f .finds) in
-        let inside = whole (omega (arith, s .within)) in
-        let first-place : f .place ≡ 0 = omega (arith, s .within, inside .1) in
-        let r = recordAt one 0 in
-        let fit-one : R.Fits r = subst (λ (x : Record). R.Fits x) (sym (alone (inside .1))) (fit place (inside .0)) in
-        rw (
-          ordered-table q one 0 (f .finds ∙ ap At first-place) t,
-          spliced-front one (recordBytes (next (nonceOf q) r)),
-          fronted-whole (recordBytes (next (nonceOf q) r)) one (length-recordBytes (next (nonceOf q) r) (fit-one .iv) ∙ sym (inside .1)),
-        )
-        (next-over q (state .table) (state .index) place r (inside .0) (alone (inside .1)) fit-one (f .small) right))
+        let mine = own state w place (ivOf q) (f .place) (f .finds) in
+        let fit-one : R.Fits (recordAt one 0) = subst (λ (x : Record). R.Fits x) (sym (mine .same-record)) (fit place (mine .within)) in
+        rw (ordered-table q one 0 (mine .here) t, put-back state w place (next (nonceOf q) (recordAt one 0)) (mine .whole) (fit-one .iv))
+        (next-over q (state .table) (state .index) place (recordAt one 0) (mine .within) (mine .same-record) fit-one (f .small) right))
         (λ t. rw (unordered-table q one t, respliced (state .table) (size * place) size) right))
 
     -- freed: the index is made anew
@@ -139,15 +122,10 @@ module _ (state : State) (fits : stateFits state ≡ true) (fit : Whole (state .
     cleared : (p : Place) → placeOf one (ivOf q) ≡ p
         → WellFormed (records (spliced (state .table) (size * place) (with-record one p freed))) × (length (spliced (state .table) (size * place) (with-record one p freed)) ≡ length (state .table))
     cleared (At j) e =
-        let s = found-session one (ivOf q) j e in
-        let inside = whole (omega (arith, s .within)) in
-        let first-place : j ≡ 0 = omega (arith, s .within, inside .1) in
-        let bare : with-record one (At j) freed ≡ recordBytes freed =
-        ap (λ (i : ℕ). with-record one (At i) freed) first-place ∙ spliced-front one (recordBytes freed)
-        ∙ fronted-whole (recordBytes freed) one (length-recordBytes freed refl ∙ sym (inside .1)) in
-        rw bare (
-          cleared-well (state .table) place (inside .0) w,
-          length-spliced (state .table) (recordBytes freed) (size * place) (omega (arith, inside .0, length-recordBytes freed refl)),
+        let mine = own state w place (ivOf q) j e in
+        rw (ap (λ (p : Place). spliced (state .table) (size * place) (with-record one p freed)) (sym e ∙ mine .here) ∙ put-back state w place freed (mine .whole) refl) (
+          cleared-well (state .table) place (mine .within) w,
+          length-spliced (state .table) (recordBytes freed) (size * place) (omega (arith, mine .within, length-recordBytes freed refl)),
         )
     cleared Nowhere e = rw (respliced (state .table) (size * place) size) (w, refl)
 

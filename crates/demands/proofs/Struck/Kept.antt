@@ -1,0 +1,129 @@
+-- Every call but a setup leaves a table and an index that the next can be lent, and disturbs no session whose IV it does not bear.
+-- Assumes nothing.
+use mathlib.Core.Path.{_≡_, refl, sym, ap, subst, _∙_}
+use mathlib.Core.Bool.{Bool, true, false, true≢false, cond, _&&_}
+use mathlib.Core.List.{List}
+use mathlib.Core.Logic.{_⊎_, inl, inr, ⊎-elim}
+use mathlib.Core.Option.{some, none}
+use Prim.Native.Nat.{ℕ, _*_, _≤_}
+use native.Mathlib.Omega.{arith}
+use borrow.Author.Tests.{eq-eqb, not-false}
+use lib.ListN.{length}
+use Rattle.cells.specs.Runs.{same}
+use Rattle.cells.proofs.Equality.{same-self, same-equal}
+use Rattle.cells.proofs.Tests.{tested, both}
+use Rattle.table.specs.declared.session.Record.{Record}
+use Rattle.table.specs.Table.{places, records}
+use Rattle.table.specs.Session.{placeOf}
+use Rattle.table.specs.WellFormed.{WellFormed}
+use Rattle.table.proofs.Records.{length-records}
+use Rattle.index.proofs.Held.{fits-only, length-indexOf}
+use Rattle.armor.specs.Value.{grammar}
+use Rattle.armor.specs.Fields.{requestFields}
+use Rattle.stages.specs.Request.{Request}
+use Rattle.stages.specs.Checks.{first, missing}
+use Rattle.stages.specs.Parts.{fieldsOf, ivOf, readingPart, coveringPart}
+use Rattle.stages.proofs.Checks.{passed-at}
+use Rattle.stages.proofs.Parts.{reading-numbered}
+use Rattle.gate.specs.State.{State}
+use Rattle.gate.specs.Sizes.{exactly, tableFits, stateFits}
+use Rattle.gate.specs.Entry.{stateChecks, entryChecks}
+use Rattle.gate.specs.Judge.{entryPart, requestChecks, judged}
+use Rattle.demands.specs.Effects.{Right, TenOrThirteen}
+use Rattle.demands.specs.History.{Call, setting-up, judging, judging-one, ending, making-index, takenOut, answer}
+use Rattle.demands.specs.Struck.{legible, passes, bears, sessionIn}
+use Rattle.demands.proofs.Shared.Checks.{accepted-passes, read-through}
+use Rattle.demands.proofs.Shared.Answers.{judged-number, remade-table}
+use Rattle.demands.proofs.Shared.Others.{parts}
+use Rattle.demands.proofs.Untouched.{untouched-else}
+use Rattle.demands.proofs.Index.Calls.{Whole, zero-or-not, call-right}
+use Rattle.demands.proofs.Struck.Tables.{Undisturbed, Turns, unturned}
+use Rattle.demands.proofs.Struck.Calls.{judge-turns, one-turns, end-turns}
+
+pub record Ready (state : State) : Type 0 where
+  pub sizes : stateFits state ≡ true
+  pub whole : Whole (state .table)
+  pub well : WellFormed (records (state .table))
+  pub index : Right state
+
+abbrev pub NoSetup : Call → Type 0
+NoSetup (setting-up s) = ⊥
+NoSetup (judging q) = Unit
+NoSetup (judging-one place q) = Unit
+NoSetup (ending iv) = Unit
+NoSetup making-index = Unit
+
+-- a table of the same length beside its index
+sizes-left : (before after : State) → length (after .table) ≡ length (before .table) → Right after → stateFits before ≡ true → stateFits after ≡ true
+unfolding stateFits tableFits
+sizes-left before after long right fits =
+    rw (eq-eqb (length (after .index)) (2 * places (after .table)) (ap length (fits-only _ _ right) ∙ length-indexOf (records (after .table)) ∙ ap (λ (n : ℕ). 2 * n) (length-records (after .table))), long)
+    (rw (both (tableFits (before .table)) (exactly (2 * places (before .table)) (before .index)) fits .0) refl)
+
+-- a request that is not legible is refused before its session is looked for, and changes nothing
+module _ (q : Request) (state : State) where
+  read-legible : first (readingPart q) ≡ 0 → legible q ≡ true
+  unfolding readingPart
+  read-legible e =
+      let past = passed-at (readingPart q) (reading-numbered q) e in
+      rw (past 4, not-false (requestFields (fieldsOf q)) (past 5)) refl
+
+  zero-legible : judged q state .number ≡ 0 → legible q ≡ true
+  zero-legible e = read-legible (parts q state (accepted-passes q state (sym (judged-number q state) ∙ e)) .reading)
+
+  two-legible : TenOrThirteen (judged q state .number) → legible q ≡ true
+  unfolding entryPart readingPart coveringPart entryChecks stateChecks
+  two-legible (inl e) = read-legible (read-through q state 10 refl refl (sym (judged-number q state) ∙ e) .reading)
+  two-legible (inr e) = read-legible (read-through q state 13 refl refl (sym (judged-number q state) ∙ e) .reading)
+
+  illegible : legible q ≡ false → (1 ≤ judged q state .number) × (TenOrThirteen (judged q state .number) → ⊥)
+  illegible e = (
+    ⊎-elim (λ z. absurd (true≢false (sym (zero-legible z) ∙ e))) (λ o. o) (zero-or-not (judged q state .number)),
+    λ two. true≢false (sym (two-legible two) ∙ e),
+  )
+
+-- what a request does not bear: it carries another, or is not legible
+unborne : (q : Request) (iv : List ℕ) → passes (λ other. same other iv) (cond (legible q) (some (ivOf q)) none) ≡ false → (ivOf q ≡ iv → ⊥) ⊎ (legible q ≡ false)
+unborne q iv = by (legible q) refl
+  where
+    by : (t : Bool) → legible q ≡ t → passes (λ other. same other iv) (cond t (some (ivOf q)) none) ≡ false → (ivOf q ≡ iv → ⊥) ⊎ (legible q ≡ false)
+    by true e f = inl (λ is. true≢false (sym (rw is (same-self iv)) ∙ f))
+    by false e f = inr e
+
+module _ (state : State) (ready : Ready state) where
+  -- as far as the table goes
+  record Left (after : List ℕ) : Type 0 where
+    long : length after ≡ length (state .table)
+    well : WellFormed (records after)
+    whole : Whole after
+
+  turned-left : {iv after : List ℕ} {turn : Record → Record} → Turns iv turn (state .table) after → Left after
+  turned-left t = record { long = t .long; well = t .well; whole = t .whole }
+
+  left : (call : Call) → NoSetup call → Left (answer call state .state .table)
+  left (setting-up s) later = absurd later
+  left (judging q) later = turned-left (judge-turns q state (ready .well) (ready .whole))
+  left (judging-one place q) later = turned-left (one-turns place q state (ready .well) (ready .whole))
+  left (ending iv) later = turned-left (end-turns iv state (ready .well) (ready .whole))
+  left making-index later = rw (remade-table state) (record { long = refl; well = ready .well; whole = ready .whole })
+
+  pub ready-left : (call : Call) → NoSetup call → Ready (answer call state .state)
+  ready-left call later =
+      let l = left call later in
+      let right = call-right state (ready .sizes) (ready .whole) (ready .well) (ready .index) call in
+      record { sizes = sizes-left state (answer call state .state) (l .long) right (ready .sizes); whole = l .whole; well = l .well; index = right }
+
+  untouched-so : {iv : List ℕ} {after : State} → after ≡ state → Undisturbed iv (state .table) (after .table)
+  untouched-so {iv} e = record { long = ap (λ (s : State). length (s .table)) e; place = ap (λ (s : State). placeOf (s .table) iv) e; session = ap (λ (s : State). sessionIn iv (s .table)) e }
+
+  pub undisturbed : (iv : List ℕ) (call : Call) → NoSetup call → bears iv call ≡ false → Undisturbed iv (state .table) (answer call state .state .table)
+  undisturbed iv (setting-up s) later e = absurd later
+  undisturbed iv (judging q) later e =
+      ⊎-elim (λ apart. judge-turns q state (ready .well) (ready .whole) .others iv (λ is. apart (sym is)))
+      (λ t. let refused = illegible q state t in untouched-so (untouched-else (judging q) state (refused .0) (refused .1) .state)) (unborne q iv e)
+  undisturbed iv (judging-one place q) later e =
+      ⊎-elim (λ apart. one-turns place q state (ready .well) (ready .whole) .others iv (λ is. apart (sym is)))
+      (λ t. let refused = illegible q (takenOut place state) t in untouched-so (untouched-else (judging-one place q) state (refused .0) (refused .1) .state)) (unborne q iv e)
+  undisturbed iv (ending other) later e =
+      end-turns other state (ready .well) (ready .whole) .others iv (λ is. true≢false (sym (rw is (same-self other)) ∙ e))
+  undisturbed iv making-index later e = rw (remade-table state) (record { long = refl; place = refl; session = refl })

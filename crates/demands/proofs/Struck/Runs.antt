@@ -1,0 +1,126 @@
+-- Calls on one table, and what a strike leaves of them on another in which a session stands alike.
+-- Assumes nothing.
+use mathlib.Core.Path.{_≡_, refl, sym, ap, ap₂, _∙_}
+use mathlib.Core.Bool.{Bool, true, false, true≢false, cond}
+use mathlib.Core.List.{List, [], _∷_}
+use Prim.Native.Nat.{ℕ}
+use native.Mathlib.Omega.{arith}
+use lib.ListN.{length}
+use Rattle.table.proofs.Tests.{refuted}
+use Rattle.gate.specs.State.{State}
+use Rattle.demands.specs.History.{Call, setting-up, judging, judging-one, ending, making-index, answer, after, withLent, lentIn}
+use Rattle.demands.specs.Struck.{bears, Strike, Spares, left, Told, told, toldIn, Alike, here, elsewhere, allElsewhere, SameSession}
+use Rattle.demands.proofs.Struck.Tables.{Undisturbed}
+use Rattle.demands.proofs.Struck.Kept.{Ready, NoSetup, ready-left, undisturbed}
+use Rattle.demands.proofs.Struck.Alike.{goes-alike}
+
+-- none of the calls is a setup
+no-setups : (call : Call) (earlier : List Call) → lentIn (call ∷ earlier) ≡ [] → NoSetup call × (lentIn earlier ≡ [])
+unfolding lentIn
+no-setups (setting-up s) earlier e = absurd (omega (arith, ap length e))
+no-setups (judging q) earlier e = (tt, e)
+no-setups (judging-one place q) earlier e = (tt, e)
+no-setups (ending iv) earlier e = (tt, e)
+no-setups making-index earlier e = (tt, e)
+
+-- a call bears the same IV on another table, and is a setup there only if it is one here
+elsewhere-bears : (to : ℕ → ℕ) (iv : List ℕ) (call : Call) → bears iv (elsewhere to call) ≡ bears iv call
+elsewhere-bears to iv (setting-up s) = refl
+elsewhere-bears to iv (judging q) = refl
+elsewhere-bears to iv (judging-one place q) = refl
+elsewhere-bears to iv (ending other) = refl
+elsewhere-bears to iv making-index = refl
+
+elsewhere-no-setup : (to : ℕ → ℕ) (call : Call) → NoSetup call → NoSetup (elsewhere to call)
+elsewhere-no-setup to (setting-up s) later = later
+elsewhere-no-setup to (judging q) later = tt
+elsewhere-no-setup to (judging-one place q) later = tt
+elsewhere-no-setup to (ending iv) later = tt
+elsewhere-no-setup to making-index later = tt
+
+-- on its own table every call is as it was
+pub all-here : (calls : List Call) → allElsewhere here calls ≡ calls
+unfolding allElsewhere
+all-here [] = refl
+all-here (call ∷ earlier) = ap₂ _∷_ (same call) (all-here earlier)
+  where
+    same : (c : Call) → elsewhere here c ≡ c
+    same (setting-up s) = refl
+    same (judging q) = refl
+    same (judging-one place q) = refl
+    same (ending iv) = refl
+    same making-index = refl
+
+-- a session that is not disturbed stands alike still
+module _ (to : ℕ → ℕ) (iv one other : List ℕ) (alike : Alike to iv one other) where
+  one-kept : (after : List ℕ) → Undisturbed iv one after → Alike to iv after other
+  one-kept after u = record { session = u .session ∙ alike .session; place = λ p. rw (u .place) (alike .place p); within = λ p. rw (u .long) (alike .within p) }
+
+  other-kept : (after : List ℕ) → Undisturbed iv other after → Alike to iv one after
+  other-kept after u = record { session = alike .session ∙ sym (u .session); place = λ p. rw (u .place) (alike .place p); within = λ p. rw (u .long) (alike .within p) }
+
+module _ (to : ℕ → ℕ) (iv : List ℕ) (strikes : Strike) (spares : Spares iv strikes) (one other : State) where
+  -- after some calls on the one table and some on the other
+  pub record Runs (calls others : List Call) : Type 0 where
+    pub ready-one : Ready (after one calls)
+    pub ready-other : Ready (after other others)
+    pub same : SameSession to iv one calls other others
+
+  -- a call more: struck out, left, and borne or not
+  module _ (call : Call) (later : NoSetup call) (calls others : List Call) (r : Runs calls others) where
+    more-one : Ready (answer call (after one calls) .state)
+    more-one = ready-left (after one calls) (r .ready-one) call later
+
+    more-other : Ready (answer (elsewhere to call) (after other others) .state)
+    more-other = ready-left (after other others) (r .ready-other) (elsewhere to call) (elsewhere-no-setup to call later)
+
+    gone : bears iv call ≡ false → Runs (call ∷ calls) others
+    unfolding after toldIn
+    gone e = record {
+      ready-one = more-one;
+      ready-other = r .ready-other;
+      same = record {
+        told = rw e (r .same .told);
+        stands = one-kept to iv _ _ (r .same .stands) _ (undisturbed (after one calls) (r .ready-one) iv call later e);
+      };
+    }
+
+    stays : Runs (call ∷ calls) (elsewhere to call ∷ others)
+    unfolding after toldIn
+    stays = by (bears iv call) refl
+      where
+        by : (t : Bool) → bears iv call ≡ t → Runs (call ∷ calls) (elsewhere to call ∷ others)
+        by true e =
+            let goes = goes-alike to (after one calls) (after other others) (r .ready-one) (r .ready-other) iv call later e (r .same .stands) in
+            record {
+              ready-one = more-one;
+              ready-other = more-other;
+              same = record { told = rw (elsewhere-bears to iv call, e) (ap₂ _∷_ (goes .told) (r .same .told)); stands = goes .stands };
+            }
+        by false e =
+            let kept = one-kept to iv _ _ (r .same .stands) _ (undisturbed (after one calls) (r .ready-one) iv call later e) in
+            record {
+              ready-one = more-one;
+              ready-other = more-other;
+              same = record {
+                told = rw (elsewhere-bears to iv call, e) (r .same .told);
+                stands = other-kept to iv _ _ kept _ (undisturbed (after other others) (r .ready-other) iv (elsewhere to call) (elsewhere-no-setup to call later) (elsewhere-bears to iv call ∙ e));
+              };
+            }
+
+  -- a call that is struck out does not bear the IV
+  unborne : (before : ℕ) (call : Call) → strikes before call ≡ true → bears iv call ≡ false
+  unborne before call e = refuted (bears iv call) (λ b. true≢false (sym e ∙ spares before call b))
+
+  pub runs : Ready one → Ready other → Alike to iv (one .table) (other .table) → (calls : List Call) → lentIn calls ≡ [] → Runs calls (allElsewhere to (left strikes calls))
+  unfolding after toldIn left allElsewhere
+  runs a b alike [] e = record { ready-one = a; ready-other = b; same = record { told = refl; stands = alike } }
+  runs a b alike (call ∷ earlier) e =
+      let none = no-setups call earlier e in
+      let r = runs a b alike earlier (none .1) in
+      by (strikes (length earlier) call) refl (none .0) r
+    where
+      by : (t : Bool) → strikes (length earlier) call ≡ t → NoSetup call → Runs earlier (allElsewhere to (left strikes earlier))
+          → Runs (call ∷ earlier) (allElsewhere to (cond t (left strikes earlier) (call ∷ left strikes earlier)))
+      by true z later r = gone call later earlier _ r (unborne (length earlier) call z)
+      by false z later r = stays call later earlier _ r
