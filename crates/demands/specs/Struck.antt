@@ -12,6 +12,7 @@ use Rattle.armor.specs.Value.{grammar}
 use Rattle.armor.specs.Fields.{requestFields}
 use Rattle.table.specs.declared.session.Record.{Record}
 use Rattle.table.specs.declared.place.Place.the-variants.{At}
+use Rattle.table.specs.Record.{windowOf}
 use Rattle.table.specs.Table.{places, records}
 use Rattle.table.specs.Session.{placeOf, heldAt}
 use Rattle.table.specs.WellFormed.{WellFormed}
@@ -20,8 +21,9 @@ use Rattle.stages.specs.Checks.{missing}
 use Rattle.stages.specs.Parts.{fieldsOf, ivOf}
 use Rattle.gate.specs.State.{State, Outcome}
 use Rattle.gate.specs.Sizes.{stateFits}
+use Rattle.demands.specs.Tables.{SessionAt}
 use Rattle.demands.specs.Effects.{Right}
-use Rattle.demands.specs.History.{Call, setting-up, judging, judging-one, ending, making-index, answer, after}
+use Rattle.demands.specs.History.{Call, setting-up, judging, judging-one, ending, making-index, answer, after, lentIn}
 
 -- a well-formed table of 1 to 4,096 records and the index that fits it: a state for which no call answers 1, 3 or 22
 pub record Lendable (state : State) : Type 0 where
@@ -118,3 +120,13 @@ pub record SameSession (to : ℕ → ℕ) (iv : List ℕ) (one : State) (calls :
 abbrev pub NoneBears : List ℕ → List Call → Type 0
 NoneBears iv [] = Unit
 NoneBears iv (call ∷ earlier) = (bears iv call ≡ false) × NoneBears iv earlier
+
+-- a session was not ended, its window took no nonce, and its later calls are told at once what they would have been told
+pub record Unharmed (iv : List ℕ) (before after : State) : Type 0 where
+  pub stands : (place : ℕ) → SessionAt (before .table) iv place → SessionAt (after .table) iv place
+  pub window : windowOf (sessionIn iv (after .table)) ≡ windowOf (sessionIn iv (before .table))
+  pub told : (calls : List Call) → lentIn calls ≡ [] → toldIn iv after calls ≡ toldIn iv before calls
+
+-- of some calls those that bear one of a maker's IVs
+abbrev pub callsOf : (List ℕ → Bool) → List Call → List Call
+callsOf mine = left (λ before call. not (bearsOf mine call))

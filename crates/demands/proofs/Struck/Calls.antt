@@ -40,7 +40,7 @@ use Rattle.demands.proofs.Shared.TakenOut.{caught-table, own, put-back}
 use Rattle.demands.proofs.Shared.Passed.{session-passed}
 use Rattle.demands.proofs.Shared.Others.{accepts-zero, passes-finds, passes-window}
 use Rattle.demands.proofs.Index.Calls.{Whole}
-use Rattle.demands.proofs.Struck.Tables.{Turns, unturned, turned-into}
+use Rattle.demands.proofs.Struck.Turned.{Turns, unturned, turned-into}
 
 -- what a request's number does to its session's record
 abbrev pub turned : Request → ℕ → Record → Record

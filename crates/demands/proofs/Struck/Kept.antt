@@ -37,7 +37,7 @@ use Rattle.demands.proofs.Shared.Answers.{judged-number, remade-table}
 use Rattle.demands.proofs.Shared.Others.{parts}
 use Rattle.demands.proofs.Untouched.{untouched-else}
 use Rattle.demands.proofs.Index.Calls.{Whole, zero-or-not, call-right}
-use Rattle.demands.proofs.Struck.Tables.{Undisturbed, Turns, unturned}
+use Rattle.demands.proofs.Struck.Turned.{Undisturbed, Turns, unturned}
 use Rattle.demands.proofs.Struck.Calls.{judge-turns, one-turns, end-turns}
 
 pub record Ready (state : State) : Type 0 where

@@ -41,7 +41,7 @@ use Rattle.demands.specs.Struck.{legible, passes, bears, Told, told, ses
 use Rattle.demands.proofs.Shared.Named.{found-session}
 use Rattle.demands.proofs.Shared.TakenOut.{own, one-well, lent}
 use Rattle.demands.proofs.Index.Calls.{Whole}
-use Rattle.demands.proofs.Struck.Tables.{Undisturbed, Turns}
+use Rattle.demands.proofs.Struck.Turned.{Undisturbed, Turns}
 use Rattle.demands.proofs.Struck.Kept.{Ready, NoSetup}
 use Rattle.demands.proofs.Struck.Calls.{turned, turnedAt, judge-turns, one-turns, end-turns}
 
