@@ -234,6 +234,11 @@ module _ (s : Setup) (state : State) (done : first (setupChecks s state) ≡ 0) 
     unfolding lastTimeOf clientFields the contents keyNumber rankOf keys codes same
     last-time-is = ap (λ (fs : List Field). number (the keyLt fs)) fields-are ∙ number-numberBytes (m .last-time) (omega (arith, fair .last-time-fits))
 
+    nonce-is : ordersNonce mask ≡ true → nonceOf q ≡ m .nonce
+    unfolding nonceOf
+    nonce-is o =
+        ap (λ (fs : List Field). number (the keyN fs)) fields-are ∙ ap number (read .nonce ∙ rw o refl) ∙ number-numberBytes (m .nonce) (omega (arith, fair .nonce-fits))
+
     nonce-same : (o : Bool) → ordersNonce mask ≡ o → Signed.nonceOf mask (number (cond o (numberBytes (m .nonce)) [])) ≡ Signed.nonceOf mask (m .nonce)
     unfolding Signed.nonceOf
     nonce-same true e = ap (Signed.nonceOf mask) (number-numberBytes (m .nonce) (omega (arith, fair .nonce-fits)))
@@ -400,6 +405,11 @@ client-carries s state m clock reply lent-bytes e fair =
       time-is s state done lent-bytes m clock reply fair,
       ap (λ (t : Token). t .expiry) (token-is s state done lent-bytes m clock reply fair),
     )
+
+-- and its nonce, where nonces are ordered
+pub client-nonce : (s : Setup) (state : State) (m : Message) (clock : ℕ) (reply : List ℕ) → LentBytes s → setUp s state .number ≡ 0
+    → Fair s m clock reply → ordersNonce (s .orders .numbers .mask) ≡ true → nonceOf (clientRequest s m clock reply) ≡ m .nonce
+client-nonce s state m clock reply lent-bytes e fair = nonce-is s state (sym (setUp-number s state) ∙ e) lent-bytes m clock reply fair
 
 -- it has its session's hash, and the session that the setup left keeps it
 pub record Bears (s : Setup) (q : Request) (after : State) : Type 0 where

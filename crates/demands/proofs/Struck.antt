@@ -10,6 +10,7 @@ pub mod Calls
 pub mod Kept
 pub mod Compared
 pub mod Runs
+pub mod Served
 use mathlib.Core.Path.{_≡_, refl, sym, ap, subst, _∙_}
 use mathlib.Core.Bool.{Bool, true, false, false≢true, cond, not}
 use mathlib.Core.List.{List, [], _∷_}

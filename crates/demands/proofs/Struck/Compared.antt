@@ -45,11 +45,11 @@ use Rattle.demands.proofs.Struck.Turned.{Undisturbed, Turns}
 use Rattle.demands.proofs.Struck.Kept.{Ready, NoSetup}
 use Rattle.demands.proofs.Struck.Calls.{turned, turnedAt, judge-turns, one-turns, end-turns}
 
-fits-same : (state : State) → Right state → same (state .index) (indexOf (records (state .table))) ≡ true
+pub fits-same : (state : State) → Right state → same (state .index) (indexOf (records (state .table))) ≡ true
 fits-same state right = ap (same (state .index)) (sym (fits-only _ _ right)) ∙ same-self (state .index)
 
 -- whether there is a session stands in its record
-unused : (iv table : List ℕ) → nowhere (placeOf table iv) ≡ not (isUsed (sessionIn iv table))
+pub unused : (iv table : List ℕ) → nowhere (placeOf table iv) ≡ not (isUsed (sessionIn iv table))
 unused iv table = by (placeOf table iv) refl
   where
     by : (p : Place) → placeOf table iv ≡ p → nowhere p ≡ not (isUsed (heldAt table p))
