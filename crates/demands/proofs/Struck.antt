@@ -11,6 +11,7 @@ pub mod Kept
 pub mod Compared
 pub mod Runs
 pub mod Served
+pub mod Witnesses
 use mathlib.Core.Path.{_≡_, refl, sym, ap, subst, _∙_}
 use mathlib.Core.Bool.{Bool, true, false, false≢true, cond, not}
 use mathlib.Core.List.{List, [], _∷_}
@@ -22,17 +23,13 @@ use Rattle.cells.proofs.Equality.{same-equal}
 use Rattle.table.specs.declared.session.Record.{Record}
 use Rattle.table.specs.Record.{windowOf}
 use Rattle.table.specs.Table.{places}
-use Rattle.table.proofs.Sessions.{recordAt-fits}
 use Rattle.gate.specs.State.{State}
 use Rattle.demands.specs.Tables.{SessionAt}
 use Rattle.demands.specs.History.{Call, after, lentIn}
 use Rattle.demands.specs.Struck.{Lendable, borne, passes, bearsOf, bears, bearsOther, Strike, Spares, left, toldIn, sessionIn, Alike, here, allElsewhere, SameSession, NoneBears, Unharmed, callsOf}
 use Rattle.demands.proofs.Shared.Named.{found-session, session-found}
-use Rattle.demands.proofs.Struck.Kept.{Ready}
+use Rattle.demands.proofs.Struck.Kept.{Ready, ready}
 use Rattle.demands.proofs.Struck.Runs.{all-here, Ran, ran}
-
-ready : (state : State) → Lendable state → Ready state
-ready state l = record { sizes = l .sizes; whole = λ i h. recordAt-fits (state .table) i h (l .bytes); well = l .well; index = l .index }
 
 alike-self : (iv table : List ℕ) → Alike here iv table table
 alike-self iv table = record { session = refl; place = λ p. (λ e. e, λ e. e); within = λ p. (λ h. h, λ h. h) }

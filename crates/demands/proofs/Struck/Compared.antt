@@ -10,6 +10,7 @@ use native.Mathlib.Omega.{arith}
 use borrow.Author.Tests.{eqb-true, eq-eqb, leb-true, ltb-true, ltb-false}
 use lib.Dec.{eqb, leb, ltb}
 use lib.ListN.{length, drop, length-take, length-drop}
+use lib.Seq.{take-all}
 use Rattle.cells.specs.Runs.{same}
 use Rattle.cells.proofs.Equality.{same-self, same-equal}
 use Rattle.cells.proofs.Tests.{tested, both}
@@ -18,7 +19,7 @@ use Rattle.reply.specs.Replies.{invalidation}
 use Rattle.table.specs.declared.session.Record.{Record}
 use Rattle.table.specs.declared.place.Place.{Place}
 use Rattle.table.specs.declared.place.Place.the-variants.{At, Nowhere}
-use Rattle.table.specs.Record.{size, freed}
+use Rattle.table.specs.Record.{size, recordOf, Fits, freed}
 use Rattle.table.specs.Table.{places, records, recordAt, isUsed}
 use Rattle.table.specs.Session.{placeOf, heldAt, without}
 use Rattle.table.specs.WellFormed.{WellFormed}
@@ -138,6 +139,15 @@ module _ (state : State) (w : WellFormed (records (state .table))) (place : ℕ)
       let sizes = both (eqb (length (one .table) % size) 0) (longFrom size (4096 * size) (one .table)) (both (tableFits (one .table)) _ e .0) in
       let long : size ≤ length (one .table) = leb-true size _ (both (leb size (length (one .table))) _ (sizes .1) .0) in
       h (omega (arith, length-take size (drop (size * place) (state .table)), length-drop (size * place) (state .table))))
+
+  one-whole : Whole (state .table) → place < places (state .table) → Whole (one .table)
+  one-whole fit h i l =
+      let long : length (one .table) ≡ size = omega (arith, length-take size (drop (size * place) (state .table)), length-drop (size * place) (state .table)) in
+      let zeroth : i ≡ 0 = omega (arith, long) in
+      subst (λ (r : Record). Fits r) (sym (ap (recordAt (one .table)) zeroth ∙ ap recordOf (take-all size (one .table) (omega arith)))) (fit place h)
+
+  pub one-ready : Ready state → place < places (state .table) → Ready one
+  one-ready ready h = record { sizes = one-fits h; whole = one-whole (ready .whole) h; well = one-well state w place; index = one-right }
 
 -- the record at a place of the one table and the record where that place is in the other
 module _ (to : ℕ → ℕ) (iv : List ℕ) (a b : State) (wa : WellFormed (records (a .table))) (wb : WellFormed (records (b .table)))

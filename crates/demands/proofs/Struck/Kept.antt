@@ -17,6 +17,7 @@ use Rattle.table.specs.Table.{places, records}
 use Rattle.table.specs.Session.{placeOf}
 use Rattle.table.specs.WellFormed.{WellFormed}
 use Rattle.table.proofs.Records.{length-records}
+use Rattle.table.proofs.Sessions.{recordAt-fits}
 use Rattle.index.proofs.Held.{fits-only, length-indexOf}
 use Rattle.armor.specs.Value.{grammar}
 use Rattle.armor.specs.Fields.{requestFields}
@@ -31,7 +32,7 @@ use Rattle.gate.specs.Entry.{stateChecks, entryChecks}
 use Rattle.gate.specs.Judge.{entryPart, requestChecks, judged}
 use Rattle.demands.specs.Effects.{Right, TenOrThirteen}
 use Rattle.demands.specs.History.{Call, setting-up, judging, judging-one, ending, making-index, takenOut, answer}
-use Rattle.demands.specs.Struck.{legible, passes, bears, sessionIn}
+use Rattle.demands.specs.Struck.{Lendable, legible, passes, bears, sessionIn}
 use Rattle.demands.proofs.Shared.Checks.{accepted-passes, read-through}
 use Rattle.demands.proofs.Shared.Answers.{judged-number, remade-table}
 use Rattle.demands.proofs.Shared.Others.{parts}
@@ -45,6 +46,9 @@ pub record Ready (state : State) : Type 0 where
   pub whole : Whole (state .table)
   pub well : WellFormed (records (state .table))
   pub index : Right state
+
+pub ready : (state : State) → Lendable state → Ready state
+ready state l = record { sizes = l .sizes; whole = λ i h. recordAt-fits (state .table) i h (l .bytes); well = l .well; index = l .index }
 
 abbrev pub NoSetup : Call → Type 0
 NoSetup (setting-up s) = ⊥
@@ -61,20 +65,20 @@ sizes-left before after long right fits =
     (rw (both (tableFits (before .table)) (exactly (2 * places (before .table)) (before .index)) fits .0) refl)
 
 -- a request that is not legible is refused before its session is looked for, and changes nothing
-module _ (q : Request) (state : State) where
-  read-legible : first (readingPart q) ≡ 0 → legible q ≡ true
-  unfolding readingPart
-  read-legible e =
-      let past = passed-at (readingPart q) (reading-numbered q) e in
-      rw (past 4, not-false (requestFields (fieldsOf q)) (past 5)) refl
+pub read-legible : (q : Request) → first (readingPart q) ≡ 0 → legible q ≡ true
+unfolding readingPart
+read-legible q e =
+    let past = passed-at (readingPart q) (reading-numbered q) e in
+    rw (past 4, not-false (requestFields (fieldsOf q)) (past 5)) refl
 
+module _ (q : Request) (state : State) where
   zero-legible : judged q state .number ≡ 0 → legible q ≡ true
-  zero-legible e = read-legible (parts q state (accepted-passes q state (sym (judged-number q state) ∙ e)) .reading)
+  zero-legible e = read-legible q (parts q state (accepted-passes q state (sym (judged-number q state) ∙ e)) .reading)
 
   two-legible : TenOrThirteen (judged q state .number) → legible q ≡ true
   unfolding entryPart readingPart coveringPart entryChecks stateChecks
-  two-legible (inl e) = read-legible (read-through q state 10 refl refl (sym (judged-number q state) ∙ e) .reading)
-  two-legible (inr e) = read-legible (read-through q state 13 refl refl (sym (judged-number q state) ∙ e) .reading)
+  two-legible (inl e) = read-legible q (read-through q state 10 refl refl (sym (judged-number q state) ∙ e) .reading)
+  two-legible (inr e) = read-legible q (read-through q state 13 refl refl (sym (judged-number q state) ∙ e) .reading)
 
   illegible : legible q ≡ false → (1 ≤ judged q state .number) × (TenOrThirteen (judged q state .number) → ⊥)
   illegible e = (
