@@ -178,7 +178,7 @@ module _ (to : ℕ → ℕ) (iv : List ℕ) (a b : State) (wa : WellFormed (reco
           none Nowhere f = refl
 
 -- two turns into one record leave a session standing alike
-nowhere-at : (i : ℕ) → Nowhere ≡ At i → ⊥
+pub nowhere-at : (i : ℕ) → Nowhere ≡ At i → ⊥
 nowhere-at i e = true≢false (ap nowhere e)
 
 alike-after : (to : ℕ → ℕ) (iv a b a' b' : List ℕ) (f g : Record → Record) → Turns iv f a a' → Turns iv g b b' → Alike to iv a b → f (sessionIn iv a) ≡ g (sessionIn iv b)
