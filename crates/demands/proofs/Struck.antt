@@ -12,38 +12,34 @@ pub mod Compared
 pub mod Runs
 pub mod Served
 pub mod Witnesses
-use mathlib.Core.Path.{_≡_, refl, sym, ap, subst, _∙_}
-use mathlib.Core.Bool.{Bool, true, false, false≢true, cond, not}
+use mathlib.Core.Path.{_≡_, refl, ap, subst, _∙_}
+use mathlib.Core.Bool.{Bool, true, false, false≢true, not}
 use mathlib.Core.List.{List, [], _∷_}
 use mathlib.Core.Option.{Option, none, some}
 use Prim.Native.Nat.{ℕ}
-use lib.ListN.{length}
 use Rattle.cells.specs.Runs.{same}
 use Rattle.cells.proofs.Equality.{same-equal}
-use Rattle.table.specs.declared.session.Record.{Record}
 use Rattle.table.specs.Record.{windowOf}
-use Rattle.table.specs.Table.{places}
 use Rattle.gate.specs.State.{State}
-use Rattle.demands.specs.Tables.{SessionAt}
 use Rattle.demands.specs.History.{Call, after, lentIn}
-use Rattle.demands.specs.Struck.{Lendable, borne, passes, bearsOf, bears, bearsOther, Strike, Spares, left, toldIn, sessionIn, Alike, here, allElsewhere, SameSession, NoneBears, Unharmed, callsOf}
+use Rattle.demands.specs.Struck.{Lendable, borne, passes, bearsOf, bears, bearsOther, Strike, Spares, unstruck, toldIn, sessionIn, StandsAlike, here, allElsewhere, SameSession, NoneBears, Unharmed, callsOf}
 use Rattle.demands.proofs.Shared.Named.{found-session, session-found}
 use Rattle.demands.proofs.Struck.Kept.{Ready, ready}
 use Rattle.demands.proofs.Struck.Runs.{all-here, Ran, ran}
 
-alike-self : (iv table : List ℕ) → Alike here iv table table
+alike-self : (iv table : List ℕ) → StandsAlike here iv table table
 alike-self iv table = record { session = refl; place = λ p. (λ e. e, λ e. e); within = λ p. (λ h. h, λ h. h) }
 
 -- on one table
 stricken : (iv : List ℕ) (state : State) (calls : List Call) (strikes : Strike) → Ready state → lentIn calls ≡ [] → Spares iv strikes
-    → Ran here iv state calls state (left strikes calls)
+    → Ran here iv state calls state (unstruck strikes calls)
 stricken iv state calls strikes r setups spares =
-    subst (λ (others : List Call). Ran here iv state calls state others) (all-here (left strikes calls))
+    subst (λ (others : List Call). Ran here iv state calls state others) (all-here (unstruck strikes calls))
     (ran here iv state state strikes spares r r (alike-self iv (state .table)) calls setups)
 
 -- THE THEOREM: whatever a strike takes that keeps every call that bears this IV, the session's answers and its record are the same
 pub any-strike : (iv : List ℕ) (state : State) (calls : List Call) (strikes : Strike) → Lendable state → lentIn calls ≡ [] → Spares iv strikes
-    → SameSession here iv state calls state (left strikes calls)
+    → SameSession here iv state calls state (unstruck strikes calls)
 any-strike iv state calls strikes l setups spares = stricken iv state calls strikes (ready state l) setups spares .same
 
 -- a call that bears this IV bears no other
@@ -56,20 +52,20 @@ spares-own iv before call = by (borne call)
 
 -- the customer's sentence: every call that bears another session's IV is struck out
 pub others-struck : (iv : List ℕ) (state : State) (calls : List Call) → Lendable state → lentIn calls ≡ []
-    → let struck = left (λ before call. bearsOther iv call) calls in
+    → let struck = unstruck (λ before call. bearsOther iv call) calls in
     (toldIn iv state calls ≡ toldIn iv state struck) × (sessionIn iv (after state calls .table) ≡ sessionIn iv (after state struck .table))
 others-struck iv state calls l setups =
     let same = any-strike iv state calls (λ before call. bearsOther iv call) l setups (spares-own iv) in
     (same .told, same .stands .session)
 
 -- of calls none of which bears the IV every one can go, and of any calls every one can stay
-none-left : (iv : List ℕ) (calls : List Call) → NoneBears iv calls → left (λ before call. not (bears iv call)) calls ≡ []
-unfolding left
+none-left : (iv : List ℕ) (calls : List Call) → NoneBears iv calls → unstruck (λ before call. not (bears iv call)) calls ≡ []
+unfolding unstruck
 none-left iv [] others = refl
 none-left iv (call ∷ earlier) others = rw (others .0) (none-left iv earlier (others .1))
 
-all-left : (calls : List Call) → left (λ before call. false) calls ≡ calls
-unfolding left
+all-left : (calls : List Call) → unstruck (λ before call. false) calls ≡ calls
+unfolding unstruck
 all-left [] = refl
 all-left (call ∷ earlier) = ap (λ (l : List Call). call ∷ l) (all-left earlier)
 
@@ -86,12 +82,12 @@ unharmed iv state calls l setups others =
       window = ap windowOf (stands .session);
       told = λ more later.
           ran here iv (after state calls) state (λ before call. false) (λ before call b. refl) (r .ready-one) (r .ready-other) stands more later .same .told
-          ∙ ap (toldIn iv state) (all-here (left (λ before call. false) more) ∙ all-left more);
+          ∙ ap (toldIn iv state) (all-here (unstruck (λ before call. false) more) ∙ all-left more);
     }
 
 -- one maker's sessions on a table of their own
 own-table : (mine : List ℕ → Bool) (shared own : State) (to : ℕ → ℕ) → Lendable shared → Lendable own → (calls : List Call) → lentIn calls ≡ []
-    → (iv : List ℕ) → mine iv ≡ true → Alike to iv (shared .table) (own .table) → SameSession to iv shared calls own (allElsewhere to (callsOf mine calls))
+    → (iv : List ℕ) → mine iv ≡ true → StandsAlike to iv (shared .table) (own .table) → SameSession to iv shared calls own (allElsewhere to (callsOf mine calls))
 own-table mine shared own to s o calls setups iv is alike =
     ran to iv shared own (λ before call. not (bearsOf mine call)) (λ before call. by (borne call)) (ready shared s) (ready own o) alike calls setups .same
   where
@@ -101,8 +97,8 @@ own-table mine shared own to s o calls setups iv is alike =
 
 -- two makers' sessions are judged on two tables as on one, where each stands alike in its maker's table and in the shared one
 pub two-tables : (mine : List ℕ → Bool) (shared first second : State) (to via : ℕ → ℕ) → Lendable shared → Lendable first → Lendable second
-    → ((iv : List ℕ) → mine iv ≡ true → Alike to iv (shared .table) (first .table))
-    → ((iv : List ℕ) → mine iv ≡ false → Alike via iv (shared .table) (second .table))
+    → ((iv : List ℕ) → mine iv ≡ true → StandsAlike to iv (shared .table) (first .table))
+    → ((iv : List ℕ) → mine iv ≡ false → StandsAlike via iv (shared .table) (second .table))
     → (calls : List Call) → lentIn calls ≡ [] → (iv : List ℕ)
     → (mine iv ≡ true → SameSession to iv shared calls first (allElsewhere to (callsOf mine calls)))
     × (mine iv ≡ false → SameSession via iv shared calls second (allElsewhere via (callsOf (λ other. not (mine other)) calls)))

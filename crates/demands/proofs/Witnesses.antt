@@ -3,7 +3,7 @@
 -- Age; the others after 9 need a token that opens, too, and the stored calls of tests/host give them.
 -- Assumes nothing.
 use mathlib.Core.Path.{_≡_, refl, sym, ap, _∙_}
-use mathlib.Core.Bool.{Bool, true, false}
+use mathlib.Core.Bool.{Bool, true, false, _||_}
 use mathlib.Core.List.{List, [], _∷_, _++_}
 use mathlib.Core.Option.{none}
 use Prim.Native.Nat.{ℕ, _+_, _≤_, _<_, _^_}
@@ -225,9 +225,35 @@ request-witnesses = record {
   nine = rw (unopened (zeros 32) (zeros 12) (zeros 16) 0);
 }
 
--- nothing but a method and a path, made at 100
-abbrev pub plainly : Message
-plainly = record { method = codes "GET"; head = []; aside = []; path = codes "/"; body = []; time = 100; last-time = 0; nonce = 0 }
+-- nothing but a method and a path, made at 100, and a nonce
+abbrev pub saying : ℕ → Message
+saying n = record { method = codes "GET"; head = []; aside = []; path = codes "/"; body = []; time = 100; last-time = 0; nonce = n }
+
+-- it is fair where the orders cover no name twice, and in time
+pub fairly : (s : Setup) (n clock : ℕ) → n < 2 ^ 32
+    → (repeated (coveredNames (s .orders .numbers .mask) (s .orders .extra)) (linesIn []) || repeated (coveredNames (s .orders .numbers .mask) (s .orders .extra)) (linesIn [])) ≡ false
+    → clock < expiryOf s → 100 ≤ limitsOf (s .orders) .idle → clock ≤ 100 + limitsOf (s .orders) .«request_life» → 100 ≤ clock + 30
+    → Fair s (saying n) clock (zeros 1024)
+unfolding codes isToken all tokenByte hasByte same textOf goodBlock linesIn linesUpTo startsLine frontLine
+fairly s n clock small once lasts active timely near = record {
+  method-fits = omega arith;
+  head-fits = omega arith;
+  aside-fits = omega arith;
+  path-some = omega arith;
+  path-fits = omega arith;
+  body-fits = omega arith;
+  reply-room = omega arith;
+  method-good = refl;
+  lines = refl;
+  once = once;
+  time-fits = omega arith;
+  last-time-fits = omega arith;
+  nonce-fits = small;
+  lasts = lasts;
+  active = omega arith;
+  timely = timely;
+  near = near;
+}
 
 lent-zeros : (value : List ℕ) (life : ℕ) → LentBytes (living value life)
 unfolding bytesOf
@@ -240,31 +266,13 @@ lent-zeros value life = record {
 }
 
 fair : (value : List ℕ) (life clock : ℕ) → clock < 1209600 → clock ≤ 100 + limitsOf (living value life .orders) .«request_life» → 100 ≤ clock + 30
-    → Fair (living value life) plainly clock (zeros 1024)
-unfolding codes isToken all tokenByte hasByte same textOf goodBlock linesIn linesUpTo startsLine frontLine repeated timesNamed coveredNames chosen headerNames extraNames expiryOf limitsOf
-fair value life clock lasts timely near = record {
-  method-fits = omega arith;
-  head-fits = omega arith;
-  aside-fits = omega arith;
-  path-some = omega arith;
-  path-fits = omega arith;
-  body-fits = omega arith;
-  reply-room = omega arith;
-  method-good = refl;
-  lines = refl;
-  once = refl;
-  time-fits = omega arith;
-  last-time-fits = omega arith;
-  nonce-fits = omega arith;
-  lasts = omega arith;
-  active = omega arith;
-  timely = omega arith;
-  near = near;
-}
+    → Fair (living value life) (saying 0) clock (zeros 1024)
+unfolding linesIn linesUpTo startsLine repeated timesNamed coveredNames chosen headerNames extraNames expiryOf limitsOf
+fair value life clock lasts timely near = fairly (living value life) 0 clock (omega arith) refl lasts (omega arith) timely near
 
 -- a client's request, made at 100, that comes at a time, and the table that its setup left
 abbrev pub sent : List ℕ → ℕ → ℕ → Request
-sent value life clock = clientRequest (living value life) plainly clock (zeros 1024)
+sent value life clock = clientRequest (living value life) (saying 0) clock (zeros 1024)
 
 abbrev pub left : List ℕ → ℕ → State
 left value life = setUp (living value life) (empty 1) .state
@@ -282,20 +290,20 @@ module _ (value : List ℕ) (life : ℕ) (done : setUp (living value life) (empt
   accepted : (clock : ℕ) → clock < 1209600 → clock ≤ 100 + limitsOf (living value life .orders) .«request_life» → 100 ≤ clock + 30
       → judged (sent value life clock) (left value life) .number ≡ 0
   accepted clock lasts timely near =
-      client-accepted (living value life) (empty 1) plainly clock (zeros 1024) (lent-zeros value life) done (fair value life clock lasts timely near)
+      client-accepted (living value life) (empty 1) (saying 0) clock (zeros 1024) (lent-zeros value life) done (fair value life clock lasts timely near)
 
-  at-once : Fair (living value life) plainly 100 (zeros 1024)
+  at-once : Fair (living value life) (saying 0) 100 (zeros 1024)
   at-once = fair value life 100 (omega arith) (omega arith) (omega arith)
 
   passes : PassesOthers (sent value life 100) (left value life)
-  passes = client-passes (living value life) (empty 1) plainly 100 (zeros 1024) (lent-zeros value life) done at-once .0
+  passes = client-passes (living value life) (empty 1) (saying 0) 100 (zeros 1024) (lent-zeros value life) done at-once .0
 
   carries : (timeOf (sent value life 100) ≡ 100) × (tokenOf (sent value life 100) .expiry ≡ 1209600)
   unfolding expiryOf limitsOf
-  carries = client-carries (living value life) (empty 1) plainly 100 (zeros 1024) (lent-zeros value life) done at-once
+  carries = client-carries (living value life) (empty 1) (saying 0) 100 (zeros 1024) (lent-zeros value life) done at-once
 
   bears : Bears (living value life) (sent value life 100) (left value life)
-  bears = client-bears (living value life) (empty 1) plainly 100 (zeros 1024) (lent-zeros value life) done at-once
+  bears = client-bears (living value life) (empty 1) (saying 0) 100 (zeros 1024) (lent-zeros value life) done at-once
 
 pub age-witnesses : AgeWitnesses
 unfolding limitsOf clientRequest

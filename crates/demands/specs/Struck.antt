@@ -66,9 +66,9 @@ abbrev pub Spares : List ℕ → Strike → Type 0
 Spares iv strikes = (before : ℕ) (call : Call) → bears iv call ≡ true → strikes before call ≡ false
 
 -- the calls that a strike leaves
-unfoldable pub left : Strike → List Call → List Call
-left strikes [] = []
-left strikes (call ∷ earlier) = cond (strikes (length earlier) call) (left strikes earlier) (call ∷ left strikes earlier)
+unfoldable pub unstruck : Strike → List Call → List Call
+unstruck strikes [] = []
+unstruck strikes (call ∷ earlier) = cond (strikes (length earlier) call) (unstruck strikes earlier) (call ∷ unstruck strikes earlier)
 
 -- what a call tells the host: its number, and the reply's length and buffer
 pub record Told : Type 0 where
@@ -90,7 +90,7 @@ abbrev pub sessionIn : List ℕ → List ℕ → Record
 sessionIn iv table = heldAt table (placeOf table iv)
 
 -- the session of an IV stands alike in two tables: the same record, at a place of the one and where that place is in the other
-pub record Alike (to : ℕ → ℕ) (iv one other : List ℕ) : Type 0 where
+pub record StandsAlike (to : ℕ → ℕ) (iv one other : List ℕ) : Type 0 where
   pub session : sessionIn iv one ≡ sessionIn iv other
   pub place : (p : ℕ) → (placeOf one iv ≡ At p) ↔ (placeOf other iv ≡ At (to p))
   pub within : (p : ℕ) → (p < places one) ↔ (to p < places other)
@@ -114,7 +114,7 @@ allElsewhere to (call ∷ earlier) = elsewhere to call ∷ allElsewhere to earli
 -- after some calls on one table and some on another, the session was told the same and stands alike
 pub record SameSession (to : ℕ → ℕ) (iv : List ℕ) (one : State) (calls : List Call) (other : State) (calls' : List Call) : Type 0 where
   pub told : toldIn iv one calls ≡ toldIn iv other calls'
-  pub stands : Alike to iv (after one calls .table) (after other calls' .table)
+  pub stands : StandsAlike to iv (after one calls .table) (after other calls' .table)
 
 -- none of the calls bears an IV
 abbrev pub NoneBears : List ℕ → List Call → Type 0
@@ -129,4 +129,4 @@ pub record Unharmed (iv : List ℕ) (before after : State) : Type 0 where
 
 -- of some calls those that bear one of a maker's IVs
 abbrev pub callsOf : (List ℕ → Bool) → List Call → List Call
-callsOf mine = left (λ before call. not (bearsOf mine call))
+callsOf mine = unstruck (λ before call. not (bearsOf mine call))

@@ -1,27 +1,23 @@
 -- A record that the thin entry is lent out of a table, and the table with what it leaves there.
 -- Assumes nothing.
-use mathlib.Core.Path.{_≡_, refl, sym, ap, subst, _∙_}
+use mathlib.Core.Path.{_≡_, refl, sym, subst, _∙_}
 use mathlib.Core.Bool.{Bool, true, false, cond, _&&_}
 use mathlib.Core.List.{List}
 use mathlib.Core.Option.{Option}
 use Prim.Native.Nat.{ℕ, _*_, _<_}
-use native.Mathlib.Omega.{arith}
 use borrow.Author.Tests.{eqb-true, eq-eqb}
 use lib.Dec.{eqb}
-use lib.ListN.{length, getD, drop, set, length-take, length-drop}
-use lib.Seq.{take-all}
+use lib.ListN.{length, getD, set}
 use Rattle.cells.specs.Runs.{spliced, same}
-use Rattle.cells.proofs.Runs.{spliced-front, fronted-whole}
 use Rattle.hashes.specs.declared.Hash.{Hash}
 use Rattle.window.specs.History.{keep}
 use Rattle.table.specs.declared.session.Record.{Record}
 use Rattle.table.specs.declared.place.Place.{Place}
 use Rattle.table.specs.declared.place.Place.the-variants.{At, Nowhere}
-use Rattle.table.specs.Record.{size, recordBytes, recordOf, Fits, freed}
-use Rattle.table.specs.Table.{places, records, recordAt}
+use Rattle.table.specs.Record.{size, recordBytes, Fits, freed}
+use Rattle.table.specs.Table.{records, recordAt}
 use Rattle.table.specs.Session.{placeOf, with-record, without}
-use Rattle.table.specs.WellFormed.{Sound, WellFormed}
-use Rattle.table.proofs.Records.{length-records, length-recordBytes, records-at, freed-fits}
+use Rattle.table.proofs.Records.{length-records, freed-fits}
 use Rattle.table.proofs.Sessions.{stepped-fits}
 use Rattle.signed.specs.SignedText.{ordersNonce}
 use Rattle.stages.specs.Request.{Request}
@@ -29,11 +25,9 @@ use Rattle.stages.specs.Checks.{first}
 use Rattle.stages.specs.Parts.{ivOf, nonceOf, stepped, invalidates}
 use Rattle.gate.specs.State.{State}
 use Rattle.gate.specs.Judge.{requestChecks, judged}
-use Rattle.gate.specs.Remake.{remade}
-use Rattle.demands.specs.Tables.{SessionAt}
-use Rattle.demands.specs.History.{takenOut, caughtUp, judgedAt, withNonce}
+use Rattle.demands.specs.History.{takenOut, judgedAt, withNonce}
 use Rattle.demands.proofs.Shared.Checks.{accepted-passes}
-use Rattle.demands.proofs.Shared.Answers.{remade-table, steppedFor, next, judged-number, judged-table, found-step, ordered-table, unordered-table}
+use Rattle.demands.proofs.Shared.Answers.{steppedFor, next, judged-number, judged-table, found-step, ordered-table, unordered-table}
 use Rattle.demands.proofs.Shared.Stored.{respliced}
 use Rattle.demands.proofs.Shared.TakenOut.{caught-table, Own, own, put-back}
 use Rattle.demands.proofs.Shared.Others.{accepts-zero, passes-finds, passes-window}

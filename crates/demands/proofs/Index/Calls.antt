@@ -8,14 +8,13 @@ use Prim.Native.Nat.{ℕ, _*_, _≤_, _<_, _^_}
 use native.Mathlib.Omega.{arith}
 use borrow.Author.Tests.{eqb-true, eqb-false}
 use lib.Dec.{eqb}
-use lib.ListN.{length, drop, length-take, length-drop}
-use lib.Seq.{take-all}
+use lib.ListN.{length}
 use Rattle.cells.specs.Runs.{spliced}
 use Rattle.cells.proofs.Tests.{tested}
-use Rattle.cells.proofs.Runs.{spliced-front, fronted-whole, length-spliced}
+use Rattle.cells.proofs.Runs.{length-spliced}
 use Rattle.table.specs.declared.session.Record.{Record}
 use Rattle.table.specs.Record as R
-use Rattle.table.specs.Record.{size, recordBytes, recordOf, freed}
+use Rattle.table.specs.Record.{size, recordBytes, freed}
 use Rattle.table.specs.declared.place.Place.{Place}
 use Rattle.table.specs.declared.place.Place.the-variants.{At, Nowhere}
 use Rattle.table.specs.Session.{placeOf, with-record, without}

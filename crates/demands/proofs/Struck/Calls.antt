@@ -5,7 +5,6 @@ use mathlib.Core.Bool.{Bool, true, false, true≢false, cond}
 use mathlib.Core.List.{List}
 use mathlib.Core.Logic.{inl, inr}
 use Prim.Native.Nat.{ℕ, _*_, _<_, _^_}
-use native.Mathlib.Omega.{arith}
 use borrow.Author.Tests.{eqb-true, eq-eqb}
 use lib.Dec.{eqb}
 use Rattle.cells.specs.Runs.{spliced}
@@ -14,7 +13,7 @@ use Rattle.window.specs.History.{isAccepted}
 use Rattle.table.specs.declared.session.Record.{Record}
 use Rattle.table.specs.declared.place.Place.{Place}
 use Rattle.table.specs.declared.place.Place.the-variants.{At, Nowhere}
-use Rattle.table.specs.Record.{size, Fits, freed, windowOf}
+use Rattle.table.specs.Record.{size, freed, windowOf}
 use Rattle.table.specs.Table.{records, recordAt}
 use Rattle.table.specs.Session.{placeOf, heldAt, with-record, without}
 use Rattle.table.specs.WellFormed.{Sound, WellFormed}
@@ -25,15 +24,12 @@ use Rattle.stages.specs.Request.{Request}
 use Rattle.stages.specs.Checks.{first, nowhere}
 use Rattle.stages.specs.Parts.{ivOf, nonceOf, ordered, stepped, nextOf, invalidates}
 use Rattle.gate.specs.State.{State}
-use Rattle.gate.specs.Sizes.{stateFits}
 use Rattle.gate.specs.Judge.{requestChecks, judged}
 use Rattle.gate.specs.End.{endChecks, ended}
 use Rattle.demands.specs.Tables.{SessionAt}
-use Rattle.demands.specs.Effects.{Right}
 use Rattle.demands.specs.History.{takenOut, judgedAt}
-use Rattle.demands.specs.Struck.{sessionIn}
 use Rattle.demands.proofs.Shared.Checks.{accepted-passes}
-use Rattle.demands.proofs.Shared.Answers.{steppedFor, next, ended-number, ended-table, judged-number, judged-table, found-step}
+use Rattle.demands.proofs.Shared.Answers.{next, ended-number, ended-table, judged-number, judged-table, found-step}
 use Rattle.demands.proofs.Shared.Stored.{respliced}
 use Rattle.demands.proofs.Shared.Named.{placed, found-session}
 use Rattle.demands.proofs.Shared.TakenOut.{caught-table, own, put-back}

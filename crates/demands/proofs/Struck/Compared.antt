@@ -38,11 +38,11 @@ use Rattle.gate.specs.Judge.{entryPart, requestChecks, answered, judged}
 use Rattle.gate.specs.End.{endChecks, ended}
 use Rattle.demands.specs.Effects.{Right}
 use Rattle.demands.specs.History.{Call, setting-up, judging, judging-one, ending, making-index, takenOut, judgedAt, answer}
-use Rattle.demands.specs.Struck.{legible, passes, bears, Told, told, sessionIn, Alike, elsewhere}
+use Rattle.demands.specs.Struck.{legible, passes, bears, Told, told, sessionIn, StandsAlike, elsewhere}
 use Rattle.demands.proofs.Shared.Named.{found-session}
 use Rattle.demands.proofs.Shared.TakenOut.{own, one-well, lent}
 use Rattle.demands.proofs.Index.Calls.{Whole}
-use Rattle.demands.proofs.Struck.Turned.{Undisturbed, Turns}
+use Rattle.demands.proofs.Struck.Turned.{Turns}
 use Rattle.demands.proofs.Struck.Kept.{Ready, NoSetup}
 use Rattle.demands.proofs.Struck.Calls.{turned, turnedAt, judge-turns, one-turns, end-turns}
 
@@ -151,7 +151,7 @@ module _ (state : State) (w : WellFormed (records (state .table))) (place : ℕ)
 
 -- the record at a place of the one table and the record where that place is in the other
 module _ (to : ℕ → ℕ) (iv : List ℕ) (a b : State) (wa : WellFormed (records (a .table))) (wb : WellFormed (records (b .table)))
-    (alike : Alike to iv (a .table) (b .table)) (place : ℕ) where
+    (alike : StandsAlike to iv (a .table) (b .table)) (place : ℕ) where
   one-sizes : stateFits (takenOut place a) ≡ stateFits (takenOut (to place) b)
   one-sizes =
       tested (ltb place (places (a .table)))
@@ -181,8 +181,8 @@ module _ (to : ℕ → ℕ) (iv : List ℕ) (a b : State) (wa : WellFormed (reco
 pub nowhere-at : (i : ℕ) → Nowhere ≡ At i → ⊥
 nowhere-at i e = true≢false (ap nowhere e)
 
-alike-after : (to : ℕ → ℕ) (iv a b a' b' : List ℕ) (f g : Record → Record) → Turns iv f a a' → Turns iv g b b' → Alike to iv a b → f (sessionIn iv a) ≡ g (sessionIn iv b)
-    → Alike to iv a' b'
+alike-after : (to : ℕ → ℕ) (iv a b a' b' : List ℕ) (f g : Record → Record) → Turns iv f a a' → Turns iv g b b' → StandsAlike to iv a b → f (sessionIn iv a) ≡ g (sessionIn iv b)
+    → StandsAlike to iv a' b'
 alike-after to iv a b a' b' f g ta tb alike e = record {
   session = ta .session ∙ e ∙ sym (tb .session);
   place = λ p. rw (ta .place, tb .place, e) (by p (isUsed (g (sessionIn iv b))));
@@ -204,13 +204,13 @@ carries q iv = by (legible q)
 -- a call tells the same on two tables, and leaves a session standing alike in them
 pub record GoesAlike (to : ℕ → ℕ) (iv : List ℕ) (call : Call) (a b : State) : Type 0 where
   pub told : told (answer call a) ≡ told (answer (elsewhere to call) b)
-  pub stands : Alike to iv (answer call a .state .table) (answer (elsewhere to call) b .state .table)
+  pub stands : StandsAlike to iv (answer call a .state .table) (answer (elsewhere to call) b .state .table)
 
 module _ (to : ℕ → ℕ) (a b : State) (ra : Ready a) (rb : Ready b) where
   sizes : stateFits a ≡ stateFits b
   sizes = ra .sizes ∙ sym (rb .sizes)
 
-  judge-alike : (q : Request) → Alike to (ivOf q) (a .table) (b .table) → GoesAlike to (ivOf q) (judging q) a b
+  judge-alike : (q : Request) → StandsAlike to (ivOf q) (a .table) (b .table) → GoesAlike to (ivOf q) (judging q) a b
   judge-alike q alike =
       let tells = judge-told q a b sizes (ra .well) (rb .well) (ra .index) (rb .index) (alike .session) in
       record {
@@ -220,7 +220,7 @@ module _ (to : ℕ → ℕ) (a b : State) (ra : Ready a) (rb : Ready b) where
             (ap₂ (turned q) (ap (λ (t : Told). t .number) tells) (alike .session));
       }
 
-  one-alike : (place : ℕ) (q : Request) → Alike to (ivOf q) (a .table) (b .table) → GoesAlike to (ivOf q) (judging-one place q) a b
+  one-alike : (place : ℕ) (q : Request) → StandsAlike to (ivOf q) (a .table) (b .table) → GoesAlike to (ivOf q) (judging-one place q) a b
   one-alike place q alike =
       let session = one-session to (ivOf q) a b (ra .well) (rb .well) alike place in
       let tells =
@@ -234,7 +234,7 @@ module _ (to : ℕ → ℕ) (a b : State) (ra : Ready a) (rb : Ready b) where
             ∙ ap₂ (λ (n : ℕ) (r : Record). turnedAt (to place) q b n r) (ap (λ (t : Told). t .number) tells) (alike .session));
       }
 
-  ended-alike : (iv : List ℕ) → Alike to iv (a .table) (b .table) → GoesAlike to iv (ending iv) a b
+  ended-alike : (iv : List ℕ) → StandsAlike to iv (a .table) (b .table) → GoesAlike to iv (ending iv) a b
   ended-alike iv alike =
       let tells = end-told iv a b sizes (ra .well) (rb .well) (ra .index) (rb .index) (alike .session) in
       record {
@@ -245,11 +245,11 @@ module _ (to : ℕ → ℕ) (a b : State) (ra : Ready a) (rb : Ready b) where
       }
 
   -- by the IV that the call bears
-  borne-so : (iv : List ℕ) (call : Call) {v : List ℕ} → v ≡ iv → (Alike to v (a .table) (b .table) → GoesAlike to v call a b)
-      → Alike to iv (a .table) (b .table) → GoesAlike to iv call a b
-  borne-so iv call e goes alike = subst (λ (v : List ℕ). GoesAlike to v call a b) e (goes (subst (λ (v : List ℕ). Alike to v (a .table) (b .table)) (sym e) alike))
+  borne-so : (iv : List ℕ) (call : Call) {v : List ℕ} → v ≡ iv → (StandsAlike to v (a .table) (b .table) → GoesAlike to v call a b)
+      → StandsAlike to iv (a .table) (b .table) → GoesAlike to iv call a b
+  borne-so iv call e goes alike = subst (λ (v : List ℕ). GoesAlike to v call a b) e (goes (subst (λ (v : List ℕ). StandsAlike to v (a .table) (b .table)) (sym e) alike))
 
-  pub goes-alike : (iv : List ℕ) (call : Call) → NoSetup call → bears iv call ≡ true → Alike to iv (a .table) (b .table) → GoesAlike to iv call a b
+  pub goes-alike : (iv : List ℕ) (call : Call) → NoSetup call → bears iv call ≡ true → StandsAlike to iv (a .table) (b .table) → GoesAlike to iv call a b
   goes-alike iv (setting-up s) later e alike = absurd later
   goes-alike iv (judging q) later e alike = borne-so iv (judging q) (carries q iv e) (judge-alike q) alike
   goes-alike iv (judging-one place q) later e alike = borne-so iv (judging-one place q) (carries q iv e) (one-alike place q) alike

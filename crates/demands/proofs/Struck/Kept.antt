@@ -1,17 +1,16 @@
 -- Every call but a setup leaves a table and an index that the next can be lent, and disturbs no session whose IV it does not bear.
 -- Assumes nothing.
-use mathlib.Core.Path.{_≡_, refl, sym, ap, subst, _∙_}
-use mathlib.Core.Bool.{Bool, true, false, true≢false, cond, _&&_}
+use mathlib.Core.Path.{_≡_, refl, sym, ap, _∙_}
+use mathlib.Core.Bool.{Bool, true, false, true≢false, cond}
 use mathlib.Core.List.{List}
 use mathlib.Core.Logic.{_⊎_, inl, inr, ⊎-elim}
 use mathlib.Core.Option.{some, none}
 use Prim.Native.Nat.{ℕ, _*_, _≤_}
-use native.Mathlib.Omega.{arith}
 use borrow.Author.Tests.{eq-eqb, not-false}
 use lib.ListN.{length}
 use Rattle.cells.specs.Runs.{same}
-use Rattle.cells.proofs.Equality.{same-self, same-equal}
-use Rattle.cells.proofs.Tests.{tested, both}
+use Rattle.cells.proofs.Equality.{same-self}
+use Rattle.cells.proofs.Tests.{both}
 use Rattle.table.specs.declared.session.Record.{Record}
 use Rattle.table.specs.Table.{places, records}
 use Rattle.table.specs.Session.{placeOf}
@@ -19,17 +18,16 @@ use Rattle.table.specs.WellFormed.{WellFormed}
 use Rattle.table.proofs.Records.{length-records}
 use Rattle.table.proofs.Sessions.{recordAt-fits}
 use Rattle.index.proofs.Held.{fits-only, length-indexOf}
-use Rattle.armor.specs.Value.{grammar}
 use Rattle.armor.specs.Fields.{requestFields}
 use Rattle.stages.specs.Request.{Request}
-use Rattle.stages.specs.Checks.{first, missing}
+use Rattle.stages.specs.Checks.{first}
 use Rattle.stages.specs.Parts.{fieldsOf, ivOf, readingPart, coveringPart}
 use Rattle.stages.proofs.Checks.{passed-at}
 use Rattle.stages.proofs.Parts.{reading-numbered}
 use Rattle.gate.specs.State.{State}
 use Rattle.gate.specs.Sizes.{exactly, tableFits, stateFits}
 use Rattle.gate.specs.Entry.{stateChecks, entryChecks}
-use Rattle.gate.specs.Judge.{entryPart, requestChecks, judged}
+use Rattle.gate.specs.Judge.{entryPart, judged}
 use Rattle.demands.specs.Effects.{Right, TenOrThirteen}
 use Rattle.demands.specs.History.{Call, setting-up, judging, judging-one, ending, making-index, takenOut, answer}
 use Rattle.demands.specs.Struck.{Lendable, legible, passes, bears, sessionIn}
@@ -38,7 +36,7 @@ use Rattle.demands.proofs.Shared.Answers.{judged-number, remade-table}
 use Rattle.demands.proofs.Shared.Others.{parts}
 use Rattle.demands.proofs.Untouched.{untouched-else}
 use Rattle.demands.proofs.Index.Calls.{Whole, zero-or-not, call-right}
-use Rattle.demands.proofs.Struck.Turned.{Undisturbed, Turns, unturned}
+use Rattle.demands.proofs.Struck.Turned.{Undisturbed, Turns}
 use Rattle.demands.proofs.Struck.Calls.{judge-turns, one-turns, end-turns}
 
 pub record Ready (state : State) : Type 0 where

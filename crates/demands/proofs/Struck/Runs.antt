@@ -1,14 +1,14 @@
 -- Calls on one table, and what a strike leaves of them on another in which a session stands alike.
 -- Assumes nothing.
-use mathlib.Core.Path.{_≡_, refl, sym, ap, ap₂, _∙_}
+use mathlib.Core.Path.{_≡_, refl, sym, ap₂, _∙_}
 use mathlib.Core.Bool.{Bool, true, false, true≢false, cond}
 use mathlib.Core.List.{List, [], _∷_, cons≢nil}
 use Prim.Native.Nat.{ℕ}
 use lib.ListN.{length}
 use Rattle.table.proofs.Tests.{refuted}
 use Rattle.gate.specs.State.{State}
-use Rattle.demands.specs.History.{Call, setting-up, judging, judging-one, ending, making-index, answer, after, withLent, lentIn}
-use Rattle.demands.specs.Struck.{bears, Strike, Spares, left, Told, told, toldIn, Alike, here, elsewhere, allElsewhere, SameSession}
+use Rattle.demands.specs.History.{Call, setting-up, judging, judging-one, ending, making-index, answer, after, lentIn}
+use Rattle.demands.specs.Struck.{bears, Strike, Spares, unstruck, told, toldIn, StandsAlike, here, elsewhere, allElsewhere, SameSession}
 use Rattle.demands.proofs.Struck.Turned.{Undisturbed}
 use Rattle.demands.proofs.Struck.Kept.{Ready, NoSetup, ready-left, undisturbed}
 use Rattle.demands.proofs.Struck.Compared.{goes-alike}
@@ -51,11 +51,11 @@ all-here (call ∷ earlier) = ap₂ _∷_ (same call) (all-here earlier)
     same making-index = refl
 
 -- a session that is not disturbed stands alike still
-module _ (to : ℕ → ℕ) (iv one other : List ℕ) (alike : Alike to iv one other) where
-  one-kept : (after : List ℕ) → Undisturbed iv one after → Alike to iv after other
+module _ (to : ℕ → ℕ) (iv one other : List ℕ) (alike : StandsAlike to iv one other) where
+  one-kept : (after : List ℕ) → Undisturbed iv one after → StandsAlike to iv after other
   one-kept after u = record { session = u .session ∙ alike .session; place = λ p. rw (u .place) (alike .place p); within = λ p. rw (u .long) (alike .within p) }
 
-  other-kept : (after : List ℕ) → Undisturbed iv other after → Alike to iv one after
+  other-kept : (after : List ℕ) → Undisturbed iv other after → StandsAlike to iv one after
   other-kept after u = record { session = alike .session ∙ sym (u .session); place = λ p. rw (u .place) (alike .place p); within = λ p. rw (u .long) (alike .within p) }
 
 -- after some calls on one table and some on another
@@ -75,7 +75,7 @@ module _ (to : ℕ → ℕ) (iv : List ℕ) (one other : State) (call : Call) (l
   more-other : Ready (answer (elsewhere to call) (after other others) .state)
   more-other = ready-left (after other others) (r .ready-other) (elsewhere to call) later-there
 
-  passed-over : bears iv call ≡ false → Alike to iv (answer call (after one calls) .state .table) (after other others .table)
+  passed-over : bears iv call ≡ false → StandsAlike to iv (answer call (after one calls) .state .table) (after other others .table)
   passed-over e = one-kept to iv _ _ (r .same .stands) _ (undisturbed (after one calls) (r .ready-one) iv call later e)
 
   gone : bears iv call ≡ false → Ran to iv one (call ∷ calls) other others
@@ -102,15 +102,15 @@ module _ (to : ℕ → ℕ) (iv : List ℕ) (one other : State) (strikes : Strik
   unborne : (before : ℕ) (call : Call) → strikes before call ≡ true → bears iv call ≡ false
   unborne before call e = refuted (bears iv call) (λ b. true≢false (sym e ∙ spares before call b))
 
-  pub ran : Ready one → Ready other → Alike to iv (one .table) (other .table) → (calls : List Call) → lentIn calls ≡ []
-      → Ran to iv one calls other (allElsewhere to (left strikes calls))
-  unfolding after toldIn left allElsewhere
+  pub ran : Ready one → Ready other → StandsAlike to iv (one .table) (other .table) → (calls : List Call) → lentIn calls ≡ []
+      → Ran to iv one calls other (allElsewhere to (unstruck strikes calls))
+  unfolding after toldIn unstruck allElsewhere
   ran a b alike [] e = record { ready-one = a; ready-other = b; same = record { told = refl; stands = alike } }
   ran a b alike (call ∷ earlier) e =
       let none = no-setups call earlier e in
       by (strikes (length earlier) call) refl (none .0) (ran a b alike earlier (none .1))
     where
-      by : (t : Bool) → strikes (length earlier) call ≡ t → NoSetup call → Ran to iv one earlier other (allElsewhere to (left strikes earlier))
-          → Ran to iv one (call ∷ earlier) other (allElsewhere to (cond t (left strikes earlier) (call ∷ left strikes earlier)))
+      by : (t : Bool) → strikes (length earlier) call ≡ t → NoSetup call → Ran to iv one earlier other (allElsewhere to (unstruck strikes earlier))
+          → Ran to iv one (call ∷ earlier) other (allElsewhere to (cond t (unstruck strikes earlier) (call ∷ unstruck strikes earlier)))
       by true z later r = gone to iv one other call later earlier _ r (unborne (length earlier) call z)
       by false z later r = stays to iv one other call later earlier _ r

@@ -1,25 +1,23 @@
 -- A client's request, made from the reply to its setup, on any table that calls may be lent: its session's record decides.
 -- Assumes nothing.
-use mathlib.Core.Path.{_≡_, refl, sym, ap, _∙_}
+use mathlib.Core.Path.{_≡_, refl, ap, _∙_}
 use mathlib.Core.Bool.{true, not}
 use mathlib.Core.List.{List}
 use mathlib.Core.Option.{some}
 use Prim.Native.Nat.{ℕ}
 use borrow.Author.Tests.{eq-eqb}
 use Rattle.cells.proofs.Tests.{both}
-use Rattle.hashes.specs.declared.Hash.{Hash}
 use Rattle.hashes.specs.Hashes.{hashMask}
-use Rattle.window.specs.declared.Stepped.{Stepped}
 use Rattle.window.specs.Window.{numberOf, stepOf}
 use Rattle.table.specs.declared.session.Record.{Record}
 use Rattle.table.specs.Record.{freed, windowOf}
-use Rattle.table.specs.Table.{records, isUsed}
+use Rattle.table.specs.Table.{isUsed}
 use Rattle.table.specs.Session.{placeOf}
 use Rattle.table.proofs.Meaning.{is-wellFormed}
 use Rattle.signed.specs.SignedText.{ordersNonce}
 use Rattle.stages.specs.Request.{Request}
 use Rattle.stages.specs.Checks.{first, nowhere}
-use Rattle.stages.specs.Parts.{ivOf, hashOf, nonceOf, stepped, keepsHash, vouchingPart, readingPart, sessionPart, noncePart, admittingPart}
+use Rattle.stages.specs.Parts.{ivOf, hashOf, nonceOf, stepped, keepsHash, sessionPart, admittingPart}
 use Rattle.stages.proofs.Checks.{passed-at}
 use Rattle.stages.proofs.Parts.{session-numbered}
 use Rattle.gate.specs.State.{State}

@@ -1,15 +1,13 @@
 -- What a call that changes one session's record leaves of a table: that session's record turned into another, and every other session as it was.
 -- Assumes nothing.
 use mathlib.Core.Path.{_≡_, refl, sym, ap, subst, _∙_}
-use mathlib.Core.Bool.{Bool, true, false, cond}
+use mathlib.Core.Bool.{true, false, cond}
 use mathlib.Core.List.{List}
 use mathlib.Core.Logic.{_⊎_, inl, inr, ⊎-elim}
 use Prim.Native.Nat.{ℕ, _<_}
 use native.Mathlib.Omega.{arith}
 use borrow.Author.Tests.{eq-eqb}
 use lib.ListN.{length, getD, set, length-set}
-use Rattle.cells.specs.Runs.{same}
-use Rattle.cells.proofs.Equality.{same-not}
 use Rattle.table.specs.declared.session.Record.{Record}
 use Rattle.table.specs.declared.place.Place.{Place}
 use Rattle.table.specs.declared.place.Place.the-variants.{At, Nowhere}
@@ -41,10 +39,6 @@ pub record Turns (iv : List ℕ) (turn : Record → Record) (before after : List
   pub session : sessionIn iv after ≡ turn (sessionIn iv before)
   pub place : placeOf after iv ≡ cond (isUsed (turn (sessionIn iv before))) (placeOf before iv) Nowhere
   pub others : (other : List ℕ) → (other ≡ iv → ⊥) → Undisturbed other before after
-
--- a session's record is used; where there is no session it is free
-pub used-there : (table iv : List ℕ) (place : ℕ) → placeOf table iv ≡ At place → isUsed (sessionIn iv table) ≡ true
-used-there table iv place e = rw e (eq-eqb _ 1 (found-session table iv place e .used))
 
 -- nothing is turned
 module _ (iv : List ℕ) (turn : Record → Record) (before after : List ℕ) (w : WellFormed (records before)) (fit : Whole before)

@@ -1,14 +1,14 @@
 -- Two sessions on one table, whose calls come in turns: what Struck asks of a table and of calls can be met, and each call's number is computed.
 -- Assumes nothing.
 use mathlib.Core.Path.{_≡_, refl, sym, ap, ap₂, subst, _∙_}
-use mathlib.Core.Bool.{Bool, true, false, true≢false, cond, not}
+use mathlib.Core.Bool.{true, false, true≢false, cond, not}
 use mathlib.Core.List.{List, [], _∷_, _++_}
 use mathlib.Core.Logic.{_↔_}
 use mathlib.Core.Option.{some}
 use Prim.Native.Nat.{ℕ, zero, suc, _<_, _^_}
 use native.Mathlib.Omega.{arith}
 use borrow.Author.Tests.{eq-eqb}
-use lib.Dec.{eqb, lit<}
+use lib.Dec.{lit<}
 use lib.ListN.{length, replicate}
 use Rattle.cells.specs.Runs.{Bytes, same, spliced}
 use Rattle.cells.specs.Numbers as Numbers
@@ -17,7 +17,7 @@ use Rattle.cells.proofs.Numbers.{bytes-bytesOf}
 use Rattle.cells.proofs.Equality.{same-self, same-equal, same-comm}
 use Rattle.cells.proofs.Tests.{tested}
 use Rattle.cells.specs.Text.{codes}
-use Rattle.hashes.specs.Hashes.{hashMask, inCommon}
+use Rattle.hashes.specs.Hashes.{inCommon}
 use Rattle.hashes.specs.Hashes as Hashes
 use Rattle.table.specs.declared.session.Record.{Record}
 use Rattle.table.specs.Record.{recordBytes, recordOf, freed, begun, windowOf}
@@ -37,10 +37,9 @@ use Rattle.armor.specs.Keys.{obeys, keys, rankOf, keyNumber, ruleAt, ruleOf}
 use Rattle.armor.specs.Pieces
 use Rattle.armor.specs.Value
 use Rattle.armor.specs.Fields.{contents, times, the, setupFields}
-use Rattle.cells.specs.Spans.{all}
-use Rattle.names.specs.Names.{hasByte, tokenByte, isToken, headerNames}
+use Rattle.names.specs.Names.{headerNames}
 use Rattle.names.specs.Covered.{chosen, coveredNames}
-use Rattle.lines.specs.Lines.{textOf, frontLine, startsLine, linesUpTo, linesIn, goodBlock}
+use Rattle.lines.specs.Lines.{startsLine, linesUpTo, linesIn}
 use Rattle.lines.specs.Values.{timesNamed, repeated}
 use Rattle.window.specs.Window.{bit, numberOf, stepOf}
 use Rattle.stages.specs.Request.{Request}
@@ -57,8 +56,8 @@ use Rattle.gate.specs.Entry.{stateChecks, entryChecks}
 use Rattle.gate.specs.Setup as S
 use Rattle.gate.specs.Setup.{offered, chosenOf, expiryOf, offerPart, lastingPart, roomPart, setupChecks, withSession, setUp}
 use Rattle.demands.specs.History.{Call, judging, judging-one, ending, takenOut, judgedAt, empty, answer, after, lentIn}
-use Rattle.demands.specs.Client.{Message, clientRequest, LentBytes, Fair}
-use Rattle.demands.specs.Struck.{Lendable, borne, bearsOther, left, sessionIn, Alike, here}
+use Rattle.demands.specs.Client.{clientRequest, LentBytes, Fair}
+use Rattle.demands.specs.Struck.{Lendable, borne, bearsOther, unstruck, sessionIn, StandsAlike, here}
 use Rattle.demands.proofs.Shared.Answers.{next, ended-number}
 use Rattle.demands.proofs.Client.{client-nonce}
 use Rattle.demands.proofs.Struck.Calls.{turned, turnedAt, judge-turns, one-turns, end-turns}
@@ -66,7 +65,7 @@ use Rattle.demands.proofs.Struck.Kept.{Ready, ready, ready-left}
 use Rattle.demands.proofs.Struck.Compared.{fits-same, unused, one-ready, nowhere-at}
 use Rattle.demands.proofs.Shared.TakenOut.{Own, lent}
 use Rattle.demands.proofs.Struck.Served.{iv-is, borne-is, unknown, served}
-use Rattle.demands.proofs.Witnesses.{ordering, zeros, offer}
+use Rattle.demands.proofs.Witnesses.{ordering, zeros, offer, saying, fairly}
 
 -- the IVs of two sessions, and their setups at 0 with nonces ordered
 abbrev pub ours : List ℕ
@@ -106,34 +105,13 @@ lendable =
       index = fits-one (records (both-sessions .table)) well;
     }
 
--- a message made at 100 with this nonce, and the request that a session's client makes of it
-abbrev pub numbered : ℕ → Message
-numbered n = record { method = codes "GET"; head = []; aside = []; path = codes "/"; body = []; time = 100; last-time = 0; nonce = n }
-
+-- the request that a session's client makes at 100 with this nonce
 abbrev pub sent : List ℕ → ℕ → Request
-sent iv n = clientRequest (setting iv) (numbered n) 100 (zeros 1024)
+sent iv n = clientRequest (setting iv) (saying n) 100 (zeros 1024)
 
-fair : (iv : List ℕ) (n : ℕ) → n < 2 ^ 32 → Fair (setting iv) (numbered n) 100 (zeros 1024)
-unfolding codes isToken all tokenByte hasByte same textOf goodBlock linesIn linesUpTo startsLine frontLine repeated timesNamed coveredNames chosen headerNames extraNames expiryOf limitsOf
-fair iv n small = record {
-  method-fits = omega arith;
-  head-fits = omega arith;
-  aside-fits = omega arith;
-  path-some = omega arith;
-  path-fits = omega arith;
-  body-fits = omega arith;
-  reply-room = omega arith;
-  method-good = refl;
-  lines = refl;
-  once = refl;
-  time-fits = omega arith;
-  last-time-fits = omega arith;
-  nonce-fits = small;
-  lasts = omega arith;
-  active = omega arith;
-  timely = omega arith;
-  near = omega arith;
-}
+fair : (iv : List ℕ) (n : ℕ) → n < 2 ^ 32 → Fair (setting iv) (saying n) 100 (zeros 1024)
+unfolding linesIn linesUpTo startsLine repeated timesNamed coveredNames chosen headerNames extraNames expiryOf limitsOf
+fair iv n small = fairly (setting iv) n 100 small refl (omega arith) (omega arith) (omega arith) (omega arith)
 
 lent-bytes : (iv : List ℕ) → Bytes iv → LentBytes (setting iv)
 unfolding bytesOf
@@ -199,25 +177,25 @@ module _ {iv other : List ℕ} (party : Party iv other) (n : ℕ) (small : n < 2
   q = sent iv n
 
   own-iv : ivOf q ≡ iv
-  own-iv = iv-is (setting iv) (party .before) (numbered n) 100 (zeros 1024) (lent-bytes iv (party .bytes)) (party .done) (fair iv n small)
+  own-iv = iv-is (setting iv) (party .before) (saying n) 100 (zeros 1024) (lent-bytes iv (party .bytes)) (party .done) (fair iv n small)
 
   bears-own : borne (judging q) ≡ some iv
-  bears-own = borne-is (setting iv) (party .before) (numbered n) 100 (zeros 1024) (lent-bytes iv (party .bytes)) (party .done) (fair iv n small)
+  bears-own = borne-is (setting iv) (party .before) (saying n) 100 (zeros 1024) (lent-bytes iv (party .bytes)) (party .done) (fair iv n small)
 
   -- accepted, it leaves its nonce in its record
   nonce-kept : (r : Record) → turned q 0 r ≡ next n r
   unfolding clientRequest
-  nonce-kept r = ap (λ (k : ℕ). next k r) (client-nonce (setting iv) (party .before) (numbered n) 100 (zeros 1024) (lent-bytes iv (party .bytes)) (party .done) (fair iv n small) refl)
+  nonce-kept r = ap (λ (k : ℕ). next k r) (client-nonce (setting iv) (party .before) (saying n) 100 (zeros 1024) (lent-bytes iv (party .bytes)) (party .done) (fair iv n small) refl)
 
   -- its session's window decides
   decided : (state : State) → Ready state → (r : Record) → sessionIn iv (state .table) ≡ r → r .used ≡ 1 → r .hash ≡ 4 → judged q state .number ≡ numberOf (stepOf (windowOf r) n .verdict)
   unfolding chosenOf Hashes.chosen offered the contents keyNumber rankOf keys same maskOf Numbers.number codes Value.grammar Value.fieldsIn Value.fieldOf Value.pieceGood Value.textObeys Value.carried Pieces.pieces Pieces.upTo Pieces.after decoded full two one Decoding.ending coded sixBits placeIn alphabet counted obeys ruleOf ruleAt isMask isNumeral plain
   decided state ready r is used hash =
-      served (setting iv) (party .before) (numbered n) 100 (zeros 1024) (lent-bytes iv (party .bytes)) (party .done) (fair iv n small) state ready r is used hash refl
+      served (setting iv) (party .before) (saying n) 100 (zeros 1024) (lent-bytes iv (party .bytes)) (party .done) (fair iv n small) state ready r is used hash refl
 
   -- where there is none it is 12
   unserved : (state : State) → Ready state → sessionIn iv (state .table) ≡ freed → judged q state .number ≡ 12
-  unserved state = unknown (setting iv) (party .before) (numbered n) 100 (zeros 1024) (lent-bytes iv (party .bytes)) (party .done) (fair iv n small) state
+  unserved state = unknown (setting iv) (party .before) (saying n) 100 (zeros 1024) (lent-bytes iv (party .bytes)) (party .done) (fair iv n small) state
 
   module _ (state : State) where
     -- on the table
@@ -299,13 +277,13 @@ marked iv = next 1 (new iv)
 pub record DayWitnesses : Type 0 where
   pub setups : lentIn day ≡ []
   pub whole : numbers both-sessions day ≡ 0 ∷ 12 ∷ 16 ∷ 0 ∷ 0 ∷ 0 ∷ []
-  pub struck : left (λ before call. bearsOther ours call) day ≡ without-theirs
+  pub struck : unstruck (λ before call. bearsOther ours call) day ≡ without-theirs
   pub rest : numbers both-sessions without-theirs ≡ 0 ∷ 16 ∷ 0 ∷ []
   pub session : sessionIn ours (after both-sessions day .table) ≡ next 2 (marked ours)
   pub session-of-rest : sessionIn ours (after both-sessions without-theirs .table) ≡ next 2 (marked ours)
 
-struck-out : left (λ before call. bearsOther ours call) day ≡ without-theirs
-unfolding left same
+struck-out : unstruck (λ before call. bearsOther ours call) day ≡ without-theirs
+unfolding unstruck same
 struck-out = rw (bears-own us 1 (lit< tt), bears-own us 2 (lit< tt), bears-own them 1 (lit< tt), bears-own them 2 (lit< tt)) refl
 
 pub day-witnesses : DayWitnesses
@@ -349,8 +327,8 @@ moved (suc (suc place)) = suc (suc (suc place))
 pub record TableWitnesses : Type 0 where
   pub our-lendable : Lendable our-table
   pub their-lendable : Lendable their-table
-  pub ours-alike : (iv : List ℕ) → same iv ours ≡ true → Alike here iv (both-sessions .table) (our-table .table)
-  pub theirs-alike : (iv : List ℕ) → same iv ours ≡ false → Alike moved iv (both-sessions .table) (their-table .table)
+  pub ours-alike : (iv : List ℕ) → same iv ours ≡ true → StandsAlike here iv (both-sessions .table) (our-table .table)
+  pub theirs-alike : (iv : List ℕ) → same iv ours ≡ false → StandsAlike moved iv (both-sessions .table) (their-table .table)
 
 -- the place that a place is
 placed : Place → ℕ
@@ -372,7 +350,7 @@ absent : (iv : List ℕ) → same ours iv ≡ false → same theirs iv ≡ false
 unfolding found records recordOf recordBytes bytesOf number
 absent iv e f = (rw (e, f) refl, rw f refl)
 
-none-alike : (iv : List ℕ) → (placeOf (both-sessions .table) iv ≡ Nowhere) × (placeOf (their-table .table) iv ≡ Nowhere) → Alike moved iv (both-sessions .table) (their-table .table)
+none-alike : (iv : List ℕ) → (placeOf (both-sessions .table) iv ≡ Nowhere) × (placeOf (their-table .table) iv ≡ Nowhere) → StandsAlike moved iv (both-sessions .table) (their-table .table)
 unfolding recordBytes bytesOf
 none-alike iv gone = record {
   session = ap (heldAt (both-sessions .table)) (gone .0) ∙ sym (ap (heldAt (their-table .table)) (gone .1));
@@ -388,13 +366,13 @@ table-witnesses =
     record {
       our-lendable = record { sizes = refl; bytes = bytes-bytesOf 62 (number (our-table .table)); well = our-well; index = fits-one (records (our-table .table)) our-well };
       their-lendable = record { sizes = refl; bytes = bytes-bytesOf 93 (number (their-table .table)); well = their-well; index = fits-one (records (their-table .table)) their-well };
-      ours-alike = λ iv e. subst (λ (v : List ℕ). Alike here v (both-sessions .table) (our-table .table)) (sym (same-equal iv ours e)) (record {
+      ours-alike = λ iv e. subst (λ (v : List ℕ). StandsAlike here v (both-sessions .table) (our-table .table)) (sym (same-equal iv ours e)) (record {
         session = refl;
         place = λ p. (λ z. z, λ z. z);
         within = λ p. (λ h. h, λ h. h);
       });
       theirs-alike = λ iv e. tested (same iv theirs)
-          (λ t. subst (λ (v : List ℕ). Alike moved v (both-sessions .table) (their-table .table)) (sym (same-equal iv theirs t)) (record {
+          (λ t. subst (λ (v : List ℕ). StandsAlike moved v (both-sessions .table) (their-table .table)) (sym (same-equal iv theirs t)) (record {
             session = refl;
             place = λ p. (λ z. ap At (ap moved (ap placed z)), λ z. ap At (sym (moved-back p (sym (ap placed z)))));
             within = moved-within;
