@@ -16,6 +16,7 @@ import model
 import record as rec
 from encoding import netstring
 from faults.catalogue import Fault, nothing
+from histories import Disagreement
 
 HIGHEST = model.HIGHEST
 
@@ -212,6 +213,112 @@ def freed_apart(note, freeing, number):
         ("a request by the thin entry", request_call()._replace(kind="one"), 0),
         ("the other session ended", end_call(IV[::-1]), 0),
     ))
+
+
+# Sessions apart
+
+
+def drawn_day(rng, ivs, count):
+    """So many calls of sessions with these IVs, drawn, each with a note: requests by either entry, endings, and calls that bear no IV."""
+    for _ in range(count):
+        iv, n = rng.choice(ivs), rng.randrange(0, 100, 9)
+        note, call = rng.choice((
+            *[(f"nonce {n}", request_call(iv=iv, n=n))] * 24,
+            ("another text signed", request_call(replaced("text", "text", b""), iv=iv)),
+            ("an old request", request_call(iv=iv, n=n, t=CLOCK - 61)),
+            ("an idle request", request_call(iv=iv, n=n, lt=0)),
+            ("a request at the token's expiry", request_call(replaced("plan", "expiry", CLOCK), iv=iv)),
+            ("an ending", end_call(iv)),
+            ("the index made", index_call()),
+            ("a value of bad grammar", valued(b";", ORDERS)),
+            ("a setup's value", valued(OFFER, ORDERS)),
+        ))
+        if call.kind == "judge" and rng.random() < 0.2:
+            note, call = f"{note}, by the thin entry", call._replace(kind="one")
+        yield note, call
+
+
+def borne(call):
+    """The IV of a request's iv field, if its value has good grammar and fields, or the one that an ending is lent."""
+    if call.kind in ("end", "index"):
+        return calls.named(call).get("iv")
+    fields = request_fields(calls.named(call)["value"])
+    return fields and fields[b"iv"]
+
+
+def played(records, steps):
+    """The calls in turn from these records on, each with its note and what the model answers."""
+    acts = []
+    left = lent(index_call(), records)
+    for note, call in steps:
+        call = call._replace(table=left.table, index=left.index)
+        left = calls.answered(call, bytes([REPLY[1]]) * REPLY[0])
+        acts.append((note, call, left))
+    return acts
+
+
+def told(iv, acts):
+    """Number, reply length and reply buffer of each call that bears an IV, and the record that is found under it at the end."""
+    _, _, last = acts[-1]
+    records = rec.records_of(last.table)
+    place = rec.place_of(records, iv)
+    answers = [(outcome.number, outcome.length, outcome.reply) for _, call, outcome in acts if borne(call) == iv]
+    return answers, None if place is None else records[place]
+
+
+def same_session(iv, acts, others):
+    if told(iv, acts) != told(iv, others):
+        raise Disagreement(f"the session of {iv.hex()} is told otherwise: {told(iv, acts)}, {told(iv, others)}")
+
+
+def by_the_model(acts, of):
+    return ((f"{note}, {of}", call, (outcome.number,)) for note, call, outcome in acts)
+
+
+def struck_out(seed):
+    """A day of three sessions, and for each of them the day without the others' calls."""
+    rng = random.Random(seed)
+    ivs = (IV, IV[::-1], IV[:-1] + b"\0")
+    records = rng.sample([*(rec.fresh(iv, HIGHEST) for iv in ivs), rec.FREE, rec.FREE], 5)
+    steps = list(drawn_day(rng, ivs, 45))
+    whole = played(records, steps)
+    yield from by_the_model(whole, "of three sessions")
+    for iv in ivs:
+        alone = played(records, [step for step in steps if borne(step[1]) in (iv, None)])
+        same_session(iv, whole, alone)
+        yield from by_the_model(alone, "of one session")
+
+
+def on_two_tables(seed):
+    """A day of two makers' sessions on one table, and each maker's calls on a table of its own, at other places and of another size."""
+    rng = random.Random(seed)
+    ours, more, theirs = (rec.fresh(iv, HIGHEST) for iv in (IV, IV[::-1], IV[:-1] + b"\0"))
+    makers = (((ours, more), [ours, rec.FREE, rec.FREE, more]), ((theirs,), [rec.FREE, theirs]))
+    steps = list(drawn_day(rng, [record.iv for record in (ours, more, theirs)], 45))
+    whole = played([ours, theirs, more], steps)
+    yield from by_the_model(whole, "on one table")
+    for sessions, table in makers:
+        ivs = [record.iv for record in sessions]
+        own = played(table, [step for step in steps if borne(step[1]) in ivs])
+        for iv in ivs:
+            same_session(iv, whole, own)
+        yield from by_the_model(own, "on its maker's table")
+
+
+def in_turns():
+    """The day of demands' witness, the sessions' places exchanged: the host takes the table's first record out for the thin entry."""
+    theirs = IV[::-1]
+    records = [rec.fresh(theirs, HIGHEST), rec.fresh(IV, HIGHEST)]
+    ours = [("our first nonce", request_call(n=1), 0), ("our first nonce again", request_call(n=1), 16), ("our next", request_call(n=2), 0)]
+    yield from in_turn(records, (
+        ("their first nonce by the thin entry", request_call(iv=theirs, n=1)._replace(kind="one"), 0),
+        ours[0],
+        ("their session's end", end_call(theirs), 0),
+        ours[1],
+        ("their next nonce", request_call(iv=theirs, n=2), 12),
+        ours[2],
+    ))
+    yield from in_turn(records, ours)
 
 
 # The hash
