@@ -8,9 +8,11 @@
 pub mod Turned
 pub mod Calls
 pub mod Kept
+pub mod One
 pub mod Compared
 pub mod Runs
 pub mod Served
+pub mod Steps
 pub mod Witnesses
 use mathlib.Core.Path.{_≡_, refl, ap, subst, _∙_}
 use mathlib.Core.Bool.{Bool, true, false, false≢true, not}
@@ -52,8 +54,8 @@ spares-own iv before call = by (borne call)
 
 -- the customer's sentence: every call that bears another session's IV is struck out
 pub others-struck : (iv : List ℕ) (state : State) (calls : List Call) → Lendable state → lentIn calls ≡ []
-    → let struck = unstruck (λ before call. bearsOther iv call) calls in
-    (toldIn iv state calls ≡ toldIn iv state struck) × (sessionIn iv (after state calls .table) ≡ sessionIn iv (after state struck .table))
+    → let rest = unstruck (λ before call. bearsOther iv call) calls in
+    (toldIn iv state calls ≡ toldIn iv state rest) × (sessionIn iv (after state calls .table) ≡ sessionIn iv (after state rest .table))
 others-struck iv state calls l setups =
     let same = any-strike iv state calls (λ before call. bearsOther iv call) l setups (spares-own iv) in
     (same .told, same .stands .session)

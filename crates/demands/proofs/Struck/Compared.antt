@@ -5,34 +5,29 @@ use mathlib.Core.Bool.{Bool, true, false, true≢false, false≢true, cond, not}
 use mathlib.Core.List.{List, [], _++_}
 use mathlib.Core.Logic.{_↔_}
 use mathlib.Core.Option.{none, some}
-use Prim.Native.Nat.{ℕ, _*_, _%_, _≤_, _<_}
-use native.Mathlib.Omega.{arith}
-use borrow.Author.Tests.{eqb-true, eq-eqb, leb-true, ltb-true, ltb-false}
-use lib.Dec.{eqb, leb, ltb}
-use lib.ListN.{length, drop, length-take, length-drop}
-use lib.Seq.{take-all}
+use Prim.Native.Nat.{ℕ}
+use borrow.Author.Tests.{eqb-true, eq-eqb}
+use lib.Dec.{eqb}
+use lib.ListN.{length}
 use Rattle.cells.specs.Runs.{same}
 use Rattle.cells.proofs.Equality.{same-self, same-equal}
-use Rattle.cells.proofs.Tests.{tested, both}
 use Rattle.hashes.specs.declared.Hash.{Hash}
 use Rattle.reply.specs.Replies.{invalidation}
 use Rattle.table.specs.declared.session.Record.{Record}
 use Rattle.table.specs.declared.place.Place.{Place}
 use Rattle.table.specs.declared.place.Place.the-variants.{At, Nowhere}
-use Rattle.table.specs.Record.{size, recordOf, Fits, freed}
-use Rattle.table.specs.Table.{places, records, recordAt, isUsed}
+use Rattle.table.specs.Record.{freed}
+use Rattle.table.specs.Table.{records, recordAt, isUsed}
 use Rattle.table.specs.Session.{placeOf, heldAt, without}
 use Rattle.table.specs.WellFormed.{WellFormed}
-use Rattle.table.proofs.Records.{length-records}
-use Rattle.table.proofs.Tests.{refuted}
 use Rattle.table.proofs.Meaning.{is-wellFormed}
 use Rattle.index.specs.Index.{indexOf}
-use Rattle.index.proofs.Held.{fits-one, fits-only, length-indexOf}
+use Rattle.index.proofs.Held.{fits-only}
 use Rattle.stages.specs.Request.{Request}
 use Rattle.stages.specs.Checks.{Check, first, nowhere}
 use Rattle.stages.specs.Parts.{ivOf, tokenOf, hashOf, invalidates, stepped, keepsHash, readingPart, vouchingPart, sessionPart, noncePart, admittingPart}
 use Rattle.gate.specs.State.{State, indexed, untouched, replied}
-use Rattle.gate.specs.Sizes.{longFrom, tableFits, stateFits, requestFits, endFits}
+use Rattle.gate.specs.Sizes.{stateFits, requestFits, endFits}
 use Rattle.gate.specs.Entry.{stateChecks, entryChecks}
 use Rattle.gate.specs.Judge.{entryPart, requestChecks, answered, judged}
 use Rattle.gate.specs.End.{endChecks, ended}
@@ -40,10 +35,10 @@ use Rattle.demands.specs.Effects.{Right}
 use Rattle.demands.specs.History.{Call, setting-up, judging, judging-one, ending, making-index, takenOut, judgedAt, answer}
 use Rattle.demands.specs.Struck.{legible, passes, bears, Told, told, sessionIn, StandsAlike, elsewhere}
 use Rattle.demands.proofs.Shared.Named.{found-session}
-use Rattle.demands.proofs.Shared.TakenOut.{own, one-well, lent}
-use Rattle.demands.proofs.Index.Calls.{Whole}
+use Rattle.demands.proofs.Shared.TakenOut.{one-well}
 use Rattle.demands.proofs.Struck.Turned.{Turns}
 use Rattle.demands.proofs.Struck.Kept.{Ready, NoSetup}
+use Rattle.demands.proofs.Struck.One.{one-right, one-sizes, one-session}
 use Rattle.demands.proofs.Struck.Calls.{turned, turnedAt, judge-turns, one-turns, end-turns}
 
 pub fits-same : (state : State) → Right state → same (state .index) (indexOf (records (state .table))) ≡ true
@@ -116,66 +111,6 @@ module _ (iv : List ℕ) (a b : State) (sizes : stateFits a ≡ stateFits b) (wa
 
   pub end-told : told (ended iv a) ≡ told (ended iv b)
   end-told = ending-tells iv a ∙ ap (λ (cs : List Check). telling (first cs)) end-alike ∙ sym (ending-tells iv b)
-
--- the record that the thin entry is lent, in two tables
-module _ (state : State) (w : WellFormed (records (state .table))) (place : ℕ) where
-  abbrev one : State
-  one = takenOut place state
-
-  one-right : Right one
-  one-right = fits-one (records (one .table)) (one-well state w place)
-
-  one-fits : place < places (state .table) → stateFits one ≡ true
-  unfolding stateFits tableFits
-  one-fits h =
-      let long : length (one .table) ≡ size = omega (arith, length-take size (drop (size * place) (state .table)), length-drop (size * place) (state .table)) in
-      rw (eq-eqb _ _ (length-indexOf (records (one .table)) ∙ ap (λ (n : ℕ). 2 * n) (length-records (one .table))), long) refl
-
-  one-short : (place < places (state .table) → ⊥) → stateFits one ≡ false
-  unfolding stateFits tableFits
-  one-short h =
-      refuted (stateFits one)
-      (λ e.
-      let sizes = both (eqb (length (one .table) % size) 0) (longFrom size (4096 * size) (one .table)) (both (tableFits (one .table)) _ e .0) in
-      let long : size ≤ length (one .table) = leb-true size _ (both (leb size (length (one .table))) _ (sizes .1) .0) in
-      h (omega (arith, length-take size (drop (size * place) (state .table)), length-drop (size * place) (state .table))))
-
-  one-whole : Whole (state .table) → place < places (state .table) → Whole (one .table)
-  one-whole fit h i l =
-      let long : length (one .table) ≡ size = omega (arith, length-take size (drop (size * place) (state .table)), length-drop (size * place) (state .table)) in
-      let zeroth : i ≡ 0 = omega (arith, long) in
-      subst (λ (r : Record). Fits r) (sym (ap (recordAt (one .table)) zeroth ∙ ap recordOf (take-all size (one .table) (omega arith)))) (fit place h)
-
-  pub one-ready : Ready state → place < places (state .table) → Ready one
-  one-ready ready h = record { sizes = one-fits h; whole = one-whole (ready .whole) h; well = one-well state w place; index = one-right }
-
--- the record at a place of the one table and the record where that place is in the other
-module _ (to : ℕ → ℕ) (iv : List ℕ) (a b : State) (wa : WellFormed (records (a .table))) (wb : WellFormed (records (b .table)))
-    (alike : StandsAlike to iv (a .table) (b .table)) (place : ℕ) where
-  one-sizes : stateFits (takenOut place a) ≡ stateFits (takenOut (to place) b)
-  one-sizes =
-      tested (ltb place (places (a .table)))
-      (λ t. let l = ltb-true place (places (a .table)) t in one-fits a wa place l ∙ sym (one-fits b wb (to place) (alike .within place .0 l)))
-      (λ t. let l = ltb-false place (places (a .table)) t in
-      one-short a wa place (λ m. omega arith) ∙ sym (one-short b wb (to place) (λ m. let n = alike .within place .1 m in omega arith)))
-
-  one-session : sessionIn iv (takenOut place a .table) ≡ sessionIn iv (takenOut (to place) b .table)
-  one-session = by (placeOf (takenOut place a .table) iv) refl
-    where
-      by : (p : Place) → placeOf (takenOut place a .table) iv ≡ p → heldAt (takenOut place a .table) p ≡ sessionIn iv (takenOut (to place) b .table)
-      by (At j) e =
-          let mine = own a wa place iv j e in
-          let yours = lent b wb (to place) iv (alike .place place .0 (mine .there)) in
-          ap (heldAt (takenOut place a .table)) (sym e ∙ mine .here) ∙ mine .same-record
-          ∙ ap (heldAt (a .table)) (sym (mine .there)) ∙ alike .session ∙ ap (heldAt (b .table)) (yours .there)
-          ∙ sym (yours .same-record) ∙ ap (heldAt (takenOut (to place) b .table)) (sym (yours .here))
-      by Nowhere e = none (placeOf (takenOut (to place) b .table) iv) refl
-        where
-          none : (p : Place) → placeOf (takenOut (to place) b .table) iv ≡ p → freed ≡ heldAt (takenOut (to place) b .table) p
-          none (At j) f =
-              let mine = lent a wa place iv (alike .place place .1 (own b wb (to place) iv j f .there)) in
-              absurd (true≢false (sym (ap nowhere e) ∙ ap nowhere (mine .here)))
-          none Nowhere f = refl
 
 -- two turns into one record leave a session standing alike
 pub nowhere-at : (i : ℕ) → Nowhere ≡ At i → ⊥

@@ -39,6 +39,7 @@ use Rattle.demands.proofs.Index.Calls.{Whole, zero-or-not, call-right}
 use Rattle.demands.proofs.Struck.Turned.{Undisturbed, Turns}
 use Rattle.demands.proofs.Struck.Calls.{judge-turns, one-turns, end-turns}
 
+-- what a table of bytes, well formed, beside the index that fits it, is and stays
 pub record Ready (state : State) : Type 0 where
   pub sizes : stateFits state ≡ true
   pub whole : Whole (state .table)
@@ -48,6 +49,7 @@ pub record Ready (state : State) : Type 0 where
 pub ready : (state : State) → Lendable state → Ready state
 ready state l = record { sizes = l .sizes; whole = λ i h. recordAt-fits (state .table) i h (l .bytes); well = l .well; index = l .index }
 
+-- a call is no setup
 abbrev pub NoSetup : Call → Type 0
 NoSetup (setting-up s) = ⊥
 NoSetup (judging q) = Unit
