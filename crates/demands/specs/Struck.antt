@@ -25,7 +25,7 @@ use Rattle.demands.specs.Tables.{SessionAt}
 use Rattle.demands.specs.Effects.{Right}
 use Rattle.demands.specs.History.{Call, setting-up, judging, judging-one, ending, making-index, answer, after, lentIn}
 
--- a well-formed table of 1 to 4,096 records and the index that fits it: a state for which no call answers 1, 3 or 22
+-- what a host may lend to calls: a well-formed table of 1 to 4,096 records, and the index that fits it
 pub record Lendable (state : State) : Type 0 where
   pub sizes : stateFits state ≡ true
   pub bytes : Bytes (state .table)
