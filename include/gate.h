@@ -224,8 +224,10 @@ static inline const char *gate_header_name(unsigned bit) {
  *   session_life  seconds from setup to expiry, at most GATE_SESSION_LIFE_MAX; 0: GATE_SESSION_LIFE_DEFAULT
  *
  * clock is the host's, in seconds. table is 1 to GATE_RECORDS_MAX records of GATE_RECORD_BYTES each; it begins as
- * zeros, which is a table of free records, and from then on only these calls write to it. reply has at least
- * GATE_REPLY_MIN bytes; those after the reply keep their contents.
+ * zeros, which is a table of free records, and from then on only these calls write to it. Sites with orders and keys of
+ * their own may share one: no session's requests and endings change what another's are answered. Setups share its room
+ * and its IVs (GATE_TABLE_FULL, GATE_IV_TAKEN). reply has at least GATE_REPLY_MIN bytes; those after the reply keep
+ * their contents.
  *
  * index has GATE_INDEX_ENTRY_BYTES for each record of the table: the places (0, 1, ..) of the used records by rising IV,
  * whose bytes are compared from the first, and then FF FF for each entry that is left; a place has its highest byte

@@ -224,6 +224,7 @@ def drawn_day(rng, ivs, count):
         iv, n = rng.choice(ivs), rng.randrange(0, 100, 9)
         note, call = rng.choice((
             *[(f"nonce {n}", request_call(iv=iv, n=n))] * 24,
+            ("no token", request_call(replaced("token text", "token_text", b"x"), iv=iv)),
             ("another text signed", request_call(replaced("text", "text", b""), iv=iv)),
             ("an old request", request_call(iv=iv, n=n, t=CLOCK - 61)),
             ("an idle request", request_call(iv=iv, n=n, lt=0)),

@@ -31,20 +31,16 @@ use Rattle.gate.proofs.Judging.{not-zero}
 use Rattle.gate.specs.Judge.{requestChecks, judged}
 use Rattle.demands.specs.Effects.{Right, TenOrThirteen}
 use Rattle.demands.specs.History.{Call, setting-up, judging, judging-one, ending, making-index, takenOut, putBack, judgedAt, answer}
-use Rattle.demands.proofs.Shared.Answers.{steppedFor, next, judged-number, judged-table, ordered-table, unordered-table}
+use Rattle.demands.proofs.Shared.Answers.{zero-or-not, steppedFor, next, judged-number, judged-table, ordered-table, unordered-table}
 use Rattle.demands.proofs.Shared.Checks.{accepted-passes}
 use Rattle.demands.proofs.Shared.Others.{passes-finds}
 use Rattle.demands.proofs.Shared.Named.{found-session}
-use Rattle.demands.proofs.Shared.Stored.{respliced}
+use Rattle.demands.proofs.Shared.Stored.{Whole, respliced}
 use Rattle.demands.proofs.Shared.TakenOut.{own, put-back}
 use Rattle.demands.proofs.Shared.Indexes.{cleared-well, laid-right}
 use Rattle.demands.proofs.Untouched as Untouched
 use Rattle.demands.proofs.Untouched.Requests.{two-invalidate}
 use Rattle.demands.proofs.Untouched.Indexes.{made-all}
-
--- by whether a number is 0
-pub zero-or-not : (n : ℕ) → (n ≡ 0) ⊎ (1 ≤ n)
-zero-or-not n = tested (eqb n 0) (λ t. inl (eqb-true n 0 t)) (λ t. let z = eqb-false n 0 t in inr (omega arith))
 
 right-kept : {before after : State} → after ≡ before → Right before → Right after
 right-kept e r = rw e r
@@ -53,10 +49,6 @@ right-kept e r = rw e r
 three-ways : (n : ℕ) → (n ≡ 0) ⊎ (TenOrThirteen n ⊎ ((1 ≤ n) × (TenOrThirteen n → ⊥)))
 three-ways n = ⊎-elim inl (λ o. inr (tested (eqb n 10) (λ t. inl (inl (eqb-true n 10 t))) (λ t. tested (eqb n 13) (λ u. inl (inr (eqb-true n 13 u)))
     (λ u. inr (o, ⊎-elim (eqb-false n 10 t) (eqb-false n 13 u)))))) (zero-or-not n)
-
--- the records of a table hold what their bytes can
-abbrev pub Whole : List ℕ → Type 0
-Whole table = (i : ℕ) → i < places table → R.Fits (recordAt table i)
 
 -- a record whose window takes a nonce keeps its mark and its IV
 next-over : (q : Request) (table index : List ℕ) (place : ℕ) (r : Record) → place < places table → r ≡ recordAt table place → R.Fits r → nonceOf q < 2 ^ 32

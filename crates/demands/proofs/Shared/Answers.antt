@@ -2,13 +2,16 @@
 -- Assumes nothing.
 use mathlib.Core.Path.{_≡_, refl, sym, ap, _∙_}
 use mathlib.Core.Bool.{Bool, true, false, cond}
+use mathlib.Core.Logic.{_⊎_, inl, inr}
 use mathlib.Core.List.{List, []}
-use Prim.Native.Nat.{ℕ, _*_}
+use Prim.Native.Nat.{ℕ, _*_, _≤_}
+use native.Mathlib.Omega.{arith}
 use borrow.Author.Tests.{eqb-true, eqb-false}
 use lib.Dec.{eqb}
 use lib.ListN.{length, drop}
 use lib.Seq.{take-append-seam, drop-append-seam}
 use Rattle.cells.specs.Runs.{spliced, fronted}
+use Rattle.cells.proofs.Tests.{tested}
 use Rattle.hashes.specs.declared.Hash.{Hash}
 use Rattle.hashes.specs.Hashes.{hashMask}
 use Rattle.window.specs.Window.{stepOf}
@@ -29,6 +32,10 @@ use Rattle.gate.specs.Judge.{requestChecks, stateAfter, answered, judged}
 use Rattle.gate.specs.End.{endChecks, ended}
 use Rattle.gate.specs.Remake.{remakeChecks, remade}
 use Rattle.demands.specs.Effects.{Replied}
+
+-- by whether a number is 0
+pub zero-or-not : (n : ℕ) → (n ≡ 0) ⊎ (1 ≤ n)
+zero-or-not n = tested (eqb n 0) (λ t. inl (eqb-true n 0 t)) (λ t. let z = eqb-false n 0 t in inr (omega arith))
 
 -- the number and the table of the outcome that a number picks
 number-by : (n : ℕ) (done refused : Outcome) → done .number ≡ 0 → refused .number ≡ n → (t : Bool) → eqb n 0 ≡ t

@@ -1,4 +1,4 @@
--- A table's bytes with one record laid over a place: that record stands there, and every other byte and record is as before.
+-- A table's bytes, and those with one record laid over a place: that record stands there, and every other byte and record is as before.
 -- Assumes nothing.
 use mathlib.Core.Path.{_≡_, refl, sym, ap, _∙_}
 use mathlib.Core.List.{List, [], _∷_, _++_}
@@ -17,6 +17,10 @@ use Rattle.table.proofs.Records.{length-recordBytes, length-records, records-at
 use Rattle.table.proofs.Found.{taken-at}
 use Rattle.table.proofs.Stored.{stored-here, stored-other}
 use Rattle.demands.specs.Tables.{Replaced}
+
+-- the records of a table hold what their bytes can
+abbrev pub Whole : List ℕ → Type 0
+Whole table = (i : ℕ) → i < places table → Fits (recordAt table i)
 
 spliced-outside : (xs ys : List ℕ) (at i : ℕ) → at + length ys ≤ length xs → (i < at) ⊎ (at + length ys ≤ i)
     → getD (spliced xs at ys) i 0 ≡ getD xs i 0

@@ -30,12 +30,11 @@ use Rattle.demands.specs.Tables.{SessionAt}
 use Rattle.demands.specs.History.{takenOut, judgedAt}
 use Rattle.demands.proofs.Shared.Checks.{accepted-passes}
 use Rattle.demands.proofs.Shared.Answers.{next, ended-number, ended-table, judged-number, judged-table, found-step}
-use Rattle.demands.proofs.Shared.Stored.{respliced}
+use Rattle.demands.proofs.Shared.Stored.{Whole, respliced}
 use Rattle.demands.proofs.Shared.Named.{placed, found-session}
 use Rattle.demands.proofs.Shared.TakenOut.{caught-table, own, put-back}
 use Rattle.demands.proofs.Shared.Passed.{session-passed}
 use Rattle.demands.proofs.Shared.Others.{accepts-zero, passes-finds, passes-window}
-use Rattle.demands.proofs.Index.Calls.{Whole}
 use Rattle.demands.proofs.Struck.Turned.{Turns, unturned, turned-into}
 
 -- what a request's number does to its session's record

@@ -32,10 +32,11 @@ use Rattle.demands.specs.Effects.{Right, TenOrThirteen}
 use Rattle.demands.specs.History.{Call, setting-up, judging, judging-one, ending, making-index, takenOut, answer}
 use Rattle.demands.specs.Struck.{Lendable, legible, passes, bears, sessionIn}
 use Rattle.demands.proofs.Shared.Checks.{accepted-passes, read-through}
-use Rattle.demands.proofs.Shared.Answers.{judged-number, remade-table}
+use Rattle.demands.proofs.Shared.Answers.{zero-or-not, judged-number, remade-table}
 use Rattle.demands.proofs.Shared.Others.{parts}
 use Rattle.demands.proofs.Untouched.{untouched-else}
-use Rattle.demands.proofs.Index.Calls.{Whole, zero-or-not, call-right}
+use Rattle.demands.proofs.Shared.Stored.{Whole}
+use Rattle.demands.proofs.Index.Calls.{call-right}
 use Rattle.demands.proofs.Struck.Turned.{Undisturbed, Turns}
 use Rattle.demands.proofs.Struck.Calls.{judge-turns, one-turns, end-turns}
 

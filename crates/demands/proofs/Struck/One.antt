@@ -28,7 +28,7 @@ use Rattle.demands.specs.Effects.{Right}
 use Rattle.demands.specs.History.{takenOut}
 use Rattle.demands.specs.Struck.{sessionIn, StandsAlike}
 use Rattle.demands.proofs.Shared.TakenOut.{own, one-well, lent}
-use Rattle.demands.proofs.Index.Calls.{Whole}
+use Rattle.demands.proofs.Shared.Stored.{Whole}
 use Rattle.demands.proofs.Struck.Kept.{Ready}
 
 module _ (state : State) (w : WellFormed (records (state .table))) (place : ℕ) where

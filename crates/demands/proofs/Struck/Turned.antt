@@ -22,8 +22,7 @@ use Rattle.table.proofs.Stored.{equal-or-not, Alone, stored-here, stored-other,
 use Rattle.demands.specs.Tables.{Replaced, SessionAt}
 use Rattle.demands.specs.Struck.{sessionIn}
 use Rattle.demands.proofs.Shared.Named.{found-session, session-found}
-use Rattle.demands.proofs.Shared.Stored.{replaced}
-use Rattle.demands.proofs.Index.Calls.{Whole}
+use Rattle.demands.proofs.Shared.Stored.{Whole, replaced}
 
 -- a session is where it was, with the record that it had
 pub record Undisturbed (iv before after : List ℕ) : Type 0 where
