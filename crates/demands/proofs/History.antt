@@ -29,13 +29,12 @@ use Rattle.cells.proofs.Equality.{same-self}
 use Rattle.table.specs.declared.session.Record.{Record}
 use Rattle.table.specs.Record as R
 use Rattle.table.specs.Record.{size, freed}
-use Rattle.table.specs.Table.{places, records}
+use Rattle.table.specs.Table.{records}
 use Rattle.table.specs.WellFormed.{wellFormed}
 use Rattle.table.proofs.Records.{length-records}
 use Rattle.table.proofs.Meaning.{is-wellFormed}
 use Rattle.index.specs.Index.{filled, coded, indexOf}
 use Rattle.index.proofs.Coded.{vacated}
-use Rattle.index.proofs.Held.{fits-only, length-indexOf}
 use Rattle.signed.specs.SignedText.{ordersNonce}
 use Rattle.stages.specs.Request.{Request}
 use Rattle.gate.specs.State.{State}
@@ -51,6 +50,7 @@ use Rattle.demands.specs.History.{Call, setting-up, judging, judging-one
 use Rattle.demands.specs.Effects.{Right}
 use Rattle.demands.specs.Passing.{PassesOthers}
 use Rattle.demands.proofs.Shared.Checks.{never-given}
+use Rattle.demands.proofs.Shared.Indexes.{right-same, right-sized}
 use Rattle.demands.proofs.Shared.TakenOut.{one-well}
 use Rattle.demands.proofs.Index.Calls.{call-right}
 use Rattle.demands.proofs.History.Tables.{Standing, held, empty-records, empty-standing}
@@ -164,7 +164,7 @@ sized n some few state right long =
       eq-eqb (length (state .table) % size) 0 (omega arith),
       le-leb size (length (state .table)) (omega arith),
       le-leb (length (state .table)) (4096 * size) (omega arith),
-      eq-eqb (length (state .index)) (2 * places (state .table)) (ap length (fits-only _ _ right) ∙ length-indexOf (records (state .table)) ∙ ap (λ (k : ℕ). 2 * k) (length-records (state .table))),
+      right-sized state right,
     ) refl
 
 -- after any calls the index is the one that fits
@@ -188,7 +188,7 @@ never-unindexed n some few calls call e = by call e
     state = after (empty n) calls
 
     fits : same (state .index) (indexOf (records (state .table))) ≡ true
-    fits = ap (same (state .index)) (sym (fits-only _ _ (index-right n some few calls))) ∙ same-self (state .index)
+    fits = right-same state (index-right n some few calls)
 
     by : (c : Call) → answer c state .number ≡ 22 → ⊥
     by (setting-up s) e = never-given 22 (setupChecks s state) (λ z. omega arith) (rw fits) (sym (setUp-number s state) ∙ e)

@@ -5,7 +5,7 @@ use mathlib.Core.Bool.{Bool, true, false, cond, _&&_}
 use mathlib.Core.List.{List, _∷_}
 use mathlib.Core.Option.{Option, some}
 use Prim.Native.Nat.{ℕ}
-use borrow.Author.Tests.{eqb-true, eq-eqb}
+use borrow.Author.Tests.{eqb-true}
 use lib.Dec.{eqb}
 use lib.ListN.{getD}
 use Rattle.cells.specs.Runs.{same}
@@ -32,7 +32,7 @@ use Rattle.demands.specs.History.{Call, setting-up, judging, judging-one
 use Rattle.demands.proofs.Shared.Checks.{accepted-passes}
 use Rattle.demands.proofs.Shared.Answers.{steppedFor, setUp-number, setUp-table, begun-table, ended-table, remade-table, next, judged-number, judged-table, found-step, ordered-table, unordered-table}
 use Rattle.demands.proofs.Shared.Passed.{Takes, setup-takes}
-use Rattle.demands.proofs.Shared.Others.{accepts-zero, Finds, passes-finds, passes-window}
+use Rattle.demands.proofs.Shared.Others.{Finds, passes-finds, accepted-step}
 use Rattle.demands.proofs.History.Sessions.{begun-sessions, stepped-sessions}
 use Rattle.demands.proofs.History.One.{one-standing}
 use Rattle.demands.proofs.History.Tables.{Standing, held, stored-standing, without-standing}
@@ -76,14 +76,12 @@ module _ (n : ℕ) (state : State) (ivs : List (List ℕ)) (nonces : List ℕ �
     request-done : (o : Bool) → ordersNonce (q .orders .numbers .mask) ≡ o → first (requestChecks q state) ≡ 0
         → Standing n (steppedFor q (state .table)) ivs (λ iv. keep (o && same (ivOf q) iv) (nonceOf q) (nonces iv)) hashes
     request-done true o e =
-        let passes = accepted-passes q state e in
-        let f = passes-finds q state passes in
+        let f = passes-finds q state (accepted-passes q state e) in
         let h = found-at (records (state .table)) (ivOf q) (f .place) (f .finds) .0 in
-        let accepts = accepts-zero (stepped q (state .table) .verdict) ∙ eq-eqb _ 0 (sym (passes-window q state passes o) ∙ e) in
         rw (ordered-table q (state .table) (f .place) (f .finds) o, held-record f)
         (stored-standing n (state .table) ivs nonces hashes st (f .place) (next (nonceOf q) (old f)) h (stepped-fits (old f) (nonceOf q) (st .sessions .fit (f .place) h) (f .small))
         (stepped-sessions (records (state .table)) ivs nonces hashes (st .sessions) (f .place) (ivOf q) (nonceOf q) (f .finds) (f .small)
-        (rw (held-step f) at accepts)))
+        (rw (held-step f) at (accepted-step q state e o))))
     request-done false o e = rw (unordered-table q (state .table) o) st
 
   request-standing : (q : Request) → Standing n (judged q state .state .table) ivs (λ iv. withAccepted iv (judging q) (judged q state .number) (nonces iv)) hashes

@@ -5,7 +5,7 @@ use mathlib.Core.Bool.{Bool, true, false, cond, _&&_}
 use mathlib.Core.List.{List}
 use mathlib.Core.Option.{Option}
 use Prim.Native.Nat.{ℕ, _*_, _<_}
-use borrow.Author.Tests.{eqb-true, eq-eqb}
+use borrow.Author.Tests.{eqb-true}
 use lib.Dec.{eqb}
 use lib.ListN.{length, getD, set}
 use Rattle.cells.specs.Runs.{spliced, same}
@@ -22,7 +22,7 @@ use Rattle.table.proofs.Sessions.{stepped-fits}
 use Rattle.signed.specs.SignedText.{ordersNonce}
 use Rattle.stages.specs.Request.{Request}
 use Rattle.stages.specs.Checks.{first}
-use Rattle.stages.specs.Parts.{ivOf, nonceOf, stepped, invalidates}
+use Rattle.stages.specs.Parts.{ivOf, nonceOf, invalidates}
 use Rattle.gate.specs.State.{State}
 use Rattle.gate.specs.Judge.{requestChecks, judged}
 use Rattle.demands.specs.History.{takenOut, judgedAt, withNonce}
@@ -30,7 +30,7 @@ use Rattle.demands.proofs.Shared.Checks.{accepted-passes}
 use Rattle.demands.proofs.Shared.Answers.{steppedFor, next, judged-number, judged-table, found-step, ordered-table, unordered-table}
 use Rattle.demands.proofs.Shared.Stored.{respliced}
 use Rattle.demands.proofs.Shared.TakenOut.{caught-table, Own, own, put-back}
-use Rattle.demands.proofs.Shared.Others.{accepts-zero, passes-finds, passes-window}
+use Rattle.demands.proofs.Shared.Others.{passes-finds, accepted-step}
 use Rattle.demands.proofs.History.Sessions.{Sessions, freed-sessions, stepped-sessions}
 use Rattle.demands.proofs.History.Tables.{Standing, held, stored-standing}
 
@@ -67,17 +67,15 @@ module _ (n : ℕ) (state : State) (ivs : List (List ℕ)) (nonces : List ℕ �
     stepped-one : (o : Bool) → ordersNonce (q .orders .numbers .mask) ≡ o → first (requestChecks q (takenOut place state)) ≡ 0
         → Standing n (spliced (state .table) (size * place) (steppedFor q one)) ivs (λ iv. keep (o && same (ivOf q) iv) (nonceOf q) (nonces iv)) hashes
     stepped-one true o e =
-        let passes = accepted-passes q (takenOut place state) e in
-        let f = passes-finds q (takenOut place state) passes in
+        let f = passes-finds q (takenOut place state) (accepted-passes q (takenOut place state) e) in
         let mine = own state (st .sessions .well) place (ivOf q) (f .place) (f .finds) in
         let inside : place < length (records (state .table)) = rw length-records (mine .within) in
         let old : recordAt one 0 ≡ getD (records (state .table)) place freed = mine .same-record ∙ held n (state .table) ivs nonces hashes st place inside in
-        let accepts = accepts-zero (stepped q one .verdict) ∙ eq-eqb _ 0 (sym (passes-window q (takenOut place state) passes o) ∙ e) in
         rw (ordered-table q one 0 (mine .here) o, old)
         (stored (ivOf q) (next (nonceOf q) (getD (records (state .table)) place freed)) mine
         (stepped-fits (getD (records (state .table)) place freed) (nonceOf q) (st .sessions .fit place inside) (f .small))
         (stepped-sessions (records (state .table)) ivs nonces hashes (st .sessions) place (ivOf q) (nonceOf q) (mine .there) (f .small)
-        (rw (found-step q one 0 (mine .here), old) at accepts)))
+        (rw (found-step q one 0 (mine .here), old) at (accepted-step q (takenOut place state) e o))))
     stepped-one false o e = rw (unordered-table q one o) kept
 
     pub one-standing : Standing n (judgedAt place q state .state .table) ivs (λ iv. withNonce iv q (judgedAt place q state .number) (nonces iv)) hashes

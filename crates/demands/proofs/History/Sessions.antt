@@ -28,6 +28,7 @@ use Rattle.table.proofs.Meaning.{freed-sound}
 use Rattle.table.proofs.Stored.{equal-or-not, Alone, stored-here, stored-other, stored-well, found-kept, alone-new, alone-same}
 use Rattle.table.proofs.Sessions.{begun-sound, begun-fits, stepped-sound, stepped-fits, windowOf-with}
 use Rattle.demands.specs.History.{Apart, ivAmong}
+use Rattle.demands.proofs.Shared.Named.{nowhere-at}
 
 -- a record's byte is the mask of a chosen hash
 abbrev pub KeptBy : ℕ → Option Hash → Type 0
@@ -62,9 +63,6 @@ free-sessions n = record {
   where
     here : (i : ℕ) → i < length (replicate n freed) → freed ≡ getD (replicate n freed) i freed
     here i h = sym (getD-replicate n i freed freed (rw length-replicate at h))
-
-different : (i : ℕ) → At i ≡ Nowhere → ⊥
-different i e = let z : _≡_ {A = ℕ} 0 1 = cc in omega arith
 
 module _ (rs : List Record) (i : ℕ) (r : Record) (h : i < length rs) where
   fit-stored : ((j : ℕ) → j < length rs → Fits (getD rs j freed)) → Fits r → (j : ℕ) → j < length (set rs i r) → Fits (getD (set rs i r) j freed)
@@ -158,7 +156,7 @@ module _ (rs : List Record) (ivs : List (List ℕ)) (nonces : List ℕ → List 
       rw none tracks-fresh)
       (λ apart other j n. s .known (apart .1) other j)
       (λ other o. rw o refl)
-      (λ other j n f. rw (same-not iv other (λ p. different j (sym f ∙ sym (ap (found rs) p) ∙ e))) (s .keeps other j f))
+      (λ other j n f. rw (same-not iv other (λ p. nowhere-at j (sym e ∙ ap (found rs) p ∙ f))) (s .keeps other j f))
       (λ apart other o.
       let parts = neither (same other iv) (ivAmong ivs other) o in
       let old = s .new (apart .1) other (parts .1) in
@@ -204,4 +202,4 @@ module _ (rs : List Record) (ivs : List (List ℕ)) (nonces : List ℕ → List 
           m (cc))
 
       gone-from : (other : List ℕ) → found rs other ≡ Nowhere → same iv other ≡ false
-      gone-from other f = same-not iv other (λ p. different i (sym e ∙ ap (found rs) p ∙ f))
+      gone-from other f = same-not iv other (λ p. nowhere-at i (sym f ∙ sym (ap (found rs) p) ∙ e))

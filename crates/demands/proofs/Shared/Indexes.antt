@@ -1,12 +1,16 @@
--- The index that a call leaves fits the table that it leaves.
+-- What an index that fits is to the checks, and that the index that a call leaves fits the table that it leaves.
 -- Assumes nothing.
 use mathlib.Core.Path.{_≡_, refl, sym, ap, _∙_}
+use mathlib.Core.Bool.{true}
 use mathlib.Core.List.{List}
 use mathlib.Core.Logic.{_⊎_, inl, inr}
 use Prim.Native.Nat.{ℕ, _*_, _<_}
 use native.Mathlib.Omega.{arith}
+use borrow.Author.Tests.{eq-eqb}
+use lib.Dec.{eqb}
 use lib.ListN.{length, getD, set, length-set}
-use Rattle.cells.specs.Runs.{spliced}
+use Rattle.cells.specs.Runs.{same, spliced}
+use Rattle.cells.proofs.Equality.{same-self}
 use Rattle.hashes.specs.Hashes.{hashMask}
 use Rattle.table.specs.declared.session.Record.{Record}
 use Rattle.table.specs.declared.place.Place.{Place}
@@ -19,7 +23,8 @@ use Rattle.table.proofs.Records.{length-records, records-at, records-spliced, r
 use Rattle.table.proofs.Found.{found-at}
 use Rattle.table.proofs.Sessions.{begun-sound, begun-fits}
 use Rattle.table.proofs.Stored.{equal-or-not, stored-here, stored-other, stored-well, alone-new}
-use Rattle.index.proofs.Held.{fits-one}
+use Rattle.index.specs.Index.{indexOf}
+use Rattle.index.proofs.Held.{fits-one, fits-only, length-indexOf}
 use Rattle.index.proofs.Kept.{freed-well}
 use Rattle.index.proofs.Alike.{fits-same}
 use Rattle.gate.specs.Calls.{Setup}
@@ -29,6 +34,14 @@ use Rattle.demands.specs.Effects.{Right}
 use Rattle.demands.proofs.Shared.Stored.{taken-within}
 use Rattle.demands.proofs.Shared.Answers.{begun-table}
 use Rattle.demands.proofs.Shared.Passed.{Takes}
+
+-- what an index that fits is to the checks
+pub right-same : (state : State) → Right state → same (state .index) (indexOf (records (state .table))) ≡ true
+right-same state right = ap (same (state .index)) (sym (fits-only _ _ right)) ∙ same-self (state .index)
+
+pub right-sized : (state : State) → Right state → eqb (length (state .index)) (2 * places (state .table)) ≡ true
+right-sized state right =
+    eq-eqb _ _ (ap length (fits-only _ _ right) ∙ length-indexOf (records (state .table)) ∙ ap (λ (n : ℕ). 2 * n) (length-records (state .table)))
 
 -- a record freed
 pub cleared-well : (table : List ℕ) (place : ℕ) → place < places table → WellFormed (records table) → WellFormed (records (with-record table (At place) freed))

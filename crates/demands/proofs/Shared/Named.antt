@@ -17,6 +17,10 @@ use Rattle.table.specs.Session.{placeOf, with-record, without}
 use Rattle.demands.specs.Tables.{Replaced, SessionAt, Session}
 use Rattle.demands.proofs.Shared.Stored.{replaced}
 
+-- nowhere is no place
+pub nowhere-at : (i : ℕ) → Nowhere ≡ At i → ⊥
+nowhere-at i e = true≢false (ap nowhere e)
+
 -- what it says that a place is somewhere
 pub placed : (p : Place) → nowhere p ≡ false → (i : ℕ) × (p ≡ At i)
 placed (At i) e = (i, refl)

@@ -1,11 +1,12 @@
 -- A request that passes the checks other than those of its nonce: it has a session, its nonce fits in a record, and where nonces are
 -- ordered its session's window decides.
 -- Assumes nothing.
-use mathlib.Core.Path.{_≡_, refl, ap, _∙_}
+use mathlib.Core.Path.{_≡_, refl, sym, ap, _∙_}
 use mathlib.Core.Bool.{Bool, true, cond, _&&_}
 use mathlib.Core.List.{[], _++_, append-nil}
 use Prim.Native.Nat.{ℕ, _<_, _^_}
 use native.Mathlib.Omega.{arith}
+use borrow.Author.Tests.{eq-eqb}
 use lib.Dec.{eqb}
 use Rattle.window.specs.declared.Verdict.{Verdict}
 use Rattle.window.specs.declared.Verdict.the-variants.{Accepted, TooOld, Seen}
@@ -22,7 +23,7 @@ use Rattle.stages.proofs.Checks.{none-holds}
 use Rattle.gate.proofs.Numbers.{entry-numbered}
 use Rattle.stages.proofs.Parts.{reading-numbered, vouching-numbered}
 use Rattle.demands.specs.Passing.{PassesOthers}
-use Rattle.demands.proofs.Shared.Checks.{nonce-decides, opens, finds}
+use Rattle.demands.proofs.Shared.Checks.{accepted-passes, nonce-decides, opens, finds}
 use Rattle.demands.proofs.Shared.Named.{placed}
 use Rattle.demands.proofs.Shared.Passed.{all-passed}
 use Rattle.demands.proofs.Shared.Carried.{nonce-small}
@@ -73,3 +74,7 @@ module _ (q : Request) (state : State) where
       nonce-decides q state e
       ∙ ap (λ (t : Bool). cond (t && eqb v 15) 15 (cond (t && eqb v 16) 16 0)) o
       ∙ verdict-number (stepped q (state .table) .verdict)
+
+  -- an accepted request's nonce is one that its session's window accepts
+  pub accepted-step : first (requestChecks q state) ≡ 0 → ordered q ≡ true → isAccepted (stepped q (state .table) .verdict) ≡ true
+  accepted-step e o = accepts-zero (stepped q (state .table) .verdict) ∙ eq-eqb _ 0 (sym (passes-window (accepted-passes q state e) o) ∙ e)

@@ -19,7 +19,6 @@ use Rattle.table.proofs.Records.{length-records, length-recordBytes, records-at
 use Rattle.stages.specs.Parts.{invalidates}
 use Rattle.gate.specs.State.{State}
 use Rattle.gate.specs.Remake.{remade}
-use Rattle.demands.specs.Tables.{SessionAt}
 use Rattle.demands.specs.History.{takenOut, caughtUp}
 use Rattle.demands.proofs.Shared.Answers.{remade-table}
 use Rattle.demands.proofs.Shared.Named.{found-session, session-found}
@@ -36,33 +35,18 @@ module _ (state : State) (w : WellFormed (records (state .table))) (place : ℕ)
   abbrev one : List ℕ
   one = takenOut place state .table
 
-  -- a session that is found there: the record is whole, and it is the table's own
-  pub record Own (iv : List ℕ) : Type 0 where
-    pub within : place < places (state .table)
-    pub whole : length one ≡ size
-    pub here : placeOf one iv ≡ At 0
-    pub same-record : recordAt one 0 ≡ recordAt (state .table) place
-    pub there : placeOf (state .table) iv ≡ At place
+  -- at a place of the table it is whole, and it is the record there
+  pub one-long : place < places (state .table) → length one ≡ size
+  one-long h = omega (arith, length-take size (drop (size * place) (state .table)), length-drop (size * place) (state .table))
 
-  pub own : (iv : List ℕ) (j : ℕ) → placeOf one iv ≡ At j → Own iv
-  own iv j e =
-      let s = found-session one iv j e in
-      let size-is : length one ≡ size = omega (arith, s .within, length-take size (drop (size * place) (state .table)), length-drop (size * place) (state .table)) in
-      let first-place : j ≡ 0 = omega (arith, s .within) in
-      let within : place < places (state .table) = omega (arith, length-take size (drop (size * place) (state .table)), length-drop (size * place) (state .table)) in
-      let same-record : recordAt one 0 ≡ recordAt (state .table) place = ap recordOf (take-all size one (omega arith)) in
-      let there : SessionAt (state .table) iv place = record {
-        within = within;
-        used = sym (ap (λ (r : Record). r .used) same-record) ∙ subst (λ (i : ℕ). recordAt one i .used ≡ 1) first-place (s .used);
-        iv = sym (ap (λ (r : Record). r .iv) same-record) ∙ subst (λ (i : ℕ). recordAt one i .iv ≡ iv) first-place (s .iv);
-      } in
-      record {
-        within = within;
-        whole = size-is;
-        here = e ∙ ap At first-place;
-        same-record = same-record;
-        there = session-found (state .table) iv place w there;
-      }
+  pub one-record : place < places (state .table) → recordAt one 0 ≡ recordAt (state .table) place
+  one-record h = ap recordOf (take-all size one (omega (arith, one-long h)))
+
+  -- where there is a record in it, it is such a one, and there is no other
+  pub one-place : (i : ℕ) → i < places one → (place < places (state .table)) × (i ≡ 0)
+  one-place i h =
+      let long = length-take size (drop (size * place) (state .table)) in
+      (omega (arith, long, length-drop (size * place) (state .table)), omega (arith, long))
 
   -- a table of that record alone is well formed
   pub one-well : WellFormed (records one)
@@ -73,26 +57,40 @@ module _ (state : State) (w : WellFormed (records (state .table))) (place : ℕ)
     where
       only : (i : ℕ) → i < places one → Sound (getD (records one) i freed)
       only i h =
-          let long = length-take size (drop (size * place) (state .table)) in
-          let within : place < places (state .table) = omega (arith, long, length-drop (size * place) (state .table)) in
-          let zeroth : i ≡ 0 = omega (arith, long) in
+          let here = one-place i h in
           subst (λ (r : Record). Sound r)
-          (sym (records-at one i h ∙ ap (recordAt one) zeroth ∙ ap recordOf (take-all size one (omega arith)) ∙ sym (records-at (state .table) place within)))
-          (w .each place (rw length-records within))
+          (sym (records-at one i h ∙ ap (recordAt one) (here .1) ∙ one-record (here .0) ∙ sym (records-at (state .table) place (here .0))))
+          (w .each place (rw length-records (here .0)))
 
-  -- a session of the table is found in its record
+  -- a session that is found in it is the table's own
+  pub record Own (iv : List ℕ) : Type 0 where
+    pub within : place < places (state .table)
+    pub whole : length one ≡ size
+    pub here : placeOf one iv ≡ At 0
+    pub same-record : recordAt one 0 ≡ recordAt (state .table) place
+    pub there : placeOf (state .table) iv ≡ At place
+
+  owned : (iv : List ℕ) → place < places (state .table) → placeOf one iv ≡ At 0 → placeOf (state .table) iv ≡ At place → Own iv
+  owned iv h e f = record { within = h; whole = one-long h; here = e; same-record = one-record h; there = f }
+
+  pub own : (iv : List ℕ) (j : ℕ) → placeOf one iv ≡ At j → Own iv
+  own iv j e =
+      let within = one-place j (found-session one iv j e .within) in
+      let here : placeOf one iv ≡ At 0 = e ∙ ap At (within .1) in
+      let s = found-session one iv 0 here in
+      let is = sym (one-record (within .0)) in
+      owned iv (within .0) here
+      (session-found (state .table) iv place w
+      (record { within = within .0; used = ap (λ (r : Record). r .used) is ∙ s .used; iv = ap (λ (r : Record). r .iv) is ∙ s .iv }))
+
+  -- and a session of the table is found in its record
   pub lent : (iv : List ℕ) → placeOf (state .table) iv ≡ At place → Own iv
   lent iv e =
       let s = found-session (state .table) iv place e in
-      let whole : length one ≡ size = omega (arith, s .within, length-take size (drop (size * place) (state .table)), length-drop (size * place) (state .table)) in
-      let same-record : recordAt one 0 ≡ recordAt (state .table) place = ap recordOf (take-all size one (omega arith)) in
-      record {
-        within = s .within;
-        whole = whole;
-        here = session-found one iv 0 one-well (record { within = omega (arith, whole); used = ap (λ (r : Record). r .used) same-record ∙ s .used; iv = ap (λ (r : Record). r .iv) same-record ∙ s .iv });
-        same-record = same-record;
-        there = e;
-      }
+      let is = one-record (s .within) in
+      owned iv (s .within)
+      (session-found one iv 0 one-well
+      (record { within = omega (arith, one-long (s .within)); used = ap (λ (r : Record). r .used) is ∙ s .used; iv = ap (λ (r : Record). r .iv) is ∙ s .iv })) e
 
   -- another record laid over it, put back, is that record laid over its place
   pub put-back : (r : Record) → length one ≡ size → length (r .iv) ≡ 12

@@ -1,11 +1,11 @@
 -- A request and an ending turn the record of the session whose IV they bear, and disturb no other.
 -- Assumes nothing.
 use mathlib.Core.Path.{_≡_, refl, sym, ap, subst, _∙_}
-use mathlib.Core.Bool.{Bool, true, false, true≢false, cond}
+use mathlib.Core.Bool.{Bool, true, false, cond}
 use mathlib.Core.List.{List}
 use mathlib.Core.Logic.{inl, inr}
 use Prim.Native.Nat.{ℕ, _*_, _<_, _^_}
-use borrow.Author.Tests.{eqb-true, eq-eqb}
+use borrow.Author.Tests.{eqb-true}
 use lib.Dec.{eqb}
 use Rattle.cells.specs.Runs.{spliced}
 use Rattle.window.specs.Window.{stepOf}
@@ -31,10 +31,10 @@ use Rattle.demands.specs.History.{takenOut, judgedAt}
 use Rattle.demands.proofs.Shared.Checks.{accepted-passes}
 use Rattle.demands.proofs.Shared.Answers.{next, ended-number, ended-table, judged-number, judged-table, found-step}
 use Rattle.demands.proofs.Shared.Stored.{Whole, respliced}
-use Rattle.demands.proofs.Shared.Named.{placed, found-session}
+use Rattle.demands.proofs.Shared.Named.{nowhere-at, placed, found-session}
 use Rattle.demands.proofs.Shared.TakenOut.{caught-table, own, put-back}
 use Rattle.demands.proofs.Shared.Passed.{session-passed}
-use Rattle.demands.proofs.Shared.Others.{accepts-zero, passes-finds, passes-window}
+use Rattle.demands.proofs.Shared.Others.{passes-finds, accepted-step}
 use Rattle.demands.proofs.Struck.Turned.{Turns, unturned, turned-into}
 
 -- what a request's number does to its session's record
@@ -47,11 +47,7 @@ Accepts q r = (isAccepted (stepOf (windowOf r) (nonceOf q) .verdict) ≡ true) �
 
 taken : (q : Request) (state : State) (place : ℕ) → first (requestChecks q state) ≡ 0 → ordered q ≡ true → placeOf (state .table) (ivOf q) ≡ At place
     → Accepts q (recordAt (state .table) place)
-taken q state place e o at =
-    let passes = accepted-passes q state e in (
-      rw (found-step q (state .table) place at) at (accepts-zero (stepped q (state .table) .verdict) ∙ eq-eqb _ 0 (sym (passes-window q state passes o) ∙ e)),
-      passes-finds q state passes .small,
-    )
+taken q state place e o at = (rw (found-step q (state .table) place at) at (accepted-step q state e o), passes-finds q state (accepted-passes q state e) .small)
 
 -- the next record, as the definitions put it
 next-is : (q : Request) (table : List ℕ) (place : ℕ) → placeOf table (ivOf q) ≡ At place → nextOf q table ≡ next (nonceOf q) (recordAt table place)
@@ -105,7 +101,7 @@ module _ (q : Request) (state : State) (w : WellFormed (records (state .table)))
       by : (t : Bool) → eqb n 0 ≡ t → (u : Bool) → cond t (cond (ordered q) (next (nonceOf q) freed) freed) (cond u freed freed) ≡ freed
       by true z u =
           let f = passes-finds q state (accepted-passes q state (eqb-true n 0 z)) in
-          absurd (true≢false (sym (ap nowhere none) ∙ ap nowhere (f .finds)))
+          absurd (nowhere-at (f .place) (sym none ∙ f .finds))
       by false z true = refl
       by false z false = refl
 

@@ -1,7 +1,7 @@
 -- Two tables in which a session stands alike: a call that bears its IV tells the same on both, and leaves it standing alike.
 -- Assumes nothing.
 use mathlib.Core.Path.{_≡_, refl, sym, ap, ap₂, subst, _∙_}
-use mathlib.Core.Bool.{Bool, true, false, true≢false, false≢true, cond, not}
+use mathlib.Core.Bool.{Bool, true, false, false≢true, cond, not}
 use mathlib.Core.List.{List, [], _++_}
 use mathlib.Core.Logic.{_↔_}
 use mathlib.Core.Option.{none, some}
@@ -10,7 +10,7 @@ use borrow.Author.Tests.{eqb-true, eq-eqb}
 use lib.Dec.{eqb}
 use lib.ListN.{length}
 use Rattle.cells.specs.Runs.{same}
-use Rattle.cells.proofs.Equality.{same-self, same-equal}
+use Rattle.cells.proofs.Equality.{same-equal}
 use Rattle.hashes.specs.declared.Hash.{Hash}
 use Rattle.reply.specs.Replies.{invalidation}
 use Rattle.table.specs.declared.session.Record.{Record}
@@ -21,8 +21,6 @@ use Rattle.table.specs.Table.{records, recordAt, isUsed}
 use Rattle.table.specs.Session.{placeOf, heldAt, without}
 use Rattle.table.specs.WellFormed.{WellFormed}
 use Rattle.table.proofs.Meaning.{is-wellFormed}
-use Rattle.index.specs.Index.{indexOf}
-use Rattle.index.proofs.Held.{fits-only}
 use Rattle.stages.specs.Request.{Request}
 use Rattle.stages.specs.Checks.{Check, first, nowhere}
 use Rattle.stages.specs.Parts.{ivOf, tokenOf, hashOf, invalidates, stepped, keepsHash, readingPart, vouchingPart, sessionPart, noncePart, admittingPart}
@@ -34,15 +32,13 @@ use Rattle.gate.specs.End.{endChecks, ended}
 use Rattle.demands.specs.Effects.{Right}
 use Rattle.demands.specs.History.{Call, setting-up, judging, judging-one, ending, making-index, takenOut, judgedAt, answer}
 use Rattle.demands.specs.Struck.{legible, passes, bears, Told, told, sessionIn, StandsAlike, elsewhere}
-use Rattle.demands.proofs.Shared.Named.{found-session}
+use Rattle.demands.proofs.Shared.Named.{nowhere-at, found-session}
+use Rattle.demands.proofs.Shared.Indexes.{right-same}
 use Rattle.demands.proofs.Shared.TakenOut.{one-well}
 use Rattle.demands.proofs.Struck.Turned.{Turns}
 use Rattle.demands.proofs.Struck.Kept.{Ready, NoSetup}
 use Rattle.demands.proofs.Struck.One.{one-right, one-sizes, one-session}
 use Rattle.demands.proofs.Struck.Calls.{turned, turnedAt, judge-turns, one-turns, end-turns}
-
-pub fits-same : (state : State) → Right state → same (state .index) (indexOf (records (state .table))) ≡ true
-fits-same state right = ap (same (state .index)) (sym (fits-only _ _ right)) ∙ same-self (state .index)
 
 -- whether there is a session stands in its record
 pub unused : (iv table : List ℕ) → nowhere (placeOf table iv) ≡ not (isUsed (sessionIn iv table))
@@ -85,7 +81,7 @@ module _ (q : Request) (a b : State) (sizes : stateFits a ≡ stateFits b) (wa :
     (ra : Right a) (rb : Right b) (session : sessionIn (ivOf q) (a .table) ≡ sessionIn (ivOf q) (b .table)) where
   entry-alike : entryPart q a ≡ entryPart q b
   unfolding entryPart entryChecks stateChecks requestFits
-  entry-alike = rw (sizes, is-wellFormed _ wa, is-wellFormed _ wb, fits-same a ra, fits-same b rb) refl
+  entry-alike = rw (sizes, is-wellFormed _ wa, is-wellFormed _ wb, right-same a ra, right-same b rb) refl
 
   admitting-alike : admittingPart q (a .table) ≡ admittingPart q (b .table)
   unfolding sessionPart noncePart keepsHash stepped
@@ -107,15 +103,12 @@ module _ (iv : List ℕ) (a b : State) (sizes : stateFits a ≡ stateFits b) (wa
     (ra : Right a) (rb : Right b) (session : sessionIn iv (a .table) ≡ sessionIn iv (b .table)) where
   end-alike : endChecks iv a ≡ endChecks iv b
   unfolding endChecks stateChecks endFits
-  end-alike = rw (sizes, is-wellFormed _ wa, is-wellFormed _ wb, fits-same a ra, fits-same b rb, alike-nowhere iv (a .table) (b .table) session) refl
+  end-alike = rw (sizes, is-wellFormed _ wa, is-wellFormed _ wb, right-same a ra, right-same b rb, alike-nowhere iv (a .table) (b .table) session) refl
 
   pub end-told : told (ended iv a) ≡ told (ended iv b)
   end-told = ending-tells iv a ∙ ap (λ (cs : List Check). telling (first cs)) end-alike ∙ sym (ending-tells iv b)
 
 -- two turns into one record leave a session standing alike
-pub nowhere-at : (i : ℕ) → Nowhere ≡ At i → ⊥
-nowhere-at i e = true≢false (ap nowhere e)
-
 alike-after : (to : ℕ → ℕ) (iv a b a' b' : List ℕ) (f g : Record → Record) → Turns iv f a a' → Turns iv g b b' → StandsAlike to iv a b → f (sessionIn iv a) ≡ g (sessionIn iv b)
     → StandsAlike to iv a' b'
 alike-after to iv a b a' b' f g ta tb alike e = record {

@@ -6,7 +6,7 @@ use mathlib.Core.List.{List}
 use mathlib.Core.Logic.{_⊎_, inl, inr, ⊎-elim}
 use mathlib.Core.Option.{some, none}
 use Prim.Native.Nat.{ℕ, _*_, _≤_}
-use borrow.Author.Tests.{eq-eqb, not-false}
+use borrow.Author.Tests.{not-false}
 use lib.ListN.{length}
 use Rattle.cells.specs.Runs.{same}
 use Rattle.cells.proofs.Equality.{same-self}
@@ -15,9 +15,7 @@ use Rattle.table.specs.declared.session.Record.{Record}
 use Rattle.table.specs.Table.{places, records}
 use Rattle.table.specs.Session.{placeOf}
 use Rattle.table.specs.WellFormed.{WellFormed}
-use Rattle.table.proofs.Records.{length-records}
 use Rattle.table.proofs.Sessions.{recordAt-fits}
-use Rattle.index.proofs.Held.{fits-only, length-indexOf}
 use Rattle.armor.specs.Fields.{requestFields}
 use Rattle.stages.specs.Request.{Request}
 use Rattle.stages.specs.Checks.{first}
@@ -34,6 +32,7 @@ use Rattle.demands.specs.Struck.{Lendable, legible, passes, bears, sessi
 use Rattle.demands.proofs.Shared.Checks.{accepted-passes, read-through}
 use Rattle.demands.proofs.Shared.Answers.{zero-or-not, judged-number, remade-table}
 use Rattle.demands.proofs.Shared.Others.{parts}
+use Rattle.demands.proofs.Shared.Indexes.{right-sized}
 use Rattle.demands.proofs.Untouched.{untouched-else}
 use Rattle.demands.proofs.Shared.Stored.{Whole}
 use Rattle.demands.proofs.Index.Calls.{call-right}
@@ -62,7 +61,7 @@ NoSetup making-index = Unit
 sizes-left : (before after : State) → length (after .table) ≡ length (before .table) → Right after → stateFits before ≡ true → stateFits after ≡ true
 unfolding stateFits tableFits
 sizes-left before after long right fits =
-    rw (eq-eqb (length (after .index)) (2 * places (after .table)) (ap length (fits-only _ _ right) ∙ length-indexOf (records (after .table)) ∙ ap (λ (n : ℕ). 2 * n) (length-records (after .table))), long)
+    rw (right-sized after right, long)
     (rw (both (tableFits (before .table)) (exactly (2 * places (before .table)) (before .index)) fits .0) refl)
 
 -- a request that is not legible is refused before its session is looked for, and changes nothing

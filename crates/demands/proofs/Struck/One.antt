@@ -1,33 +1,32 @@
 -- The record that the thin entry is lent out of a table that calls may be lent, and out of two in which a session stands alike.
 -- Assumes nothing.
 use mathlib.Core.Path.{_≡_, refl, sym, ap, subst, _∙_}
-use mathlib.Core.Bool.{true, false, true≢false}
+use mathlib.Core.Bool.{true, false}
 use mathlib.Core.List.{List}
 use mathlib.Core.Option.{none}
 use Prim.Native.Nat.{ℕ, _*_, _%_, _≤_, _<_}
 use native.Mathlib.Omega.{arith}
-use borrow.Author.Tests.{eq-eqb, leb-true, ltb-true, ltb-false}
+use borrow.Author.Tests.{leb-true, ltb-true, ltb-false}
 use lib.Dec.{eqb, leb, ltb}
-use lib.ListN.{length, drop, length-take, length-drop}
-use lib.Seq.{take-all}
+use lib.ListN.{length}
 use Rattle.cells.proofs.Tests.{tested, both}
 use Rattle.table.specs.declared.session.Record.{Record}
 use Rattle.table.specs.declared.place.Place.{Place}
 use Rattle.table.specs.declared.place.Place.the-variants.{At, Nowhere}
-use Rattle.table.specs.Record.{size, recordOf, Fits, freed}
+use Rattle.table.specs.Record.{size, Fits, freed}
 use Rattle.table.specs.Table.{places, records, recordAt}
 use Rattle.table.specs.Session.{placeOf, heldAt}
 use Rattle.table.specs.WellFormed.{WellFormed}
-use Rattle.table.proofs.Records.{length-records}
 use Rattle.table.proofs.Tests.{refuted}
-use Rattle.index.proofs.Held.{fits-one, length-indexOf}
-use Rattle.stages.specs.Checks.{nowhere}
+use Rattle.index.proofs.Held.{fits-one}
 use Rattle.gate.specs.State.{State}
 use Rattle.gate.specs.Sizes.{longFrom, tableFits, stateFits}
 use Rattle.demands.specs.Effects.{Right}
 use Rattle.demands.specs.History.{takenOut}
 use Rattle.demands.specs.Struck.{sessionIn, StandsAlike}
-use Rattle.demands.proofs.Shared.TakenOut.{own, one-well, lent}
+use Rattle.demands.proofs.Shared.Named.{nowhere-at}
+use Rattle.demands.proofs.Shared.TakenOut.{one-long, one-record, one-place, one-well, own, lent}
+use Rattle.demands.proofs.Shared.Indexes.{right-sized}
 use Rattle.demands.proofs.Shared.Stored.{Whole}
 use Rattle.demands.proofs.Struck.Kept.{Ready}
 
@@ -40,9 +39,7 @@ module _ (state : State) (w : WellFormed (records (state .table))) (place : ℕ)
 
   one-fits : place < places (state .table) → stateFits one ≡ true
   unfolding stateFits tableFits
-  one-fits h =
-      let long : length (one .table) ≡ size = omega (arith, length-take size (drop (size * place) (state .table)), length-drop (size * place) (state .table)) in
-      rw (eq-eqb _ _ (length-indexOf (records (one .table)) ∙ ap (λ (n : ℕ). 2 * n) (length-records (one .table))), long) refl
+  one-fits h = rw (right-sized one one-right, one-long state w place h) refl
 
   one-short : (place < places (state .table) → ⊥) → stateFits one ≡ false
   unfolding stateFits tableFits
@@ -51,16 +48,15 @@ module _ (state : State) (w : WellFormed (records (state .table))) (place : ℕ)
       (λ e.
       let sizes = both (eqb (length (one .table) % size) 0) (longFrom size (4096 * size) (one .table)) (both (tableFits (one .table)) _ e .0) in
       let long : size ≤ length (one .table) = leb-true size _ (both (leb size (length (one .table))) _ (sizes .1) .0) in
-      h (omega (arith, length-take size (drop (size * place) (state .table)), length-drop (size * place) (state .table))))
+      h (one-place state w place 0 (omega (arith, long)) .0))
 
-  one-whole : Whole (state .table) → place < places (state .table) → Whole (one .table)
-  one-whole fit h i l =
-      let long : length (one .table) ≡ size = omega (arith, length-take size (drop (size * place) (state .table)), length-drop (size * place) (state .table)) in
-      let zeroth : i ≡ 0 = omega (arith, long) in
-      subst (λ (r : Record). Fits r) (sym (ap (recordAt (one .table)) zeroth ∙ ap recordOf (take-all size (one .table) (omega arith)))) (fit place h)
+  one-whole : Whole (state .table) → Whole (one .table)
+  one-whole fit i l =
+      let here = one-place state w place i l in
+      subst (λ (r : Record). Fits r) (sym (ap (recordAt (one .table)) (here .1) ∙ one-record state w place (here .0))) (fit place (here .0))
 
   pub one-ready : Ready state → place < places (state .table) → Ready one
-  one-ready ready h = record { sizes = one-fits h; whole = one-whole (ready .whole) h; well = one-well state w place; index = one-right }
+  one-ready ready h = record { sizes = one-fits h; whole = one-whole (ready .whole); well = one-well state w place; index = one-right }
 
 -- the record at a place of the one table and the record where that place is in the other
 module _ (to : ℕ → ℕ) (iv : List ℕ) (a b : State) (wa : WellFormed (records (a .table))) (wb : WellFormed (records (b .table)))
@@ -87,5 +83,5 @@ module _ (to : ℕ → ℕ) (iv : List ℕ) (a b : State) (wa : WellFormed (reco
           none : (p : Place) → placeOf (takenOut (to place) b .table) iv ≡ p → freed ≡ heldAt (takenOut (to place) b .table) p
           none (At j) f =
               let mine = lent a wa place iv (alike .place place .1 (own b wb (to place) iv j f .there)) in
-              absurd (true≢false (sym (ap nowhere e) ∙ ap nowhere (mine .here)))
+              absurd (nowhere-at 0 (sym e ∙ mine .here))
           none Nowhere f = refl

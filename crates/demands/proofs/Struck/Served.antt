@@ -36,7 +36,8 @@ use Rattle.demands.proofs.Shared.Answers.{judged-number}
 use Rattle.demands.proofs.Shared.Others.{Parts, parts, passes-window}
 use Rattle.demands.proofs.Client.{client-passes, client-nonce, client-bears}
 use Rattle.demands.proofs.Struck.Kept.{Ready, read-legible}
-use Rattle.demands.proofs.Struck.Compared.{fits-same, unused}
+use Rattle.demands.proofs.Shared.Indexes.{right-same}
+use Rattle.demands.proofs.Struck.Compared.{unused}
 
 module _ (s : Setup) (before : State) (m : Message) (clock : ℕ) (reply : List ℕ) (lent-bytes : LentBytes s) (done : setUp s before .number ≡ 0)
     (fair : Fair s m clock reply) where
@@ -61,7 +62,7 @@ module _ (s : Setup) (before : State) (m : Message) (clock : ℕ) (reply : List 
     unfolding entryPart entryChecks stateChecks requestFits
     entered =
         let home = entry-passed _ _ _ (at-home .entry) in
-        rw (both (lentFits q) (stateFits (setUp s before .state)) (home .sizes) .0, ready .sizes, home .orders, is-wellFormed _ (ready .well), fits-same state (ready .index)) refl
+        rw (both (lentFits q) (stateFits (setUp s before .state)) (home .sizes) .0, ready .sizes, home .orders, is-wellFormed _ (ready .well), right-same state (ready .index)) refl
 
     found-by : nowhere (placeOf (state .table) (ivOf q)) ≡ not (isUsed (sessionIn (s .iv) (state .table)))
     found-by = unused (ivOf q) (state .table) ∙ ap (λ (iv : List ℕ). not (isUsed (sessionIn iv (state .table)))) iv-is

@@ -59,7 +59,8 @@ use Rattle.demands.proofs.Client.{client-nonce}
 use Rattle.demands.proofs.Struck.Calls.{turned, turnedAt, judge-turns, one-turns, end-turns}
 use Rattle.demands.proofs.Struck.Kept.{Ready, ready, ready-left}
 use Rattle.demands.proofs.Struck.One.{one-ready}
-use Rattle.demands.proofs.Struck.Compared.{fits-same, unused}
+use Rattle.demands.proofs.Shared.Indexes.{right-same}
+use Rattle.demands.proofs.Struck.Compared.{unused}
 use Rattle.demands.proofs.Shared.TakenOut.{Own, lent}
 use Rattle.demands.proofs.Struck.Served.{iv-is, borne-is, unknown, served}
 use Rattle.demands.proofs.Witnesses.{ordering, zeros, offer, saying, fairly}
@@ -216,7 +217,7 @@ module _ {iv other : List ℕ} (party : Party iv other) (long : length iv ≡ 12
         eq-eqb (length iv) 12 long,
         t .ready .sizes,
         is-wellFormed _ (t .ready .well),
-        fits-same state (t .ready .index),
+        right-same state (t .ready .index),
         unused iv (state .table) ∙ ap (λ (r : Record). not (isUsed r)) (t .session) ∙ ap not (eq-eqb (own .used) 1 used),
       ) refl
 

@@ -29,7 +29,7 @@ use Rattle.gate.specs.Sizes.{tableFits, stateFits}
 use Rattle.demands.specs.History.{Call, judging, judging-one, ending, answer, after, lentIn}
 use Rattle.demands.specs.Struck.{Lendable, bearsOther, unstruck, sessionIn, StandsAlike, here}
 use Rattle.demands.proofs.Shared.Answers.{next}
-use Rattle.demands.proofs.Struck.Compared.{nowhere-at}
+use Rattle.demands.proofs.Shared.Named.{nowhere-at}
 use Rattle.demands.proofs.Struck.Steps.{ours, theirs, new, both-sessions, sent, turn-about, us, them, bears-own, unserved, asks, one-decided, asks-one, ends, ended-two, at-first, we-ask, we-repeat}
 
 -- the day, latest first: their first nonce by the thin entry, ours, their session's end, our first nonce again, their next one, and ours
