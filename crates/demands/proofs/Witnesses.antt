@@ -3,7 +3,7 @@
 -- Age; the others after 9 need a token that opens, too, and the stored calls of tests/host give them.
 -- Assumes nothing.
 use mathlib.Core.Path.{_≡_, refl, sym, ap, _∙_}
-use mathlib.Core.Bool.{Bool, true, false, _||_}
+use mathlib.Core.Bool.{Bool, true, false}
 use mathlib.Core.List.{List, [], _∷_, _++_}
 use mathlib.Core.Option.{none}
 use Prim.Native.Nat.{ℕ, _+_, _≤_, _<_, _^_}
@@ -229,13 +229,18 @@ request-witnesses = record {
 abbrev pub saying : ℕ → Message
 saying n = record { method = codes "GET"; head = []; aside = []; path = codes "/"; body = []; time = 100; last-time = 0; nonce = n }
 
--- it is fair where the orders cover no name twice, and in time
+-- over no lines no name is repeated
+unrepeated : (names : List (List ℕ)) → repeated names [] ≡ false
+unfolding repeated timesNamed
+unrepeated [] = refl
+unrepeated (n ∷ ns) = unrepeated ns
+
+-- in time it is fair, under any orders
 pub fairly : (s : Setup) (n clock : ℕ) → n < 2 ^ 32
-    → (repeated (coveredNames (s .orders .numbers .mask) (s .orders .extra)) (linesIn []) || repeated (coveredNames (s .orders .numbers .mask) (s .orders .extra)) (linesIn [])) ≡ false
     → clock < expiryOf s → 100 ≤ limitsOf (s .orders) .idle → clock ≤ 100 + limitsOf (s .orders) .«request_life» → 100 ≤ clock + 30
     → Fair s (saying n) clock (zeros 1024)
 unfolding codes isToken all tokenByte hasByte same textOf goodBlock linesIn linesUpTo startsLine frontLine
-fairly s n clock small once lasts active timely near = record {
+fairly s n clock small lasts active timely near = record {
   method-fits = omega arith;
   head-fits = omega arith;
   aside-fits = omega arith;
@@ -245,7 +250,7 @@ fairly s n clock small once lasts active timely near = record {
   reply-room = omega arith;
   method-good = refl;
   lines = refl;
-  once = once;
+  once = rw (unrepeated (coveredNames (s .orders .numbers .mask) (s .orders .extra))) refl;
   time-fits = omega arith;
   last-time-fits = omega arith;
   nonce-fits = small;
@@ -267,8 +272,8 @@ lent-zeros value life = record {
 
 fair : (value : List ℕ) (life clock : ℕ) → clock < 1209600 → clock ≤ 100 + limitsOf (living value life .orders) .«request_life» → 100 ≤ clock + 30
     → Fair (living value life) (saying 0) clock (zeros 1024)
-unfolding linesIn linesUpTo startsLine repeated timesNamed coveredNames chosen headerNames extraNames expiryOf limitsOf
-fair value life clock lasts timely near = fairly (living value life) 0 clock (omega arith) refl lasts (omega arith) timely near
+unfolding expiryOf limitsOf
+fair value life clock lasts timely near = fairly (living value life) 0 clock (omega arith) lasts (omega arith) timely near
 
 -- a client's request, made at 100, that comes at a time, and the table that its setup left
 abbrev pub sent : List ℕ → ℕ → ℕ → Request

@@ -2,7 +2,7 @@
 -- freed, is taken by a new session, or takes a nonce.
 -- Assumes nothing.
 use mathlib.Core.Path.{_≡_, refl, sym, ap, subst, _∙_}
-use mathlib.Core.Logic.{_⊎_, inl, inr, ⊎-elim}
+use mathlib.Core.Logic.{_⊎_, ⊎-elim}
 use mathlib.Core.Bool.{Bool, true, false, true≢false, cond, _||_}
 use mathlib.Core.List.{List, [], _∷_}
 use mathlib.Core.Option.{Option, none, some}
@@ -23,12 +23,13 @@ use Rattle.table.specs.Table.{holds, found}
 use Rattle.table.specs.WellFormed.{Sound, WellFormed}
 use Rattle.table.proofs.Records.{freed-fits}
 use Rattle.table.proofs.Tests.{holds-used}
-use Rattle.table.proofs.Found.{found-at, found-nowhere, nowhere-found, at-found}
+use Rattle.table.proofs.Found.{found-at, found-nowhere, nowhere-found}
 use Rattle.table.proofs.Meaning.{freed-sound}
 use Rattle.table.proofs.Stored.{equal-or-not, Alone, stored-here, stored-other, stored-well, found-kept, alone-new, alone-same}
 use Rattle.table.proofs.Sessions.{begun-sound, begun-fits, stepped-sound, stepped-fits, windowOf-with}
 use Rattle.demands.specs.History.{Apart, ivAmong}
 use Rattle.demands.proofs.Shared.Named.{nowhere-at}
+use Rattle.demands.proofs.Shared.Stored.{found-either}
 
 -- a record's byte is the mask of a chosen hash
 abbrev pub KeptBy : ℕ → Option Hash → Type 0
@@ -74,20 +75,6 @@ module _ (rs : List Record) (i : ℕ) (r : Record) (h : i < length rs) where
       there : (j ≡ i → ⊥) → Fits (getD (set rs i r) j freed)
       there n = subst (λ (x : Record). Fits x) (sym (stored-other rs i r h j n)) (fit j (rw length-set at l))
 
-  -- what is found is the new record, or was found there before
-  found-either : (iv : List ℕ) (j : ℕ) → WellFormed rs → found (set rs i r) iv ≡ At j
-      → ((j ≡ i) × (holds iv r ≡ true)) ⊎ ((j ≡ i → ⊥) × (found rs iv ≡ At j))
-  found-either iv j w e = ⊎-elim here there (equal-or-not j i)
-    where
-      at : (j < length (set rs i r)) × (holds iv (getD (set rs i r) j freed) ≡ true)
-      at = found-at (set rs i r) iv j e
-
-      here : j ≡ i → ((j ≡ i) × (holds iv r ≡ true)) ⊎ ((j ≡ i → ⊥) × (found rs iv ≡ At j))
-      here p = inl (p, sym (ap (holds iv) (ap (λ (k : ℕ). getD (set rs i r) k freed) p ∙ stored-here rs i r h)) ∙ at .1)
-
-      there : (j ≡ i → ⊥) → ((j ≡ i) × (holds iv r ≡ true)) ⊎ ((j ≡ i → ⊥) × (found rs iv ≡ At j))
-      there n = inr (n, at-found rs iv j w (rw length-set at (at .0)) (sym (ap (holds iv) (stored-other rs i r h j n)) ∙ at .1))
-
   -- none is found where none was and the new record has another IV
   found-none : (iv : List ℕ) → found rs iv ≡ Nowhere → holds iv r ≡ false → found (set rs i r) iv ≡ Nowhere
   found-none iv e n = found-kept rs i r h iv (n ∙ sym (found-nowhere rs iv e i h)) ∙ e
@@ -104,8 +91,8 @@ module _ (rs : List Record) (i : ℕ) (r : Record) (h : i < length rs) where
   stored ivs nonces hashes w fit f s a here there kept-here kept-there absent = record {
     well = stored-well rs i r h w s a;
     fit = fit-stored fit f;
-    known = λ apart iv j e. ⊎-elim (own apart iv j) (other apart iv j) (found-either iv j w e);
-    keeps = λ iv j e. ⊎-elim (own-hash iv j) (other-hash iv j) (found-either iv j w e);
+    known = λ apart iv j e. ⊎-elim (own apart iv j) (other apart iv j) (found-either rs i r h iv j w e);
+    keeps = λ iv j e. ⊎-elim (own-hash iv j) (other-hash iv j) (found-either rs i r h iv j w e);
     new = λ apart iv e.
         let n = absent apart iv e in
         (found-none iv (n .0) (n .1), n .2);

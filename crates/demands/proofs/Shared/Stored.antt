@@ -2,20 +2,22 @@
 -- Assumes nothing.
 use mathlib.Core.Path.{_≡_, refl, sym, ap, _∙_}
 use mathlib.Core.List.{List, [], _∷_, _++_}
-use mathlib.Core.Logic.{_⊎_, inl, inr}
+use mathlib.Core.Bool.{true}
+use mathlib.Core.Logic.{_⊎_, inl, inr, ⊎-elim}
 use Prim.Native.Nat.{ℕ, zero, suc, _+_, _-_, _*_, _≤_, _<_}
 use native.Mathlib.Omega.{arith}
-use lib.ListN.{length, getD, take, drop, set, List·getD-append, length-take, take-append-drop}
+use lib.ListN.{length, getD, take, drop, set, length-set, List·getD-append, length-take, take-append-drop}
 use lib.Seq.{getD-take, getD-drop, getD-append-add}
 use Rattle.cells.specs.Runs.{spliced, part}
 use Rattle.cells.proofs.Runs.{length-spliced}
 use Rattle.table.specs.declared.session.Record.{Record}
 use Rattle.table.specs.Record.{size, recordBytes, Fits, freed}
 use Rattle.table.specs.declared.place.Place.the-variants.{At}
-use Rattle.table.specs.Table.{places, recordAt, records, taken}
+use Rattle.table.specs.Table.{places, recordAt, records, holds, found, taken}
+use Rattle.table.specs.WellFormed.{WellFormed}
 use Rattle.table.proofs.Records.{length-recordBytes, length-records, records-at, records-stored}
-use Rattle.table.proofs.Found.{taken-at}
-use Rattle.table.proofs.Stored.{stored-here, stored-other}
+use Rattle.table.proofs.Found.{found-at, at-found, taken-at}
+use Rattle.table.proofs.Stored.{equal-or-not, stored-here, stored-other}
 use Rattle.demands.specs.Tables.{Replaced}
 
 -- the records of a table hold what their bytes can
@@ -56,6 +58,20 @@ replaced table place r h f =
       bytes = λ i o. spliced-outside table (recordBytes r) (size * place) i (omega arith) (rw long o);
       as-long = same;
     }
+
+-- what is found is the new record, or was found there before
+pub found-either : (rs : List Record) (i : ℕ) (r : Record) → i < length rs → (iv : List ℕ) (j : ℕ) → WellFormed rs → found (set rs i r) iv ≡ At j
+    → ((j ≡ i) × (holds iv r ≡ true)) ⊎ ((j ≡ i → ⊥) × (found rs iv ≡ At j))
+found-either rs i r h iv j w e = ⊎-elim here there (equal-or-not j i)
+  where
+    at : (j < length (set rs i r)) × (holds iv (getD (set rs i r) j freed) ≡ true)
+    at = found-at (set rs i r) iv j e
+
+    here : j ≡ i → ((j ≡ i) × (holds iv r ≡ true)) ⊎ ((j ≡ i → ⊥) × (found rs iv ≡ At j))
+    here p = inl (p, sym (ap (holds iv) (ap (λ (k : ℕ). getD (set rs i r) k freed) p ∙ stored-here rs i r h)) ∙ at .1)
+
+    there : (j ≡ i → ⊥) → ((j ≡ i) × (holds iv r ≡ true)) ⊎ ((j ≡ i → ⊥) × (found rs iv ≡ At j))
+    there n = inr (n, at-found rs iv j w (rw length-set at (at .0)) (sym (ap (holds iv) (stored-other rs i r h j n)) ∙ at .1))
 
 -- a place that a setup takes is one of the table's
 pub taken-within : (table : List ℕ) (clock place : ℕ) → taken (records table) clock ≡ At place → place < places table

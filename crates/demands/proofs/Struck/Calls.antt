@@ -57,7 +57,7 @@ next-is q table place at = rw (found-step q table place at, at) refl
 module _ (table : List ℕ) (w : WellFormed (records table)) (fit : Whole table) where
   -- a session's record freed
   module _ (iv : List ℕ) (turn : Record → Record) (frees : (r : Record) → turn r ≡ freed) where
-    pub freed-turns : (place : ℕ) → placeOf table iv ≡ At place → Turns iv turn table (with-record table (At place) freed)
+    freed-turns : (place : ℕ) → placeOf table iv ≡ At place → Turns iv turn table (with-record table (At place) freed)
     freed-turns place e = turned-into iv table w fit place (found-session table iv place e) freed freed-fits freed-sound (inl refl) turn (frees _)
 
   -- the session of a request at its place, by what its number does and by whether nonces are ordered
@@ -71,7 +71,7 @@ module _ (table : List ℕ) (w : WellFormed (records table)) (fit : Whole table)
     old-sound : Sound old
     old-sound = subst (λ (r : Record). Sound r) (records-at table place (there .within)) (w .each place (rw length-records (there .within)))
 
-    pub acts : (t u o : Bool)
+    acts : (t u o : Bool)
         → (t ≡ true → o ≡ true → Accepts q old)
         → Turns (ivOf q) (λ r. cond t (cond o (next (nonceOf q) r) r) (cond u freed r)) table
         (cond t (cond o (with-record table (At place) (next (nonceOf q) old)) table) (cond u (with-record table (At place) freed) table))

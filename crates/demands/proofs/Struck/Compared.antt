@@ -48,7 +48,7 @@ unused iv table = by (placeOf table iv) refl
     by (At i) e = rw (eq-eqb (recordAt table i .used) 1 (found-session table iv i e .used)) refl
     by Nowhere e = refl
 
-pub alike-nowhere : (iv one other : List ℕ) → sessionIn iv one ≡ sessionIn iv other → nowhere (placeOf one iv) ≡ nowhere (placeOf other iv)
+alike-nowhere : (iv one other : List ℕ) → sessionIn iv one ≡ sessionIn iv other → nowhere (placeOf one iv) ≡ nowhere (placeOf other iv)
 alike-nowhere iv one other e = unused iv one ∙ ap (λ (r : Record). not (isUsed r)) e ∙ sym (unused iv other)
 
 -- what is told does not depend on the state that is left
@@ -87,11 +87,11 @@ module _ (q : Request) (a b : State) (sizes : stateFits a ≡ stateFits b) (wa :
   unfolding sessionPart noncePart keepsHash stepped
   admitting-alike = rw (alike-nowhere (ivOf q) (a .table) (b .table) session, session) refl
 
-  pub checks-alike : requestChecks q a ≡ requestChecks q b
+  checks-alike : requestChecks q a ≡ requestChecks q b
   unfolding requestChecks
   checks-alike = ap₂ (λ (entry admitting : List Check). entry ++ (readingPart q ++ (vouchingPart q ++ admitting))) entry-alike admitting-alike
 
-  pub judge-told : told (judged q a) ≡ told (judged q b)
+  judge-told : told (judged q a) ≡ told (judged q b)
   unfolding judged
   judge-told =
       told-whatever (first (requestChecks q a)) (tokenOf q .id) (tokenOf q .key) (hashOf q) (q .reply) _ a
@@ -105,7 +105,7 @@ module _ (iv : List ℕ) (a b : State) (sizes : stateFits a ≡ stateFits b) (wa
   unfolding endChecks stateChecks endFits
   end-alike = rw (sizes, is-wellFormed _ wa, is-wellFormed _ wb, right-same a ra, right-same b rb, alike-nowhere iv (a .table) (b .table) session) refl
 
-  pub end-told : told (ended iv a) ≡ told (ended iv b)
+  end-told : told (ended iv a) ≡ told (ended iv b)
   end-told = ending-tells iv a ∙ ap (λ (cs : List Check). telling (first cs)) end-alike ∙ sym (ending-tells iv b)
 
 -- two turns into one record leave a session standing alike

@@ -10,11 +10,22 @@ use borrow.Author.Tests.{eq-eqb}
 use lib.ListN.{length, replicate}
 use Rattle.cells.specs.Runs.{Bytes, same, spliced}
 use Rattle.cells.specs.Numbers.{bytesOf, number}
+use Rattle.cells.specs.Text.{codes}
 use Rattle.cells.proofs.Numbers.{bytes-bytesOf}
 use Rattle.cells.proofs.Equality.{same-self}
-use Rattle.cells.specs.Text.{codes}
 use Rattle.hashes.specs.Hashes.{inCommon}
 use Rattle.hashes.specs.Hashes as Hashes
+use Rattle.base64.specs.Alphabet.{counted, alphabet, placeIn, sixBits}
+use Rattle.base64.specs.Decoding as Decoding
+use Rattle.base64.specs.Decoding.{coded, full, two, one, decoded}
+use Rattle.armor.specs.Numerals.{plain, isNumeral, isMask, maskOf}
+use Rattle.armor.specs.Keys.{obeys, keys, rankOf, keyNumber, ruleAt, ruleOf}
+use Rattle.armor.specs.Pieces
+use Rattle.armor.specs.Value
+use Rattle.armor.specs.Fields.{contents, times, the, setupFields}
+use Rattle.names.specs.Extra.{extraNames, goodNames, goodExtra}
+use Rattle.orders.specs.Orders.{ordersGood, limitsOf}
+use Rattle.window.specs.Window.{numberOf, stepOf}
 use Rattle.table.specs.declared.session.Record.{Record}
 use Rattle.table.specs.Record.{recordBytes, recordOf, freed, begun, windowOf}
 use Rattle.table.specs.declared.place.Place.{Place}
@@ -25,26 +36,11 @@ use Rattle.table.specs.WellFormed.{sound, fitting, wellFormed}
 use Rattle.table.proofs.Meaning.{wellFormed-is, is-wellFormed}
 use Rattle.index.specs.Index as Index
 use Rattle.index.proofs.Held.{fits-one}
-use Rattle.base64.specs.Alphabet.{counted, alphabet, placeIn, sixBits}
-use Rattle.base64.specs.Decoding as Decoding
-use Rattle.base64.specs.Decoding.{coded, full, two, one, decoded}
-use Rattle.armor.specs.Numerals.{plain, isNumeral, isMask, maskOf}
-use Rattle.armor.specs.Keys.{obeys, keys, rankOf, keyNumber, ruleAt, ruleOf}
-use Rattle.armor.specs.Pieces
-use Rattle.armor.specs.Value
-use Rattle.armor.specs.Fields.{contents, times, the, setupFields}
-use Rattle.names.specs.Names.{headerNames}
-use Rattle.names.specs.Covered.{chosen, coveredNames}
-use Rattle.lines.specs.Lines.{startsLine, linesUpTo, linesIn}
-use Rattle.lines.specs.Values.{timesNamed, repeated}
-use Rattle.window.specs.Window.{numberOf, stepOf}
 use Rattle.stages.specs.Request.{Request}
 use Rattle.stages.specs.Checks.{nowhere}
 use Rattle.stages.specs.Parts.{ivOf}
 use Rattle.gate.specs.Judge.{judged}
 use Rattle.gate.specs.End.{endChecks, ended}
-use Rattle.names.specs.Extra.{extraNames, goodNames, goodExtra}
-use Rattle.orders.specs.Orders.{ordersGood, limitsOf}
 use Rattle.gate.specs.Calls.{Setup, setupOf}
 use Rattle.gate.specs.State.{State, indexed}
 use Rattle.gate.specs.Sizes.{tableFits, stateFits, setupFits, endFits}
@@ -54,16 +50,16 @@ use Rattle.gate.specs.Setup.{offered, chosenOf, expiryOf, offerPart, lastingPar
 use Rattle.demands.specs.History.{judging, judging-one, ending, takenOut, judgedAt, empty}
 use Rattle.demands.specs.Client.{clientRequest, LentBytes, Fair}
 use Rattle.demands.specs.Struck.{Lendable, borne, sessionIn}
-use Rattle.demands.proofs.Shared.Answers.{next, ended-number}
+use Rattle.demands.proofs.Witnesses.{ordering, zeros, offer, saying, fairly}
 use Rattle.demands.proofs.Client.{client-nonce}
+use Rattle.demands.proofs.Shared.Answers.{next, ended-number}
+use Rattle.demands.proofs.Shared.Indexes.{right-same}
+use Rattle.demands.proofs.Shared.TakenOut.{Own, lent}
 use Rattle.demands.proofs.Struck.Calls.{turned, turnedAt, judge-turns, one-turns, end-turns}
 use Rattle.demands.proofs.Struck.Kept.{Ready, ready, ready-left}
 use Rattle.demands.proofs.Struck.One.{one-ready}
-use Rattle.demands.proofs.Shared.Indexes.{right-same}
 use Rattle.demands.proofs.Struck.Compared.{unused}
-use Rattle.demands.proofs.Shared.TakenOut.{Own, lent}
 use Rattle.demands.proofs.Struck.Served.{iv-is, borne-is, unknown, served}
-use Rattle.demands.proofs.Witnesses.{ordering, zeros, offer, saying, fairly}
 
 -- the IVs of two sessions, and their setups at 0 with nonces ordered
 abbrev pub ours : List ℕ
@@ -108,8 +104,8 @@ abbrev pub sent : List ℕ → ℕ → Request
 sent iv n = clientRequest (setting iv) (saying n) 100 (zeros 1024)
 
 fair : (iv : List ℕ) (n : ℕ) → n < 2 ^ 32 → Fair (setting iv) (saying n) 100 (zeros 1024)
-unfolding linesIn linesUpTo startsLine repeated timesNamed coveredNames chosen headerNames extraNames expiryOf limitsOf
-fair iv n small = fairly (setting iv) n 100 small refl (omega arith) (omega arith) (omega arith) (omega arith)
+unfolding expiryOf limitsOf
+fair iv n small = fairly (setting iv) n 100 small (omega arith) (omega arith) (omega arith) (omega arith)
 
 lent-bytes : (iv : List ℕ) → Bytes iv → LentBytes (setting iv)
 unfolding bytesOf

@@ -1,13 +1,13 @@
 -- What a call that changes one session's record leaves of a table: that session's record turned into another, and every other session as it was.
 -- Assumes nothing.
 use mathlib.Core.Path.{_≡_, refl, sym, ap, subst, _∙_}
-use mathlib.Core.Bool.{true, false, cond}
+use mathlib.Core.Bool.{false, cond}
 use mathlib.Core.List.{List}
 use mathlib.Core.Logic.{_⊎_, inl, inr, ⊎-elim}
 use Prim.Native.Nat.{ℕ, _<_}
 use native.Mathlib.Omega.{arith}
 use borrow.Author.Tests.{eq-eqb}
-use lib.ListN.{length, getD, set, length-set}
+use lib.ListN.{length, getD, set}
 use Rattle.table.specs.declared.session.Record.{Record}
 use Rattle.table.specs.declared.place.Place.{Place}
 use Rattle.table.specs.declared.place.Place.the-variants.{At, Nowhere}
@@ -17,12 +17,11 @@ use Rattle.table.specs.Session.{placeOf, heldAt, with-record}
 use Rattle.table.specs.WellFormed.{Sound, WellFormed}
 use Rattle.table.proofs.Records.{length-records, records-at, records-stored}
 use Rattle.table.proofs.Tests.{refuted, holds-used}
-use Rattle.table.proofs.Found.{nowhere-found}
-use Rattle.table.proofs.Stored.{equal-or-not, Alone, stored-here, stored-other, stored-well, found-kept, alone-same}
+use Rattle.table.proofs.Stored.{equal-or-not, Alone, stored-well, found-kept, alone-same}
 use Rattle.demands.specs.Tables.{Replaced, SessionAt}
 use Rattle.demands.specs.Struck.{sessionIn}
 use Rattle.demands.proofs.Shared.Named.{found-session, session-found}
-use Rattle.demands.proofs.Shared.Stored.{Whole, replaced}
+use Rattle.demands.proofs.Shared.Stored.{Whole, replaced, found-either}
 
 -- a session is where it was, with the record that it had
 pub record Undisturbed (iv before after : List ℕ) : Type 0 where
@@ -101,15 +100,14 @@ module _ (iv table : List ℕ) (w : WellFormed (records table)) (fit : Whole tab
       (record { within = omega (arith, laid .as-long, there .within); used = ap (λ (x : Record). x .used) (laid .here) ∙ u; iv = ap (λ (x : Record). x .iv) (laid .here) ∙ e })
 
   gone : r ≡ freed → placeOf after iv ≡ Nowhere
-  gone z = rw records-are (nowhere-found (set (records table) place r) iv (λ j l. refuted _ (λ h. by j (rw length-set at l) h (equal-or-not j place))))
+  gone z = by (placeOf after iv) refl
     where
-      by : (j : ℕ) → j < length (records table) → holds iv (getD (set (records table) place r) j freed) ≡ true → (j ≡ place) ⊎ (j ≡ place → ⊥) → ⊥
-      by j l h (inl e) =
-          let is : getD (set (records table) place r) j freed ≡ freed = ap (λ (k : ℕ). getD (set (records table) place r) k freed) e ∙ stored-here (records table) place r inside ∙ z in
-          omega (arith, holds-used iv (getD (set (records table) place r) j freed) h .0, ap (λ (x : Record). x .used) is)
-      by j l h (inr n) =
-          let held = holds-used iv (getD (records table) j freed) (rw (stored-other (records table) place r inside j n) at h) in
-          n (w .apart j place l inside (held .0) (ap (λ (x : Record). x .used) old ∙ there .used) (held .1 ∙ sym (ap (λ (x : Record). x .iv) old ∙ there .iv)))
+      by : (p : Place) → placeOf after iv ≡ p → p ≡ Nowhere
+      by (At j) e =
+          ⊎-elim (λ here. absurd (omega (arith, holds-used iv r (here .1) .0, ap (λ (x : Record). x .used) z)))
+          (λ kept. let is : At j ≡ At place = sym (kept .1) ∙ session-found table iv place w there in absurd (kept .0 cc))
+          (found-either (records table) place r inside iv j w (rw records-are at e))
+      by Nowhere e = refl
 
   session-there : sessionIn iv table ≡ recordAt table place
   session-there = rw (session-found table iv place w there) refl
