@@ -120,7 +120,7 @@ def text_of(fields):
 TOKEN = b"32:" + SESSION_KEY + b",2:id,4:2000,"
 
 
-def request(records=(FRESH, rec.FREE), orders=ORDERS, clock=1_000, method=b"GET", head=b"Host: a\r\n", path=b"/",
+def request(records=(FRESH, rec.FREE), orders=ORDERS, clock=1_000, method=b"GET", head=b"Host: a\r\n", aside=b"", path=b"/",
             token=TOKEN, text=TEXT_12, sign=hashlib.sha512, server_key=SERVER_KEY, reply=REPLY, closing=b"", index=None, **changed):
     """The request with one thing or two changed; further names are fields."""
     run = AESGCM(SERVER_KEY).encrypt(IV, token, None)
@@ -129,7 +129,7 @@ def request(records=(FRESH, rec.FREE), orders=ORDERS, clock=1_000, method=b"GET"
     fields.update({key.encode(): run for key, run in changed.items()})
     value = text_of(fields) + closing
     table, index = rec.table_of(records), lent_index(records, index)
-    return model.judge(orders, clock, server_key, value, method, head, b"", path, b"", table, index, reply), table, index, reply
+    return model.judge(orders, clock, server_key, value, method, head, aside, path, b"", table, index, reply), table, index, reply
 
 
 def setting_up(records=(rec.FREE,), orders=ORDERS, clock=1_000, value=b"r:AQQ=", session_id=b"id", index=None):
@@ -284,6 +284,46 @@ row(6, request(method=b"GE T", head=b"Host: a\r\nhost: a\r\n"), "before a name t
 row(11, request(method=b"DELETE"), "another method than was signed")
 row(11, request(method=b"get"), "the method in other case")
 row(11, request(text=TEXT_12[6:]), "no method signed")
+
+
+# Repeated lines. Accept has bit 3: a request that covers it alone beside the nonce has ah 01 09.
+
+
+def accepting(head, signed, aside=b""):
+    text = TEXT_12.replace(b"\1\3", b"\1\x09").replace(b"1:a,", b"%d:%s," % (len(signed), signed))
+    return request(orders=ORDERS._replace(mask=9), ah=b"\1\x09", head=head, aside=aside, text=text)
+
+
+A_AND_B = b"Accept: a\r\nACCEPT:\tb\t\r\n"
+
+equal("the list fields are of the list", [name in model.NAMES for name in model.LIST_FIELDS], [True] * 12)
+equal("list fields in other case", [model.is_list_field(name) for name in (b"te", b"TE", b"iF-mATCH", b"If", b"T", b"Host", b"TEE")], [True] * 3 + [False] * 4)
+for block, in_block in (
+    (A_AND_B, b"a, b"),
+    (b"accept: b\r\nAccept: a\r\n", b"b, a"),
+    (b"Accept: a\r\nHost: c\r\nHost: d\r\nAccept:\r\nAccept: b\r\n", b"a, , b"),
+    (b"Accept: a\r\nAccept: \r\n", b"a, "),
+    (b"Accept:\r\nAccept: a\r\n", b", a"),
+    (b"Accept:\r\nAccept:\r\nAccept:\r\n", b", , "),
+    (b"Accept: \ta, , b,\t\r\n", b"a, , b,"),
+    (b"Accept:\r\n", b""),
+    (b"Accept-Charset: a\r\nAccept-Charset: b\r\n", b""),
+):
+    accepted(f"{block} in the head", accepting(block, in_block), TAKEN)
+    accepted(f"{block} set aside", accepting(b"", in_block, block), TAKEN)
+    equal(f"{block}, by the client", client.header(b"Accept", block.splitlines(True), []), in_block)
+    equal(f"{block} set aside, by the client", client.header(b"Accept", [b"Host: c\r\n"], block.splitlines(True)), in_block)
+accepted("two in the head, one set aside", accepting(A_AND_B, b"own", b"accept: own\r\n"), TAKEN)
+accepted("two in the head, an empty one set aside", accepting(A_AND_B, b"", b"Accept:\r\n"), TAKEN)
+accepted("one in the head, two set aside", accepting(b"Accept: c\r\n", b"a, b", A_AND_B), TAKEN)
+accepted("one line a, b", accepting(b"Accept: a, b\r\n", b"a, b"), TAKEN)
+for other_value in (b"a,b", b"b, a", b"a", b"b", b"ab", b"a, b, ", b"a ,b", b"a, \tb", b""):
+    row(11, accepting(A_AND_B, other_value), f"a and b signed as {other_value}")
+row(11, accepting(A_AND_B, b"a, b", b"Accept:\r\n"), "signed with the head's where one is set aside")
+row(11, accepting(b"Accept: a\r\nAccept:\r\n", b"a,"), "a last empty one signed without its blank")
+row(7, request(head=b"Host: a\r\nhost: a\r\n", aside=b"Host: a\r\n"), "in the head, which isn't chosen")
+row(7, request(aside=b"Host: a\r\nhost: a\r\n"), "in the set-aside lines")
+row(7, request(orders=ORDERS._replace(extra=b"q"), head=b"q: a\r\nQ: b\r\n", aside=b"q:\r\n"), "an extra name")
 
 
 @case("setup: the longest reply has 459 bytes")

@@ -79,10 +79,14 @@ def line_value(text):
 
 
 def header(name, head, aside):
-    """The value to sign: the client's own line, which a rewriting proxy has set aside; nothing if it sent none."""
-    for text in aside + head:
-        if b":" in text and line_name(text) == name.lower():
-            return line_value(text)
+    """The value to sign: the client's own lines, which a rewriting proxy has set aside; nothing if it sent none.
+
+    Several lines are signed as one list. Where the name is no list field the gate looks at no signature (7).
+    """
+    for block in (aside, head):
+        own = [line_value(text) for text in block if b":" in text and line_name(text) == name.lower()]
+        if own:
+            return b", ".join(own)
     return b""
 
 

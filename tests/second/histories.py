@@ -1,9 +1,9 @@
 """The generator: from a seed, a history of calls on tables that evolve under the model.
 
 A history is cut into chapters. Each begins with a table, a server key, a clock and orders of its own; the table is empty, or
-large and mostly of strangers' sessions. Good calls alternate with resent requests, requests of sessions that are gone,
-endings, the index made anew, single faults and pairs of faults. Every single fault must get the number that the catalogue
-gives it: the model and the catalogue check each other.
+large and mostly of strangers' sessions. Good calls alternate with resent requests, requests of sessions that are gone or with
+covered names on several lines, endings, the index made anew, single faults and pairs of faults. Every single fault must get
+the number that the catalogue gives it: the model and the catalogue check each other.
 """
 
 import random
@@ -140,8 +140,10 @@ class History:
         if not live:
             return self.set_up_or_clear()
         chosen = self.rng.random()
-        if chosen < 0.32:
+        if chosen < 0.29:
             return self.good_request(self.rng.choice(live))
+        if chosen < 0.32:
+            return self.request_on_several_lines(self.rng.choice(live))
         if chosen < 0.38:
             return self.resend()
         if chosen < 0.41:
@@ -172,6 +174,17 @@ class History:
         outcome = self.ask(draft, [], "good request", expected=0)
         session.last = draft.t
         return outcome
+
+    def request_on_several_lines(self, session):
+        """A good request, but with lines of a covered name or two put into a block: 7 where that repeats one that is no list field."""
+        rng = self.rng
+        draft = self.request_draft(session, "judge")
+        covered = model.covered_names(draft.orders)
+        for name in rng.sample(covered, min(len(covered), rng.choice([1, 1, 2]))):
+            lines = rng.choice([draft.head_lines, draft.aside_lines])
+            for _ in range(rng.choice([1, 2, 3])):
+                lines.insert(rng.randint(0, len(lines)), client.line(name, value(rng)))
+        return self.ask(draft, [], "request on several lines")
 
     def resend(self):
         """An accepted request again, as a proxy or a reader of a bundle would send it."""
@@ -283,14 +296,18 @@ class History:
         return t, lt
 
     def lines(self, orders):
-        """Lines for most covered names and for some others, here and there with the client's own set aside."""
+        """Lines for most covered names and for some others, here and there with the client's own set aside.
+
+        A list field now and then has several in a block.
+        """
         rng = self.rng
         covered = model.covered_names(orders)
         named = {name.lower(): name for name in model.NAMES + client.UNLISTED}
         present = [named.get(name, name) for name in covered if rng.random() < 0.8]
         others = [name for name in rng.sample(model.NAMES, 2) + [b"X-Unknown"] if name.lower() not in covered]
-        head = [client.line(name, value(rng)) for name in present + others]
-        aside = [client.line(name.lower(), value(rng)) for name in covered if rng.random() < 0.12]
+        head = [client.line(name, value(rng)) for name in present + others for _ in range(lines_for(name, rng))]
+        set_aside = [name for name in covered if rng.random() < 0.12]
+        aside = [client.line(name, value(rng)) for name in set_aside for _ in range(lines_for(name, rng))]
         rng.shuffle(head)
         return head, aside
 
@@ -308,6 +325,8 @@ class History:
             place = rec.place_of(rec.records_of(self.table), session.iv)
             return drafts.End("end", self.table, session.iv, place, self.lent_reply())
         draft = self.request_draft(session, kind)
+        if fresh_nonce(draft.own(), self.rng) is None:
+            draft.no_window()  # where none is left; some faults order nonces
         if kind == "one" and draft.place != 0:
             draft.table = with_first(draft.table, draft.place)
             draft.place = 0
@@ -379,9 +398,14 @@ def shuffled_deck(rng):
     return [card for card in deck if card not in firsts] + firsts
 
 
+def lines_for(name, rng):
+    """How many of this name a good request may have in a block."""
+    return rng.choice([1, 1, 1, 2, 3]) if model.is_list_field(name) else 1
+
+
 def value(rng):
-    blanks = rng.choice([b" ", b"", b"\t "])
-    return blanks + rng.choice([b"a", b"shop.example", b"x=1; y=2", b"", b"\xe9t\xe9", b"1:a,"])
+    before, after = rng.choice([b" ", b"", b"\t "]), rng.choice([b"", b"", b" \t"])
+    return before + rng.choice([b"a", b"shop.example", b"x=1; y=2", b"", b"\xe9t\xe9", b"1:a,", b"b, c"]) + after
 
 
 def fresh_nonce(record, rng):

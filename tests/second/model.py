@@ -49,6 +49,12 @@ NAMES = (
 ).split(b",")
 HIGHEST_BIT = len(NAMES)
 
+# Those of them whose lines make one list (document 02, K10). No extra name can be one: all are in the list above.
+LIST_FIELDS = (
+    b"Accept,Accept-Charset,Accept-Encoding,Accept-Language,Connection,Cache-Control,If-Match,If-None-Match,TE,Trailer,"
+    b"Upgrade,Via"
+).split(b",")
+
 TOKEN_CHARACTERS = (
     b"!#$%&'*+-.^_`|~0123456789ABCDEFGHIJKLMNOPQRSTUVWXYZabcdefghijklmnopqrstuvwxyz"
 )
@@ -444,16 +450,27 @@ def covered_names(orders):
     return [name.lower() for name in listed + extra_names(orders.extra)]
 
 
+def is_list_field(name):
+    return name.lower() in [listed.lower() for listed in LIST_FIELDS]
+
+
 def covered_name_twice(orders, lines):
-    """In one block, whether or not the block is the chosen one (docs/DECISIONS.md)."""
+    """In one block, whether or not the block is the chosen one (docs/DECISIONS.md). A list field may be (document 02, K10)."""
     names = [name for name, _ in lines]
-    return any(names.count(name) > 1 for name in covered_names(orders))
+    return any(names.count(name) > 1 for name in covered_names(orders) if not is_list_field(name))
 
 
 def covered_values(orders, head_lines, aside_lines):
-    """'From the set-aside lines where the name stands there, and otherwise from the head. Absent is empty.'"""
-    head, aside = dict(head_lines), dict(aside_lines)
-    return [aside[name] if name in aside else head.get(name, b"") for name in covered_names(orders)]
+    return [covered_value(name, head_lines, aside_lines) for name in covered_names(orders)]
+
+
+def covered_value(name, head_lines, aside_lines):
+    """'From the set-aside lines where the name stands there, and otherwise from the head. Absent is empty.'
+
+    Past check 7 only a list field can have several lines: 'joined in order by a comma and a space', empty ones too.
+    """
+    head, aside = ([value for own, value in lines if own == name] for lines in (head_lines, aside_lines))
+    return b", ".join(aside or head)
 
 
 # 8: coverage

@@ -61,6 +61,9 @@ pub fn decide<'a>(
     }
     // The request's byte fields lie here as armor::Request tells, for every stage.
     let mut fields = [0u8; 210];
+    // And the notes on the covered names in either block, as many as there are names: lines::noting.
+    let mut in_head = [0u16; 64];
+    let mut in_aside = [0u16; 64];
     let read = reading::read(
         known,
         numbers,
@@ -70,15 +73,17 @@ pub fn decide<'a>(
         head,
         aside,
         &mut fields,
+        &mut in_head,
+        &mut in_aside,
     );
     if read.number != 0 {
         return settling::refused(read.number);
     }
     let request = read.request;
+    let covered = read.covered;
     let place = lookup::find(table, index, &fields[182..194]);
     let held = session::held_at(table, place);
     settling::settle(
-        known,
         numbers,
         extra,
         clock,
@@ -89,6 +94,8 @@ pub fn decide<'a>(
         method,
         head,
         aside,
+        &in_head[..covered],
+        &in_aside[..covered],
         path,
         body,
         place,

@@ -107,6 +107,9 @@ fn decide<'a>(
     }
     // The request's byte fields lie here as armor::Request tells, for every stage.
     let mut fields = [0u8; 210];
+    // And the notes on the covered names in either block, as many as there are names: lines::noting.
+    let mut in_head = [0u16; 64];
+    let mut in_aside = [0u16; 64];
     let read = reading::read(
         known,
         numbers,
@@ -116,14 +119,16 @@ fn decide<'a>(
         head,
         aside,
         &mut fields,
+        &mut in_head,
+        &mut in_aside,
     );
     if read.number != 0 {
         return settling::refused(read.number);
     }
     let request = read.request;
+    let covered = read.covered;
     let place = place_of(record, &fields[182..194]);
     settling::settle(
-        known,
         numbers,
         extra,
         clock,
@@ -134,6 +139,8 @@ fn decide<'a>(
         method,
         head,
         aside,
+        &in_head[..covered],
+        &in_aside[..covered],
         path,
         body,
         place,

@@ -4,3 +4,6 @@ pub mod Trims
 pub mod Named
 pub mod Places
 pub mod Bytes
+pub mod Joined
+pub mod Marks
+pub mod Notes

@@ -42,7 +42,7 @@ pub line-parts : (l : Line) (rest : List ℕ) → lineText l ++ rest ≡ l .name
 unfolding lineText
 line-parts l rest = simp append-assoc
 
-length-line : (l : Line) → length (lineText l) ≡ length (l .name) + length (l .value) + 3
+pub length-line : (l : Line) → length (lineText l) ≡ length (l .name) + length (l .value) + 3
 unfolding lineText
 length-line l = simp length-append (omega (arith, length-append (l .value) (CR ∷ LF ∷ [])))
 
@@ -65,7 +65,7 @@ starts-line l rest h =
     rw (front-line l rest h, take-append-seam (lineText l) rest, h) (same-self (lineText l))
 
 -- a run that is found to begin with a line does
-started : (xs : List ℕ) → startsLine xs ≡ true
+pub started : (xs : List ℕ) → startsLine xs ≡ true
     → (goodLine (frontLine xs) ≡ true) × (xs ≡ lineText (frontLine xs) ++ drop (length (lineText (frontLine xs))) xs)
 unfolding startsLine
 started xs h =

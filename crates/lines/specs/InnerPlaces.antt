@@ -1,14 +1,13 @@
 -- Where lines and values stand in a block: how the code's contracts say it.
 -- Assumes nothing.
-use Prim.Native.Nat.{ℕ, suc, _+_, _≤_, _<_}
+use Prim.Native.Nat.{ℕ, _+_, _≤_, _<_}
 use mathlib.Core.Path.{_≡_}
-use mathlib.Core.List.{List, _++_}
+use mathlib.Core.List.{List, [], _∷_, _++_}
 use mathlib.Core.Bool.{true}
-use mathlib.Core.Option.{Option, none, some}
 use lib.ListN.{length, drop}
 use Rattle.cells.specs.Runs.{cut}
 use Rattle.lines.specs.Lines.{Line, goodLine, lineText, linesIn}
-use Rattle.lines.specs.Values.{trimEnd, trimmed, timesNamed, valueIn}
+use Rattle.lines.specs.Values.{trimEnd, trimmed, valuesIn}
 use Rattle.lines.specs.declared.Place.{Place}
 use Rattle.lines.specs.declared.Place.the-variants.{Whole, Broken}
 use Rattle.lines.specs.declared.Span.{Span}
@@ -46,20 +45,44 @@ pub record TrimmedTo (block : List ℕ) (start end : ℕ) (r : Span) : Type 0 wh
   pub within : r .end ≤ end
   pub is : trimmed (cut block start end) ≡ cut block (r .start) (r .end)
 
--- the value of the first line that bears the name, and how many bear it
-abbrev pub toldOf : List Line → List ℕ → Option (List ℕ) × ℕ
-toldOf ls name = (valueIn ls name, timesNamed ls name)
+-- a line stands at index at
+pub record Stands (block : List ℕ) (at : ℕ) : Type 0 where
+  pub colon : ℕ
+  pub end : ℕ
+  pub is : WholeLine block at colon end
 
--- the same as an answer tells it: the value from start up to end, the line that bears it, and those of the lines from next on
-abbrev pub toldBy : List ℕ → List ℕ → Found → Option (List ℕ) × ℕ
-toldBy block name (At start end next) = (some (cut block start end), suc (timesNamed (linesIn (drop next block)) name))
-toldBy block name Missing = (none, 0)
+-- the value of the first line
+abbrev pub frontValue : List Line → List ℕ
+frontValue [] = []
+frontValue (l ∷ ls) = trimmed (l .value)
 
-abbrev pub Within : List ℕ → Found → Type 0
-Within block (At start end next) = (start ≤ end) × (end ≤ length block) × (next ≤ length block)
-Within block Missing = Unit
+-- the values of the first line and of those after it that bear its name
+abbrev pub ownValues : List Line → List (List ℕ)
+ownValues [] = []
+ownValues (l ∷ ls) = trimmed (l .value) ∷ valuesIn ls (l .name)
 
--- r tells of the lines from index at on
-pub record FoundIs (block : List ℕ) (at : ℕ) (name : List ℕ) (r : Found) : Type 0 where
-  pub told : toldOf (linesIn (drop at block)) name ≡ toldBy block name r
-  pub within : Within block r
+abbrev pub frontAt : List ℕ → ℕ → List ℕ
+frontAt block at = frontValue (linesIn (drop at block))
+
+abbrev pub ownAt : List ℕ → ℕ → List (List ℕ)
+ownAt block at = ownValues (linesIn (drop at block))
+
+-- these are the values of the line that is found, and of those after it that bear its name
+pub record FoundAt (block : List ℕ) (values : List (List ℕ)) (at place : ℕ) : Type 0 where
+  pub from : at ≤ place
+  pub stands : Stands block place
+  pub are : values ≡ ownAt block place
+
+abbrev pub Finds : List ℕ → List (List ℕ) → ℕ → Found → Type 0
+Finds block values at (At place) = FoundAt block values at place
+Finds block values at Missing = values ≡ []
+
+-- r is the first line from index at on that bears the name
+abbrev pub FoundIs : List ℕ → ℕ → List ℕ → Found → Type 0
+FoundIs block at name r = Finds block (valuesIn (linesIn (drop at block)) name) at r
+
+-- r is the first line after the one at index at that bears its name
+pub record AgainIs (block : List ℕ) (at : ℕ) (r : Found) : Type 0 where
+  pub others : List (List ℕ)
+  pub are : ownAt block at ≡ frontAt block at ∷ others
+  pub found : Finds block others (at + 1) r

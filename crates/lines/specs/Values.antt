@@ -1,18 +1,22 @@
--- Names that stand twice, and covered values: document 01, number 7 and 'Header lines and the signed text'.
+-- Names that stand twice, and covered values: document 01, number 7 and 'Header lines and the signed text', and document 02, K10.
 -- Assumes nothing.
-use Prim.Native.Nat.{ℕ, _+_}
-use mathlib.Core.List.{List, [], _∷_}
-use mathlib.Core.Bool.{Bool, false, cond, _||_}
-use mathlib.Core.Option.{Option, none, some}
-use lib.ListN.{drop}
+use Prim.Native.Nat.{ℕ}
+use mathlib.Core.List.{List, [], _∷_, _++_}
+use mathlib.Core.Bool.{Bool, false, not, cond, _&&_, _||_}
+use lib.ListN.{length, drop}
 use lib.Dec.{eqb, ltb}
 use Rattle.cells.specs.Spans.{leading}
 use Rattle.names.specs.Names.{sameName}
+use Rattle.names.specs.Extra.{comma}
+use Rattle.names.specs.Lists.{isList}
 use Rattle.lines.specs.Lines.{Line}
+
+abbrev pub space : ℕ
+space = 32
 
 -- a space or a tab
 abbrev pub blank : ℕ → Bool
-blank b = eqb b 32 || eqb b 9
+blank b = eqb b space || eqb b 9
 
 -- without the blanks at the front
 unfoldable pub trimFront : List ℕ → List ℕ
@@ -31,25 +35,30 @@ trimEnd (b ∷ bs) = keeping b (trimEnd bs)
 unfoldable pub trimmed : List ℕ → List ℕ
 trimmed value = trimEnd (trimFront value)
 
--- how many lines bear the name
-unfoldable pub timesNamed : List Line → List ℕ → ℕ
-timesNamed [] name = 0
-timesNamed (l ∷ ls) name = cond (sameName (l .name) name) 1 0 + timesNamed ls name
+-- the trimmed values of the lines that bear the name, in order
+unfoldable pub valuesIn : List Line → List ℕ → List (List ℕ)
+valuesIn [] name = []
+valuesIn (l ∷ ls) name = cond (sameName (l .name) name) (trimmed (l .value) ∷ valuesIn ls name) (valuesIn ls name)
 
--- one of the names stands twice or more
+-- one of the names stands twice or more and is no list field
 unfoldable pub repeated : List (List ℕ) → List Line → Bool
 repeated [] ls = false
-repeated (n ∷ ns) ls = ltb 1 (timesNamed ls n) || repeated ns ls
+repeated (n ∷ ns) ls = not (isList n) && ltb 1 (length (valuesIn ls n)) || repeated ns ls
 
--- the trimmed value of the first line that bears the name
-unfoldable pub valueIn : List Line → List ℕ → Option (List ℕ)
-valueIn [] name = none
-valueIn (l ∷ ls) name = cond (sameName (l .name) name) (some (trimmed (l .value))) (valueIn ls name)
+-- a comma and a space before each value
+unfoldable pub following : List (List ℕ) → List ℕ
+following [] = []
+following (v ∷ vs) = comma ∷ space ∷ (v ++ following vs)
 
-abbrev pub orElse : Option (List ℕ) → List ℕ → List ℕ
-orElse (some value) other = value
-orElse none other = other
+-- values joined in order by a comma and a space
+unfoldable pub joined : List (List ℕ) → List ℕ
+joined [] = []
+joined (v ∷ vs) = v ++ following vs
+
+abbrev pub orElse : List (List ℕ) → List (List ℕ) → List (List ℕ)
+orElse [] others = others
+orElse (v ∷ vs) others = v ∷ vs
 
 -- from the set-aside lines where the name stands there, and otherwise from the head; absent is empty
 unfoldable pub coveredValue : List Line → List Line → List ℕ → List ℕ
-coveredValue aside head name = orElse (valueIn aside name) (orElse (valueIn head name) [])
+coveredValue aside head name = joined (orElse (valuesIn aside name) (valuesIn head name))

@@ -1,88 +1,85 @@
-// Header lines: whether a block is lines, names that stand twice, and covered values.
+// Header lines: where covered names stand in a block, and their values.
 ghost use mathlib.Core.Path.{_≡_};
-ghost use mathlib.Core.Bool.{true};
-ghost use Prim.Native.Nat.{_≤_};
+ghost use Prim.Native.Nat.{_≤_, _%_};
 ghost use lib.ListN.{length, getD};
-ghost use lib.Dec.{ltb};
 ghost use Rattle.cells.specs.Spans.{all, Spans, Passed};
-ghost use Rattle.names.specs.Extra.{goodExtra};
-ghost use Rattle.names.specs.Covered.{chosen, coveredNames};
-ghost use Rattle.names.specs.InnerWalk.{Known, namesFrom};
-ghost use Rattle.lines.specs.Lines.{valueByte, linesIn, goodBlock};
-ghost use Rattle.lines.specs.Values.{blank, timesNamed, repeated, coveredValue};
-ghost use Rattle.lines.specs.InnerPlaces.{PlaceIs, BackAt, TrimmedTo, FoundIs};
-use names::Next;
-use names::extra;
+ghost use Rattle.lines.specs.Lines.{valueByte};
+ghost use Rattle.lines.specs.Values.{blank, joined};
+ghost use Rattle.lines.specs.InnerPlaces.{PlaceIs, BackAt, TrimmedTo, Stands, frontAt, ownAt, FoundIs, AgainIs};
+ghost use Rattle.lines.specs.InnerNotes.{placeOf, PlaceIn, CoveredIs};
 use names::token;
 
-// Whether the block is header lines.
-pub fn good(block: &[u8]) -> bool
-    ensures { λ r. ⌜ r ≡ goodBlock (now (block .entry)) ⌝ }
+pub mod noting;
+
+// The value of a covered name by its notes, of its first line where it has several: a part of one of the two blocks.
+pub fn covered<'a>(head: &'a [u8], aside: &'a [u8], in_head: u16, in_aside: u16) -> &'a [u8]
+    requires { ⌜ PlaceIn (now head) in_head × PlaceIn (now aside) in_aside ⌝ }
+    ensures { λ r. ⌜ CoveredIs (now (aside .entry)) (now (head .entry)) in_head in_aside (now r) ⌝ }
 {
-    let mut at: usize = 0;
-    while at < block.len() {
-        let Place::Whole { colon: _, end } = line_at(block, at) else {
-            return false;
-        };
-        at = end + 2;
+    if in_aside != 0 {
+        return value_at(aside, place_of(in_aside));
     }
-    true
-}
-
-// Whether a name that the orders cover stands twice in the block.
-pub fn repeats(known: &[u8], mask: u64, extra: &[u8], block: &[u8]) -> bool
-    requires { ⌜ Known (now known) × (goodExtra (now extra) ≡ true) ⌝ }
-    ensures { λ r. ⌜ r ≡ repeated (coveredNames mask (now (extra .entry))) (linesIn (now (block .entry))) ⌝ }
-{
-    repeats_in(block, known, mask / 2) | repeats_in(block, extra, extra::extra_bits(extra))
-}
-
-fn repeats_in(block: &[u8], run: &[u8], wanted: u64) -> bool
-    ensures { λ r. ⌜ r ≡ repeated (chosen wanted (namesFrom (now (run .entry)) 0)) (linesIn (now (block .entry))) ⌝ }
-{
-    let mut left = wanted;
-    let mut at: usize = 0;
-    loop {
-        let Next::Name(start, end, rest) = names::next_name(run, left, at) else {
-            return false;
-        };
-        if twice(block, &run[start..end]) {
-            return true;
-        }
-        left = rest;
-        at = end + 1;
-    }
-}
-
-fn twice(block: &[u8], name: &[u8]) -> bool
-    ensures { λ r. ⌜ r ≡ ltb 1 (timesNamed (linesIn (now (block .entry))) (now (name .entry))) ⌝ }
-{
-    let Found::At(_, _, next) = find(block, 0, name) else {
-        return false;
-    };
-    let Found::At(_, _, _) = find(block, next, name) else {
-        return false;
-    };
-    true
-}
-
-// The value of a covered name: a part of one of the two blocks.
-pub fn covered<'a>(head: &'a [u8], aside: &'a [u8], name: &[u8]) -> &'a [u8]
-    ensures { λ r. ⌜ now r ≡ coveredValue (linesIn (now (aside .entry))) (linesIn (now (head .entry))) (now (name .entry)) ⌝ }
-{
-    if let Found::At(start, end, _) = find(aside, 0, name) {
-        return &aside[start..end];
-    }
-    if let Found::At(start, end, _) = find(head, 0, name) {
-        return &head[start..end];
+    if in_head != 0 {
+        return value_at(head, place_of(in_head));
     }
     &head[..0]
 }
 
-enum Found {
-    // Where the trimmed value starts, where it ends, and where the next line starts.
-    At(usize, usize, usize),
+// Where the line stands that a note tells of.
+pub fn place_of(note: u16) -> usize
+    requires { ⌜ 1 ≤ note % 32768 ⌝ }
+    ensures { λ r. ⌜ r ≡ placeOf note ⌝ }
+{
+    (note % 32768) as usize - 1
+}
+
+// How long the value is that the line at byte at and those after it that bear its name have together.
+pub fn joined_size(block: &[u8], at: usize) -> usize
+    requires { ⌜ Stands (now block) at ⌝ }
+    ensures { λ r. ⌜ r ≡ length (joined (ownAt (now (block .entry)) at)) ⌝ }
+{
+    let first = value_at(block, at);
+    let mut size = first.len();
+    let mut place = at;
+    loop {
+        let Found::At(next) = again(block, place) else {
+            return size;
+        };
+        let value = value_at(block, next);
+        size = size + 2 + value.len();
+        place = next;
+    }
+}
+
+// The trimmed value of the line at byte at.
+pub fn value_at<'a>(block: &'a [u8], at: usize) -> &'a [u8]
+    requires { ⌜ at ≤ length (now block) ⌝ }
+    ensures { λ r. ⌜ now r ≡ frontAt (now (block .entry)) at ⌝ }
+{
+    let Place::Whole { colon, end } = line_at(block, at) else {
+        return &block[..0];
+    };
+    let value = trim(block, colon + 1, end);
+    let start = value.start;
+    let stop = value.end;
+    &block[start..stop]
+}
+
+pub enum Found {
+    // Where the line starts.
+    At(usize),
     Missing,
+}
+
+// The first line after the one at byte at that bears its name.
+pub fn again(block: &[u8], at: usize) -> Found
+    requires { ⌜ Stands (now block) at ⌝ }
+    ensures { λ r. ⌜ AgainIs (now (block .entry)) at r ⌝ }
+{
+    let Place::Whole { colon, end } = line_at(block, at) else {
+        return Found::Missing;
+    };
+    find(block, end + 2, &block[at..colon])
 }
 
 // The first line from byte at on that bears the name.
@@ -96,8 +93,7 @@ fn find(block: &[u8], at: usize, name: &[u8]) -> Found
             return Found::Missing;
         };
         if names::same_name(&block[place..colon], name) {
-            let value = trim(block, colon + 1, end);
-            return Found::At(value.start, value.end, end + 2);
+            return Found::At(place);
         }
         place = end + 2;
     }

@@ -8,6 +8,8 @@ use native.Mathlib.Omega.{arith}
 use borrow.Author.Tests.{eqb-true}
 use lib.Dec.{eqb, lit≤}
 use lib.ListN.{length}
+use Rattle.cells.specs.Text.{codes}
+use Rattle.names.specs.Names.{headerNames}
 use Rattle.names.specs.Extra.{comma, ontoFirst, namesIn}
 use Rattle.names.specs.InnerWalk.{Known}
 
@@ -53,3 +55,7 @@ names-in-injective a b e = sym (names-in-joined a) ∙ ap rejoined e ∙ names-i
 -- so what `known` answers leaves no choice
 pub known-determined : (a b : List ℕ) → Known a → Known b → a ≡ b
 known-determined a b p q = names-in-injective a b (p ∙ sym q)
+
+pub known-size : (run : List ℕ) → Known run → length run ≡ 632
+unfolding headerNames codes
+known-size run h = sym (ap length (names-in-joined run)) ∙ ap (λ (ns : List (List ℕ)). length (rejoined ns)) h

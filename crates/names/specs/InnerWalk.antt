@@ -6,6 +6,7 @@ use mathlib.Core.List.{List, [], _∷_}
 use mathlib.Core.Bool.{Bool, not, cond}
 use lib.ListN.{length, drop}
 use lib.Dec.{leb, eqb}
+use Rattle.cells.specs.Spans.{Spans}
 use Rattle.cells.specs.Runs.{cut}
 use Rattle.names.specs.Names.{headerNames}
 use Rattle.names.specs.Extra.{comma, namesIn}
@@ -24,11 +25,10 @@ noComma b = not (eqb b comma)
 unfoldable pub namesFrom : List ℕ → ℕ → List (List ℕ)
 namesFrom run at = cond (leb at (length run)) (namesIn (drop at run)) []
 
--- the first chosen name stands from start up to end, and the others come after it
+-- the first chosen name stands from start up to end, where a comma or the run's end is, and the others come after it
 pub record FirstName (run : List ℕ) (wanted at start end left : ℕ) : Type 0 where
   pub from : at ≤ start
-  pub ordered : start ≤ end
-  pub within : end ≤ length run
+  pub ends : Spans noComma run start end
   pub names : chosen wanted (namesFrom run at) ≡ cut run start end ∷ chosen left (namesFrom run (end + 1))
 
 abbrev pub NextIs : List ℕ → ℕ → ℕ → Next → Type 0

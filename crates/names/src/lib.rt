@@ -7,6 +7,7 @@ ghost use Rattle.names.specs.Names.{lower, sameName, hasName};
 ghost use Rattle.names.specs.InnerWalk.{noComma, namesFrom, NextIs, Known};
 
 pub mod extra;
+pub mod sheet;
 pub mod token;
 
 // The names of the mask's bits 1 to 55 in order, joined by commas as the extra names are.

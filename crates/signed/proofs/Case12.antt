@@ -15,7 +15,7 @@ use Rattle.names.specs.Extra.{extraNames}
 use Rattle.names.specs.Covered.{coveredNames}
 use Rattle.names.proofs.Walk.{chosen-set, chosen-none}
 use Rattle.lines.specs.Lines.{Line, valueByte, goodLine, lineText, linesIn}
-use Rattle.lines.specs.Values.{trimFront, trimEnd, trimmed, valueIn, coveredValue}
+use Rattle.lines.specs.Values.{trimFront, trimEnd, trimmed, valuesIn, following, joined, coveredValue}
 use Rattle.lines.proofs.Lines.{lines-more, lines-none}
 use Rattle.signed.specs.SignedText.{Signed, signedParts, signedText, nonceOf, coveredValues, signedOf, requestText}
 
@@ -41,7 +41,7 @@ host-covered =
     ap (λ (ns : List (List ℕ)). ns ++ []) (chosen-set 1 (codes "Host") _ refl ∙ ap (λ (ns : List (List ℕ)). codes "Host" ∷ ns) (chosen-none _))
 
 host-value : coveredValues 3 [] [] host ≡ codes "a" ∷ []
-unfolding coveredValues coveredValue valueIn sameName lower trimmed trimFront trimEnd leading codes
+unfolding coveredValues coveredValue valuesIn joined following sameName lower trimmed trimFront trimEnd leading codes
 host-value =
     ap (map (coveredValue (linesIn []) (linesIn host))) host-covered
     ∙ ap (λ (ls : List Line). coveredValue ls (linesIn host) (codes "Host") ∷ []) lines-none

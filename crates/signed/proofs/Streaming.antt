@@ -1,26 +1,23 @@
 -- Laws of a state that takes in netstrings, one part after the other.
 -- Assumes nothing.
 use mathlib.Core.Path.{_≡_, refl, sym, ap, subst, _∙_}
-use mathlib.Core.List.{List, [], _∷_, _++_, map, map-append, append-assoc, append-nil}
-use Prim.Native.Nat.{ℕ, _+_, _/_}
+use mathlib.Core.List.{List, [], _∷_, _++_, append-assoc, append-nil}
+use Prim.Native.Nat.{ℕ, _+_, _-_}
 use native.Mathlib.Omega.{arith}
-use lib.ListN.{length, length-append}
+use lib.ListN.{length, take, drop, length-append}
 use Rattle.sha2.specs.declared.State.{State}
 use Rattle.sha2.specs.InnerTaken.{TookIn}
 use Rattle.sha2.proofs.Streaming.{took-in-turn}
-use Rattle.netstring.specs.Netstring.{netstring, netstrings}
+use Rattle.netstring.specs.Netstring.{comma, netstring, netstrings}
+use Rattle.netstring.specs.InnerOpening.{Opens}
+use Rattle.netstring.specs.declared.Prefix.{Prefix}
+use Rattle.netstring.proofs.Laid.{netstring-pieces, length-pieces, opening-piece}
 use Rattle.netstring.proofs.Determined.{netstrings-append}
 use Rattle.hashes.specs.declared.Hash.{Hash}
 use Rattle.hashes.specs.Hashes.{hashMask}
 use Rattle.armor.specs.Numerals.{numberBytes, maskBytes}
-use Rattle.names.specs.Extra.{extraNames}
-use Rattle.names.specs.Covered.{chosen}
-use Rattle.names.specs.InnerWalk.{Known, namesFrom}
-use Rattle.names.proofs.Walk.{covered-names}
-use Rattle.lines.specs.Lines.{linesIn}
-use Rattle.lines.specs.Values.{coveredValue}
 use Rattle.signed.specs.SignedText.{carried, signedParts, signedText, nonceOf, coveredValues, signedOf, requestText}
-use Rattle.signed.specs.InnerStreamed.{Room, TookParts, openingParts, valuesFrom}
+use Rattle.signed.specs.InnerStreamed.{Room, TookParts, openingParts}
 
 -- no parts
 pub took-none : (s : State) → TookParts s [] s
@@ -52,21 +49,24 @@ netstrings-one part = append-nil (netstring part)
 pub size-one : (part : List ℕ) → size (part ∷ []) ≡ length (netstring part)
 size-one part = ap length (netstrings-one part)
 
+-- a netstring's three pieces, as they are taken in, and how long they are
+module _ (part : List ℕ) (made : Prefix) (opens : Opens (length part) made) where
+  abbrev pub piece : List ℕ
+  piece = take (21 - made .start) (drop (made .start) (made .all))
+
+  pub pieces-size : size (part ∷ []) ≡ length piece + length part + 1
+  pieces-size = size-one part ∙ length-pieces part (opening-piece _ made opens)
+
+  pub took-netstring : (s t u r : State) → TookIn s piece t → TookIn t part u → TookIn u (comma ∷ []) r → TookParts s (part ∷ []) r
+  took-netstring s t u r p q e =
+      subst (λ (l : List ℕ). TookIn s l r)
+      (ap (λ (l : List ℕ). (l ++ part) ++ (comma ∷ [])) (opening-piece _ made opens) ∙ netstring-pieces part ∙ sym (netstrings-one part))
+      (took-in-turn s u r (piece ++ part) (comma ∷ []) (took-in-turn s t u piece part p q) e)
+
 pub opening-size : (hash : Hash) (mask n t lt : ℕ) (method extra : List ℕ) → size (openingParts method hash mask extra n t lt)
     ≡ size (method ∷ []) + size (maskBytes (hashMask hash) ∷ []) + size (maskBytes mask ∷ []) + size (extra ∷ []) + size (carried (nonceOf mask n)) + size (numberBytes t ∷ []) + size (numberBytes lt ∷ [])
 unfolding netstrings
 opening-size hash mask n t lt method extra = simp (netstrings-append, length-append) (omega arith)
-
-abbrev pub extraValues : List ℕ → List ℕ → List ℕ → List (List ℕ)
-extraValues aside head extra = map (coveredValue (linesIn aside) (linesIn head)) (extraNames extra)
-
--- the values of the known names and those of the extra names are the covered values
-pub values-joined : (mask : ℕ) (extra known aside head : List ℕ) → Known known
-    → valuesFrom aside head known (mask / 2) 0 ++ extraValues aside head extra ≡ coveredValues mask extra aside head
-unfolding coveredValues
-values-joined mask extra known aside head h =
-    let f = coveredValue (linesIn aside) (linesIn head) in
-    sym (map-append f (chosen (mask / 2) (namesFrom known 0)) (extraNames extra)) ∙ ap (map f) (sym (covered-names mask extra known h))
 
 -- all the parts in a row are the signed text
 pub parts-joined : (hash : Hash) (mask n t lt : ℕ) (method extra aside head path body : List ℕ)

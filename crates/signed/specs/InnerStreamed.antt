@@ -1,6 +1,6 @@
 -- How the code's contracts say that a state took in parts of the signed text.
 -- Assumes nothing.
-use mathlib.Core.List.{List, [], _∷_, _++_, map}
+use mathlib.Core.List.{List, [], _∷_, _++_}
 use Prim.Native.Nat.{ℕ, _+_, _^_, _<_}
 use lib.ListN.{length}
 use Rattle.sha2.specs.InnerTaken.{TookIn}
@@ -9,10 +9,6 @@ use Rattle.netstring.specs.Netstring.{netstrings}
 use Rattle.hashes.specs.declared.Hash.{Hash}
 use Rattle.hashes.specs.Hashes.{hashMask}
 use Rattle.armor.specs.Numerals.{numberBytes, maskBytes}
-use Rattle.names.specs.Covered.{chosen}
-use Rattle.names.specs.InnerWalk.{namesFrom}
-use Rattle.lines.specs.Lines.{linesIn}
-use Rattle.lines.specs.Values.{coveredValue}
 use Rattle.signed.specs.SignedText.{carried, nonceOf}
 
 -- s has room for the netstrings of these parts
@@ -27,7 +23,3 @@ TookParts s parts r = TookIn s (netstrings parts) r
 abbrev pub openingParts : List ℕ → Hash → ℕ → List ℕ → ℕ → ℕ → ℕ → List (List ℕ)
 openingParts method hash mask extra n t lt =
     method ∷ maskBytes (hashMask hash) ∷ maskBytes mask ∷ extra ∷ (carried (nonceOf mask n) ++ (numberBytes t ∷ numberBytes lt ∷ []))
-
--- the values of the chosen names of a run from index at on
-abbrev pub valuesFrom : List ℕ → List ℕ → List ℕ → ℕ → ℕ → List (List ℕ)
-valuesFrom aside head run wanted at = map (coveredValue (linesIn aside) (linesIn head)) (chosen wanted (namesFrom run at))

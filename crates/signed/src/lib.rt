@@ -2,26 +2,28 @@
 ghost use mathlib.Core.Path.{_≡_};
 ghost use mathlib.Core.Bool.{true};
 ghost use mathlib.Core.List.{[], _∷_};
-ghost use Prim.Native.Nat.{_^_, _<_, _≤_};
+ghost use Prim.Native.Nat.{_+_, _^_, _<_, _≤_};
 ghost use lib.ListN.{length, take};
 ghost use Rattle.cells.specs.Runs.{same};
 ghost use Rattle.hashes.specs.Hashes.{digestSize};
 ghost use Rattle.hmac.specs.Hmac.{hmacOf};
 ghost use Rattle.armor.specs.Numerals.{numberBytes, maskBytes};
 ghost use Rattle.names.specs.Extra.{goodExtra};
-ghost use Rattle.names.specs.InnerWalk.{Known};
-ghost use Rattle.signed.specs.SignedText.{carried, nonceOf, coveredValues, requestText};
-ghost use Rattle.signed.specs.InnerStreamed.{Room, TookParts, openingParts, valuesFrom};
+ghost use Rattle.names.specs.Covered.{coveredNames};
+ghost use Rattle.lines.specs.Values.{joined};
+ghost use Rattle.lines.specs.InnerPlaces.{Stands, ownAt};
+ghost use Rattle.lines.specs.InnerNotes.{PlaceIn, Placed, valueBy, valuesBy, NotesOn};
+ghost use Rattle.sha2.specs.InnerTaken.{TookIn};
+ghost use Rattle.signed.specs.SignedText.{carried, nonceOf, requestText};
+ghost use Rattle.signed.specs.InnerStreamed.{Room, TookParts, openingParts};
 use hashes::Hash;
-use names::Next;
-use names::extra;
+use lines::Found;
 use sha2::State;
 use window::Nonce;
 use window::time::Time;
 
 // The HMAC under the session key of a request's signed text, at the front.
 pub fn code<'a>(
-    known: &[u8],
     key: &[u8],
     method: &[u8],
     hash: Hash,
@@ -32,16 +34,18 @@ pub fn code<'a>(
     lt: Time,
     head: &'a [u8],
     aside: &'a [u8],
+    in_head: &[u16],
+    in_aside: &[u16],
     path: &[u8],
     body: &[u8],
 ) -> [u8; 64]
-    requires { ⌜ Known (now known) × (length (now key) < 2 ^ 61) × (length (now method) ≤ 16) × (goodExtra (now extra) ≡ true) × (length (now head) ≤ 16384) × (length (now aside) ≤ 16384) × (length (now path) ≤ 2048) × (length (now body) ≤ 65536) ⌝ }
+    requires { ⌜ (length (now key) < 2 ^ 61) × (length (now method) ≤ 16) × (goodExtra (now extra) ≡ true) × (length (now head) ≤ 16384) × (length (now aside) ≤ 16384) × (length (now path) ≤ 2048) × (length (now body) ≤ 65536) × NotesOn (coveredNames mask (now extra)) (now head) (now aside) (now «in_head») (now «in_aside») ⌝ }
     ensures { λ r. ⌜ take (digestSize hash) r ≡ hmacOf hash (now (key .entry)) (requestText (now (method .entry)) hash mask (now (extra .entry)) (n .0) (t .0) (lt .0) (now (aside .entry)) (now (head .entry)) (now (path .entry)) (now (body .entry))) ⌝ }
 {
     // One variable: each state with a name of its own lies on the stack by itself.
     let mut s = hmac::begin(hash, key);
     s = opening(s, method, hash, mask, extra, n, t, lt);
-    s = values(s, known, mask, extra, head, aside);
+    s = values(s, head, aside, in_head, in_aside);
     s = ending(s, path, body);
     hmac::finish(hash, key, s)
 }
@@ -103,35 +107,72 @@ fn absorb_nonce(state: State, mask: u64, n: Nonce) -> State
 // The covered values by rising bit, and then the extra ones.
 fn values<'a>(
     state: State,
-    known: &[u8],
-    mask: u64,
-    extra: &[u8],
     head: &'a [u8],
     aside: &'a [u8],
+    in_head: &[u16],
+    in_aside: &[u16],
 ) -> State
-    requires { ⌜ Known (now known) × (goodExtra (now extra) ≡ true) × Room state (coveredValues mask (now extra) (now aside) (now head)) ⌝ }
-    ensures { λ r. ⌜ TookParts state (coveredValues mask (now (extra .entry)) (now (aside .entry)) (now (head .entry))) r ⌝ }
-{
-    let ordered = values_in(state, known, mask / 2, head, aside);
-    values_in(ordered, extra, extra::extra_bits(extra), head, aside)
-}
-
-// The values of the names of run whose bits are set in wanted.
-fn values_in<'a>(state: State, run: &[u8], wanted: u64, head: &'a [u8], aside: &'a [u8]) -> State
-    requires { ⌜ Room state (valuesFrom (now aside) (now head) (now run) wanted 0) ⌝ }
-    ensures { λ r. ⌜ TookParts state (valuesFrom (now (aside .entry)) (now (head .entry)) (now (run .entry)) wanted 0) r ⌝ }
+    requires { ⌜ (length (now «in_head») ≡ length (now «in_aside»)) × Placed (now head) (now «in_head») × Placed (now aside) (now «in_aside») × Room state (valuesBy (now aside) (now head) (now «in_head») (now «in_aside»)) ⌝ }
+    ensures { λ r. ⌜ TookParts state (valuesBy (now (aside .entry)) (now (head .entry)) (now («in_head» .entry)) (now («in_aside» .entry))) r ⌝ }
 {
     let mut taken = state;
-    let mut left = wanted;
-    let mut at: usize = 0;
+    let mut i: usize = 0;
+    while i < in_head.len() {
+        taken = absorb_value(taken, head, aside, in_head[i], in_aside[i]);
+        i += 1;
+    }
+    taken
+}
+
+// The value of a covered name by the notes on it.
+fn absorb_value<'a>(
+    state: State,
+    head: &'a [u8],
+    aside: &'a [u8],
+    in_head: u16,
+    in_aside: u16,
+) -> State
+    requires { ⌜ PlaceIn (now head) «in_head» × PlaceIn (now aside) «in_aside» × Room state (valueBy (now aside) (now head) «in_head» «in_aside» ∷ []) ⌝ }
+    ensures { λ r. ⌜ TookParts state (valueBy (now (aside .entry)) (now (head .entry)) «in_head» «in_aside» ∷ []) r ⌝ }
+{
+    if 32768 <= in_aside {
+        return absorb_joined(state, aside, lines::place_of(in_aside));
+    }
+    if (in_aside == 0) & (32768 <= in_head) {
+        return absorb_joined(state, head, lines::place_of(in_head));
+    }
+    let value = lines::covered(head, aside, in_head, in_aside);
+    absorb(state, value)
+}
+
+// The netstring of the value that the line at byte at and those after it that bear its name have together. It stands nowhere as a whole.
+fn absorb_joined(state: State, block: &[u8], at: usize) -> State
+    requires { ⌜ Stands (now block) at × Room state (joined (ownAt (now block) at) ∷ []) ⌝ }
+    ensures { λ r. ⌜ TookParts state (joined (ownAt (now (block .entry)) at) ∷ []) r ⌝ }
+{
+    let open = netstring::opening(lines::joined_size(block, at));
+    let all = open.all;
+    let start = open.start;
+    let mut s = state;
+    s = s.absorb(&all[start..]);
+    s = absorb_lines(s, block, at);
+    s.absorb(b",")
+}
+
+fn absorb_lines(state: State, block: &[u8], at: usize) -> State
+    requires { ⌜ Stands (now block) at × (state .length + length (joined (ownAt (now block) at)) < 2 ^ 61) ⌝ }
+    ensures { λ r. ⌜ TookIn state (joined (ownAt (now (block .entry)) at)) r ⌝ }
+{
+    let mut s = state;
+    let mut place = at;
     loop {
-        let Next::Name(start, end, rest) = names::next_name(run, left, at) else {
-            return taken;
+        let value = lines::value_at(block, place);
+        s = s.absorb(value);
+        let Found::At(next) = lines::again(block, place) else {
+            return s;
         };
-        let value = lines::covered(head, aside, &run[start..end]);
-        taken = absorb(taken, value);
-        left = rest;
-        at = end + 1;
+        s = s.absorb(b", ");
+        place = next;
     }
 }
 

@@ -2,3 +2,4 @@
 pub mod Checks
 pub mod Parts
 pub mod Stages
+pub mod Covering

@@ -11,6 +11,8 @@ use Rattle.hashes.specs.declared.Hash.{Hash}
 use Rattle.armor.specs.Value.{carried}
 use Rattle.armor.specs.InnerAnswers.{Holds, Lies}
 use Rattle.armor.specs.declared.Request.{Request as ArmorRequest}
+use Rattle.names.specs.Covered.{coveredNames}
+use Rattle.lines.specs.InnerNotes.{NotesOn}
 use Rattle.orders.specs.Orders.{Orders, limitsOf}
 use Rattle.orders.specs.declared.Limits.{Limits}
 use Rattle.token.specs.Token.{Token}
@@ -18,6 +20,7 @@ use Rattle.token.specs.InnerHeld.{IsToken}
 use Rattle.token.specs.declared.Unsealed.{Unsealed}
 use Rattle.table.specs.declared.session.Record.{Record}
 use Rattle.table.specs.declared.place.Place.{Place}
+use Rattle.stages.specs.declared.reading.Compared.{Compared}
 use Rattle.stages.specs.declared.reading.Reading.{Reading}
 use Rattle.stages.specs.declared.vouching.Vouched.{Vouched}
 use Rattle.stages.specs.declared.admitting.Admitted.{Admitted}
@@ -27,20 +30,30 @@ use Rattle.stages.specs.Checks.{first, nowhere}
 use Rattle.table.specs.Session.{placeOf, heldAt}
 use Rattle.stages.specs.Parts.{ivOf, hashOf, nonceOf, timeOf, lastTimeOf, tokenOf, limits, ordered, nextOf, coveringPart, readingPart, vouchingPart, admittingPart, invalidates}
 
--- 6 to 8
-abbrev pub CoversIs : Orders → List ℕ → List ℕ → List ℕ → List ℕ → ℕ → Type 0
-CoversIs o value method head aside number =
-    (clock : ℕ) (server-key path body reply : List ℕ) → number ≡ first (coveringPart (requestOf o clock server-key value method head aside path body reply))
+-- notes on the covered names, as many as there are names
+pub record Noted (o : Orders) (head aside in-head in-aside : List ℕ) (count : ℕ) : Type 0 where
+  pub fits : count ≤ 64
+  pub notes : NotesOn (coveredNames (o .numbers .mask) (o .extra)) head aside (take count in-head) (take count in-aside)
 
--- 4 to 8: the number, and where it is 0 what the value carries
-pub record Reads (q : Request) (run : List ℕ) (r : Reading) : Type 0 where
+-- 6 to 8: the number, and where it is 0 the notes
+pub record Covers (q : Request) (in-head in-aside : List ℕ) (r : Compared) : Type 0 where
+  pub is : r .number ≡ first (coveringPart q)
+  pub noted : r .number ≡ 0 → Noted (q .orders) (q .head) (q .aside) in-head in-aside (r .covered)
+
+abbrev pub CoversIs : Orders → List ℕ → List ℕ → List ℕ → List ℕ → List ℕ → List ℕ → Compared → Type 0
+CoversIs o value method head aside in-head in-aside r =
+    (clock : ℕ) (server-key path body reply : List ℕ) → Covers (requestOf o clock server-key value method head aside path body reply) in-head in-aside r
+
+-- 4 to 8: the number, and where it is 0 what the value carries and the notes
+pub record Reads (q : Request) (run in-head in-aside : List ℕ) (r : Reading) : Type 0 where
   pub is : r .number ≡ first (readingPart q)
   pub holds : r .number ≡ 0 → Holds (q .value) (carried (q .value)) (r .request)
   pub lies : r .number ≡ 0 → Lies (carried (q .value)) (r .request) run
+  pub noted : r .number ≡ 0 → Noted (q .orders) (q .head) (q .aside) in-head in-aside (r .covered)
 
-abbrev pub ReadIs : Orders → List ℕ → List ℕ → List ℕ → List ℕ → List ℕ → Reading → Type 0
-ReadIs o value method head aside run r =
-    (clock : ℕ) (server-key path body reply : List ℕ) → Reads (requestOf o clock server-key value method head aside path body reply) run r
+abbrev pub ReadIs : Orders → List ℕ → List ℕ → List ℕ → List ℕ → List ℕ → List ℕ → List ℕ → Reading → Type 0
+ReadIs o value method head aside run in-head in-aside r =
+    (clock : ℕ) (server-key path body reply : List ℕ) → Reads (requestOf o clock server-key value method head aside path body reply) run in-head in-aside r
 
 -- 9 to 11: the number, and the token unless it is 9
 pub record Vouches (q : Request) (r : Vouched) : Type 0 where

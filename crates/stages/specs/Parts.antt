@@ -1,5 +1,6 @@
 -- The checks of a request from its value on, in named parts: document 01, 'The numbers a call returns', 'Header lines and the signed text' and
--- 'Age, idleness and the window', and document 02, K2, for the hash, K3, for the method, and K6, for a clock that runs ahead.
+-- 'Age, idleness and the window', and document 02, K2, for the hash, K3, for the method, K6, for a clock that runs ahead, and K10, for repeated
+-- lines.
 -- Assumes nothing.
 use mathlib.Core.Bool.{Bool, not, _&&_, _||_}
 use mathlib.Core.List.{List, [], _∷_, _++_}
@@ -74,7 +75,7 @@ textOf q =
 unfoldable pub codeOf : Request → List ℕ
 codeOf q = hmacOf (hashOf q) (tokenOf q .key) (textOf q)
 
--- the names that the orders cover, and whether one stands twice in a block
+-- whether a name that the orders cover, and that is no list field, stands twice in a block
 unfoldable pub twice : Request → List ℕ → Bool
 twice q block = repeated (coveredNames (q .orders .numbers .mask) (q .orders .extra)) (linesIn block)
 

@@ -4,7 +4,8 @@ ghost use mathlib.Core.Bool.{true};
 ghost use Prim.Native.Nat.{_≤_};
 ghost use lib.ListN.{length};
 ghost use Rattle.names.specs.Extra.{goodExtra};
-ghost use Rattle.names.specs.InnerWalk.{Known};
+ghost use Rattle.names.specs.Covered.{coveredNames};
+ghost use Rattle.lines.specs.InnerNotes.{NotesOn};
 ghost use Rattle.orders.specs.Orders.{orders};
 ghost use Rattle.table.specs.declared.place.Place.the-variants.{Nowhere};
 ghost use Rattle.stages.specs.InnerStages.{SettleIs, decisionOf};
@@ -33,7 +34,6 @@ pub struct Decision {
 }
 
 pub fn settle<'a>(
-    known: &[u8],
     numbers: Numbers,
     extra: &[u8],
     clock: Time,
@@ -44,17 +44,18 @@ pub fn settle<'a>(
     method: &[u8],
     head: &'a [u8],
     aside: &'a [u8],
+    in_head: &[u16],
+    in_aside: &[u16],
     path: &[u8],
     body: &[u8],
     place: Place,
     held: Record,
 ) -> Decision
-    requires { ⌜ Known (now known) × (goodExtra (now extra) ≡ true) × (length (now «server_key») ≡ 32) × (request .«s_len» ≤ 118) × (request .«c_len» ≤ 64) × (length (now fields) ≡ 210) × (length (now method) ≤ 16) × (length (now head) ≤ 16384) × (length (now aside) ≤ 16384) × (length (now path) ≤ 2048) × (length (now body) ≤ 65536) ⌝ }
+    requires { ⌜ (goodExtra (now extra) ≡ true) × (length (now «server_key») ≡ 32) × (request .«s_len» ≤ 118) × (request .«c_len» ≤ 64) × (length (now fields) ≡ 210) × (length (now method) ≤ 16) × (length (now head) ≤ 16384) × (length (now aside) ≤ 16384) × (length (now path) ≤ 2048) × (length (now body) ≤ 65536) × NotesOn (coveredNames (numbers .mask) (now extra)) (now head) (now aside) (now «in_head») (now «in_aside») ⌝ }
     ensures { λ r. ⌜ SettleIs (orders numbers (now (extra .entry))) (clock .0) (now («server_key» .entry)) request (now (fields .entry)) limits (now (method .entry)) (now (head .entry)) (now (aside .entry)) (now (path .entry)) (now (body .entry)) place held r ⌝ }
 {
     let hash = hashes::named(request.h);
     let vouched = vouching::vouch(
-        known,
         numbers,
         extra,
         clock,
@@ -65,6 +66,8 @@ pub fn settle<'a>(
         method,
         head,
         aside,
+        in_head,
+        in_aside,
         path,
         body,
     );

@@ -4,7 +4,8 @@ ghost use mathlib.Core.Bool.{true};
 ghost use Prim.Native.Nat.{_≤_};
 ghost use lib.ListN.{length};
 ghost use Rattle.names.specs.Extra.{goodExtra};
-ghost use Rattle.names.specs.InnerWalk.{Known};
+ghost use Rattle.names.specs.Covered.{coveredNames};
+ghost use Rattle.lines.specs.InnerNotes.{NotesOn};
 ghost use Rattle.orders.specs.Orders.{orders};
 ghost use Rattle.stages.specs.InnerStages.{VouchIs};
 use armor::Request;
@@ -20,7 +21,6 @@ pub struct Vouched {
 }
 
 pub fn vouch<'a>(
-    known: &[u8],
     numbers: Numbers,
     extra: &[u8],
     clock: Time,
@@ -31,10 +31,12 @@ pub fn vouch<'a>(
     method: &[u8],
     head: &'a [u8],
     aside: &'a [u8],
+    in_head: &[u16],
+    in_aside: &[u16],
     path: &[u8],
     body: &[u8],
 ) -> Vouched
-    requires { ⌜ Known (now known) × (goodExtra (now extra) ≡ true) × (length (now «server_key») ≡ 32) × (request .«s_len» ≤ 118) × (request .«c_len» ≤ 64) × (length (now fields) ≡ 210) × (length (now method) ≤ 16) × (length (now head) ≤ 16384) × (length (now aside) ≤ 16384) × (length (now path) ≤ 2048) × (length (now body) ≤ 65536) ⌝ }
+    requires { ⌜ (goodExtra (now extra) ≡ true) × (length (now «server_key») ≡ 32) × (request .«s_len» ≤ 118) × (request .«c_len» ≤ 64) × (length (now fields) ≡ 210) × (length (now method) ≤ 16) × (length (now head) ≤ 16384) × (length (now aside) ≤ 16384) × (length (now path) ≤ 2048) × (length (now body) ≤ 65536) × NotesOn (coveredNames (numbers .mask) (now extra)) (now head) (now aside) (now «in_head») (now «in_aside») ⌝ }
     ensures { λ r. ⌜ VouchIs (orders numbers (now (extra .entry))) (clock .0) (now («server_key» .entry)) request (now (fields .entry)) hash (now (method .entry)) (now (head .entry)) (now (aside .entry)) (now (path .entry)) (now (body .entry)) r ⌝ }
 {
     // Where iv, s, tag and c lie in the run: armor::Request.
@@ -57,7 +59,6 @@ pub fn vouch<'a>(
     let t = request.t;
     let lt = request.lt;
     let code = signed::code(
-        known,
         &key,
         method,
         hash,
@@ -68,6 +69,8 @@ pub fn vouch<'a>(
         lt,
         head,
         aside,
+        in_head,
+        in_aside,
         path,
         body,
     );

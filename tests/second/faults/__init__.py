@@ -7,6 +7,7 @@ from faults import (  # noqa: F401  (each enters its faults as it is read)
     hashes,
     index,
     lines,
+    lists,
     methods,
     orders,
     sealed,

@@ -1,4 +1,4 @@
-"""Refusals 6 and 7 and their edges: 'Head and set-aside lines'."""
+"""Refusals 6 and 7 and their edges: 'Head and set-aside lines'. The list fields, which may be repeated, are in lists.py."""
 
 import client
 import model
@@ -80,7 +80,9 @@ for block_name in BLOCKS:
         put(draft, block, rng.choice([b"Host : a\r\n", b"Host\r\n", b"Host: a\x7f\r\n", b" Host: a\r\n"]), rng)
 
 
-# 7: a covered name twice in one of the two
+# 7: a covered name that is no list field twice in one of the two
+
+ONCE_ONLY = [name for name in model.NAMES if not model.is_list_field(name)]
 
 
 def twice(name, number, on_plan):
@@ -114,11 +116,24 @@ def twice_aside_once_head(draft, rng):
     draft.head_lines.append(b"Host: a\r\n")
 
 
-@fault("twice: any covered name", 7, "plan")
+@fault("twice: any covered name but a list field", 7, "plan")
 def any_covered_twice(draft, rng):
-    name = rng.choice(model.NAMES)
-    draft.cover(name, head=b"a")
-    draft.head_lines.append(client.line(name.lower(), b""))
+    name, block = rng.choice(ONCE_ONLY), rng.choice([*BLOCKS])
+    draft.cover(name, head=b"a", aside=b"a")
+    put(draft, block, client.line(name.lower(), b""), rng)
+
+
+@fault("twice: an empty line and another", 7, "plan")
+def empty_and_another(draft, rng):
+    draft.cover(b"Cookie", head=b"")
+    draft.head_lines.append(b"Cookie: a\r\n")
+
+
+@fault("twice: Host, beside a list field", 7, "plan")
+def host_beside_list(draft, rng):
+    covered_twice(draft, "head", b"Host", b"Host")
+    draft.cover(b"Accept", head=b"a")
+    draft.head_lines.append(b"Accept: b\r\n")
 
 
 @fault("twice: an extra name in the head", 7, "plan")
@@ -133,6 +148,21 @@ def extra_twice_aside(draft, rng):
     draft.order_extra(b"X-Farm")
     draft.give(b"X-Farm", head=b"1", aside=b"2")
     draft.aside_lines.append(b"X-FARM: 2\r\n")
+
+
+@fault("twice: an extra name in the head, hidden by a set-aside line", 7, "plan")
+def extra_twice_hidden(draft, rng):
+    draft.order_extra(b"X-Farm")
+    draft.give(b"X-Farm", head=b"1", aside=b"own")
+    draft.head_lines.append(b"x-farm: 1\r\n")
+
+
+@fault("twice: an extra name much like a list field", 7, "plan")
+def extra_like_list(draft, rng):
+    name = rng.choice([b"Accept-Parts", b"Accep", b"Accept_Charset", b"Vi", b"TEA", b"T", b"If-Matches", b"Upgrade."])
+    draft.order_extra(name)
+    draft.give(name, head=b"a", aside=b"a")
+    put(draft, rng.choice([*BLOCKS]), client.line(name.upper(), b"b"), rng)
 
 
 @fault("twice: thrice in the head", 7, "plan")

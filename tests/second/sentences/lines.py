@@ -2,10 +2,11 @@
 
 import model
 from client import line
-from faults.lines import BAD_LINES
-from sentences.placing import block, covered, names
+from faults.lines import BAD_LINES, ONCE_ONLY
+from sentences.placing import block, covered, names, repeated
 
 EIGHT = b"X-1:ab\r\n"
+FULL = (1 << 56) - 1  # the mask of all names and nonces
 
 
 def blocks():
@@ -44,11 +45,12 @@ def doubled(name, other=None):
 
 
 def doubled_names():
-    yield "a name that the orders cover, twice in one of the two: each name of the list, by its bit alone and by all bits but its own"
-    full = (1 << 56) - 1
-    for bit, name in enumerate(model.NAMES, 1):
-        yield names, 1 << bit, b"", doubled(name, name.swapcase()), b""
-        yield names, full ^ 1 << bit, b"", doubled(name.lower(), name), b""
+    yield "a name that the orders cover, twice in one of the two: each name but the list fields (lists.py), by its bit alone and by all bits but its own"
+    for name in ONCE_ONLY:
+        bit, once = 2 << model.NAMES.index(name), line(name, b"a")
+        for head, aside in ((doubled(name, name.swapcase()), b""), (b"", doubled(name.lower(), name)), (doubled(name), once), (once, doubled(name))):
+            yield repeated, 7, bit, b"", head, aside
+        yield repeated, 0, FULL ^ bit, b"", doubled(name.lower(), name), doubled(name)
     yield "Mask bit 0 of ah orders nonces. It is no header"
     yield names, 1, b"", doubled(b"Host") + doubled(b"MIME-Version"), b""
     yield names, 3, b"", doubled(b"MIME-Version"), b""
@@ -56,6 +58,7 @@ def doubled_names():
     for extra in (b"q", b"q,w", b"w,q", b"a,b,c,d,e,f,g,q", b"Q", b"w", b"qq", b""):
         yield names, 0, extra, doubled(b"q"), b""
         yield names, 0, extra, b"", doubled(b"q", b"Q")
+        yield names, 0, extra, doubled(b"Q", b"q"), b"q: own\r\n"
     yield "twice in one of the two: head, set-aside lines, one in each, thrice"
     once, twice = b"Host: a\r\n", b"Host: a\r\nhOST: b\r\n"
     for head, aside in ((once, b""), (b"", once), (once, once), (twice, b""), (b"", twice), (twice, once), (once, twice), (twice + once, b""), (twice, twice)):
@@ -67,12 +70,12 @@ def doubled_names():
     yield names, 2, b"q", b"X-S-Armor: r:AQQ=\r\nx-s-armor: c:AAAA\r\n", b""
     yield "matched without regard to ASCII case, and otherwise whole"
     for first, second in ((b"x^", b"x~"), (b"If", b"Iff"), (b"I", b"If"), (b"If", b"IF"), (b"if", b"iF"), (b"If-Match", b"If_Match")):
-        yield names, (1 << 56) - 1, b"x^", doubled(first, second), b""
+        yield names, FULL, b"x^", doubled(first, second), b""
     yield "first and last of many lines; a block of 16,384 bytes"
     yield names, 2, b"", once + EIGHT * 100 + once, b""
     yield names, 0, b"X-1", EIGHT * 2_048, b""
     yield names, 2, b"", EIGHT * 2_048, EIGHT * 2_048
-    yield names, (1 << 56) - 1, b"", b"".join(line(name, b" v ") for name in model.NAMES), b"".join(line(name, b"") for name in model.NAMES)
+    yield names, FULL, b"", b"".join(line(name, b" v ") for name in model.NAMES), b"".join(line(name, b"") for name in model.NAMES)
     yield "head or set-aside line malformed, in both blocks, also names that nobody covers"
     for text in (b"Host : a\r\n", b"X-A\r\n", b"X-A: b"):
         yield names, 2, b"", twice + text, b""

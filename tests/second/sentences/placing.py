@@ -464,18 +464,52 @@ def names(mask, extra, head, aside):
     yield "a request", request_call(orders=ordered(mask, extra), head=head, aside=aside), (0, 2, 6, 7)
 
 
-def covered(name, head, aside):
+def repeated(number, mask, extra, head, aside):
+    """Names where it is clear what they come to, by both entries."""
+    call = request_call(orders=ordered(mask, extra), head=head, aside=aside)
+    yield "by gate_judge", call, (number,)
+    yield "by the thin entry", call._replace(kind="one"), (number,)
+
+
+def covering(name):
     """By its bit if the name is listed, as an extra name otherwise."""
     listed = [known.lower() for known in model.NAMES]
-    orders = ordered(2 << listed.index(name.lower()) | 1) if name.lower() in listed else ordered(1, name)
+    return ordered(2 << listed.index(name.lower()) | 1) if name.lower() in listed else ordered(1, name)
+
+
+def signing(change):
+    """The one covered value, which is the last part but path and body, is signed as another."""
 
     def sign_other(draft):
-        """The covered value is the last part but path and body."""
-        _, value = draft.parts[-3]
-        draft.parts[-3] = (name, value + b"x")
+        name, value = draft.parts[-3]
+        draft.parts[-3] = (name, change(value))
 
-    yield "signed", request_call(orders=orders, head=head, aside=aside), (0,)
-    yield "another value signed", request_call(at("parts", sign_other), orders=orders, head=head, aside=aside), (11,)
+    return at("parts", sign_other)
+
+
+def covered(name, head, aside):
+    request = {"orders": covering(name), "head": head, "aside": aside}
+    yield "signed", request_call(**request), (0,)
+    yield "another value signed", request_call(signing(lambda value: value + b"x"), **request), (11,)
+
+
+def joined(name, head, aside, value):
+    """A list field that comes to this value, signed as that and as what it might be mistaken for."""
+    request = {"orders": covering(name), "head": head, "aside": aside}
+    call = request_call(signing(lambda _: value), **request)
+    yield f"signed as {value[:40]}", call, (0,)
+    yield f"signed as {value[:40]}, by the thin entry", call._replace(kind="one"), (0,)
+    turned = b", ".join(value.split(b", ")[::-1])
+    for other in sorted({value.replace(b", ", b","), value.strip(b" "), value.strip(b", "), value + b", ", turned} - {value}):
+        yield f"signed as {other[:40]}", request_call(signing(lambda _: other), **request), (11,)
+
+
+def instead(number, name, signed, lent):
+    """Signed with one block of lines and lent with another, and the other way round; in the head and set aside."""
+    for note, first, second in (("lent instead", signed, lent), ("the other way round", lent, signed)):
+        for where in ("head", "aside"):
+            call = request_call(replaced("lent", where, second), orders=covering(name), **{where: first})
+            yield f"{note}, {where}", call, (number,)
 
 
 # Netstrings

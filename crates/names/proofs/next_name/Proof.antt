@@ -29,8 +29,7 @@ returns-2 c =
     let ends = c .before .name-end .ensures in
     record {
       from = inv .0;
-      ordered = omega (arith, ends .is);
-      within = ends .within;
+      ends = ends;
       names = reached-first (inv .1) (search needs) ends ∙ chosen-set _ _ _ (eq-eqb _ _ (c .if2 .taken));
     }
 

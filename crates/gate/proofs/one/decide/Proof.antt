@@ -3,7 +3,11 @@
 use mathlib.Core.Path.{_≡_, sym, subst, _∙_}
 use mathlib.Core.Bool.{Bool}
 use mathlib.Core.List.{[]}
+use Prim.Native.Nat.{_≤_}
+use native.Mathlib.Omega.{arith}
 use borrow.Author.Needs.{needs}
+use lib.ListN.{length}
+use lib.Seq.{length-take-le}
 use Rattle.orders.specs.Orders.{orders}
 use Rattle.orders.proofs.Orders.{good-extra}
 use Rattle.table.specs.Record.{recordBytes, Fits}
@@ -54,43 +58,63 @@ entered : (c : tie.Else1) → Entered (requestFits (asked (begun (c .before .bef
 unfolding entryPart
 entered c = entry-passed _ _ _ (passed c)
 
+-- where the value has been read: the checks before, and what is told of one that was read
+abbrev gone-in : tie.After-read → tie.Else1
+gone-in c = c .before .before .before .before
+
+abbrev start : tie.After-read → tie.Start
+start c = begun (c .before .before .before .before .before .before)
+
 read-requires : tie.Need-read-requires
 read-requires c κs =
-    (begun (c .before .before .before) .pre, good-extra _ (entered (c .before) .orders), sized (asked (begun (c .before .before .before))) _ (entered (c .before) .sizes) .value, search needs)
+    let s = begun (c .before .before .before .before .before) in
+    let size = sized (asked s) _ (entered (c .before .before .before) .sizes) in
+    (s .pre, good-extra _ (entered (c .before .before .before) .orders), size .value, size .head, size .aside, search needs, search needs, search needs)
 
 returns-2 : tie.Need-returns-2
 returns-2 c =
-    unread (asked (begun (c .before .before .before .before .before .before .before .before))) (lent (begun (c .before .before .before .before .before .before .before .before))) _ (c .before .before .before .before .read .result .number) (passed (c .before .before .before .before .before .before)) (c .refused2 .ensures)
-    (c .before .before .before .before .read .ensures _ _ _ _ _ .is) (c .before .if2 .taken)
+    let read = c .before .before .before .before .before .before in
+    unread (asked (start read)) (lent (start read)) _ (read .read .result .number) (passed (gone-in read)) (c .refused2 .ensures) (read .read .ensures _ _ _ _ _ .is) (c .before .if2 .taken)
 
 -- the session's place, and what its record holds
-stands : (c : tie.After-place-of) → StandsAt (asked (begun (c .before .before .before .before .before .before .before .before .before .before .before))) (lent (begun (c .before .before .before .before .before .before .before .before .before .before .before)) .table) (c .place-of .result) (begun (c .before .before .before .before .before .before .before .before .before .before .before) .args .«record»)
+stands : (c : tie.After-place-of) → StandsAt (asked (start (c .before .before .before .before .before .before .before .before .before))) (lent (start (c .before .before .before .before .before .before .before .before .before)) .table) (c .place-of .result) (start (c .before .before .before .before .before .before .before .before .before) .args .«record»)
 unfolding ivOf fieldsOf
 stands c =
-    let q = asked (begun (c .before .before .before .before .before .before .before .before .before .before .before)) in
-    let lies = c .before .before .before .before .before .before .before .read .ensures (q .clock) (q .server-key) (q .path) (q .body) (q .reply) .lies (c .before .before .before .before .if2 .left) in
-    record { at = rw (← (lies .vector)) (sym (c .place-of .ensures)); holds = one-held _ (fits (begun (c .before .before .before .before .before .before .before .before .before .before .before))) _ _ (c .place-of .ensures) }
+    let q = asked (start (c .before .before .before .before .before .before .before .before .before)) in
+    let lies = c .before .before .before .before .before .before .before .before .before .read .ensures (q .clock) (q .server-key) (q .path) (q .body) (q .reply) .lies (c .before .before .before .before .if2 .left) in
+    record { at = rw (← (lies .vector)) (sym (c .place-of .ensures)); holds = one-held _ (fits (start (c .before .before .before .before .before .before .before .before .before))) _ _ (c .place-of .ensures) }
+
+-- there are as many notes as names
+within : (c : tie.After-place-of) → let read = c .before .before .before .before .before .before .before .before .before .read in (read .result .covered ≤ length (read .last .1 .1 .1 .1 .1 .1 .1 .1 .0)) × (read .result .covered ≤ length (read .last .1 .1 .1 .1 .1 .1 .1 .1 .1 .0))
+within c =
+    let read = c .before .before .before .before .before .before .before .before .before .read in
+    let few = read .ensures 0 [] [] [] [] .noted (c .before .before .before .before .if2 .left) .fits in
+    (omega (arith, few, read .kept), omega (arith, few, read .kept))
 
 settle-requires : tie.Need-settle-requires
 settle-requires c κs =
-    let size = sized (asked (begun (c .before .before .before .before .before .before .before .before .before .before .before .before))) _ (entered (c .before .before .before .before .before .before .before .before .before .before) .sizes) in
-    let held = c .before .before .before .before .before .before .before .before .read .ensures 0 [] [] [] [] .holds (c .before .before .before .before .before .if2 .left) in
-    (begun (c .before .before .before .before .before .before .before .before .before .before .before .before) .pre, good-extra _ (entered (c .before .before .before .before .before .before .before .before .before .before) .orders), size .key, held .token-fits, held .signature-fits, search needs, size .method, size .head, size .aside, size .path, size .body)
+    let read = c .before .before .before .before .before .before .before .before .before .before .before .before in
+    let size = sized (asked (start read)) _ (entered (gone-in read) .sizes) in
+    let told = read .read .ensures 0 [] [] [] [] in
+    let held = told .holds (c .before .before .before .before .before .before .before .if2 .left) in
+    (good-extra _ (entered (gone-in read) .orders), size .key, held .token-fits, held .signature-fits, omega (arith, read .read .kept), size .method, size .head, size .aside, size .path, size .body, told .noted (c .before .before .before .before .before .before .before .if2 .left) .notes)
 
 returns-3 : tie.Need-returns-3
 unfolding ivOf fieldsOf
 returns-3 c =
-    let q = asked (begun (c .before .before .before .before .before .before .before .before .before .before .before .before .before)) in
-    let read = c .before .before .before .before .before .before .before .before .before .read .ensures (q .clock) (q .server-key) (q .path) (q .body) (q .reply) in
-    let held = read .holds (c .before .before .before .before .before .before .if2 .left) in
-    let lies = read .lies (c .before .before .before .before .before .before .if2 .left) in
-    decided-by q (lent (begun (c .before .before .before .before .before .before .before .before .before .before .before .before .before))) _ (passed (c .before .before .before .before .before .before .before .before .before .before .before)) (sym (read .is) ∙ c .before .before .before .before .before .before .if2 .left) (sized q _ (entered (c .before .before .before .before .before .before .before .before .before .before .before) .sizes) .reply)
-    (one-within _ (fits (begun (c .before .before .before .before .before .before .before .before .before .before .before .before .before))) _)
-    (found-indexed q _ (entered (c .before .before .before .before .before .before .before .before .before .before .before)))
-    (c .settle .ensures _ _ _ held lies (entry (c .before .before .before .before .before .before .before .before .before .before .before .before .before) .limits (c .before .before .before .before .before .before .before .before .before .before .before .if1 .left)) (stands (c .before .before)))
+    let read = c .before .before .before .before .before .before .before .before .before .before .before .before .before in
+    let q = asked (start read) in
+    let told = read .read .ensures (q .clock) (q .server-key) (q .path) (q .body) (q .reply) in
+    let good = c .before .before .before .before .before .before .before .before .if2 .left in
+    decided-by q (lent (start read)) _ (passed (gone-in read)) (sym (told .is) ∙ good) (sized q _ (entered (gone-in read) .sizes) .reply)
+    (one-within _ (fits (start read)) _) (found-indexed q _ (entered (gone-in read)))
+    (c .settle .ensures _ _ _ (told .holds good) (told .lies good) (entry (read .before .before .before .before .before .before) .limits (gone-in read .if1 .left)) (stands (c .before .before .before .before)))
 
 pub decide-spec : {M : Type 1} → statement M
 decide-spec =
     tie.close (tie.spec (λ c κs. search needs) (λ c κs. search needs) (λ c κs. search needs) (λ c κs. search needs) returns (λ c. search needs)
-    read-requires (λ c κs. search needs) returns-2 (λ c. search needs) (λ c. search needs) (λ c. search needs) (λ c κs. search needs)
-    (λ c. search needs) settle-requires returns-3)
+    (λ c. search needs) (λ c. search needs) read-requires (λ c κs. search needs) returns-2 (λ c. search needs) (λ c. search needs) (λ c. search needs)
+    (λ c κs. search needs) (λ c. search needs)
+    (λ c. within (c .before) .0) (λ c. sym (length-take-le _ _ (within (c .before .before) .0)))
+    (λ c. within (c .before .before) .1) (λ c. sym (length-take-le _ _ (within (c .before .before .before) .1)))
+    settle-requires returns-3)

@@ -1,58 +1,32 @@
--- `reading::compare` meets its contract, one test after the other.
+-- `reading::compare` meets its contract.
 -- Assumes nothing.
-use mathlib.Core.Path.{_≡_}
-use mathlib.Core.Bool.{Bool, true, false, cond, not}
 use borrow.Author.Needs.{needs}
-use borrow.Author.Tests.{not-true, not-false}
+use mathlib.Core.Path.{ap}
+use native.Mathlib.Omega.{arith}
+use lib.ListN.{length}
 use Rattle.names.proofs.Sizes.{short-extra}
 use Rattle.orders.specs.Orders.{orders}
-use Rattle.stages.specs.Parts.{fieldsOf, twice, coveringPart}
-use Rattle.stages.specs.InnerStages.{CoversIs}
+use Rattle.stages.specs.Request.{requestOf}
+use Rattle.stages.specs.Parts.{fieldsOf}
+use Rattle.stages.proofs.Covering.{covers}
 use Rattle.stages.proofs.reading.compare.Statement.{statement}
 use Rattle.stages.proofs.reading.compare.Tie as tie
 
-returns : tie.Need-returns
-unfolding coveringPart
-returns c _ _ _ _ _ = simp (← (c .before .before .before .is-token .ensures), ← (c .before .before .good2 .ensures), ← (c .before .good3 .ensures), c .if1 .taken)
-
-returns-2 : tie.Need-returns-2
-unfolding coveringPart twice
-returns-2 c _ _ _ _ _ =
-    let lines = c .before .before .before in
-    simp (
-      ← (lines .before .before .before .is-token .ensures),
-      ← (lines .before .before .good2 .ensures),
-      ← (lines .before .good3 .ensures),
-      lines .if1 .left,
-      ← (c .before .before .repeats .ensures),
-      ← (c .before .repeats2 .ensures),
-      c .if2 .taken,
-    )
-
--- past 6 and 7 the coverage decides
-covering : (c : tie.After-as-ordered) (t : Bool) → c .as-ordered .result ≡ t
-    → let a = c .before .before .before .before .before .before .before .before .before .before .before .before .before .before .args in
-    CoversIs (orders (a .numbers) (a .extra .now)) (a .value .now) (a .method .now) (a .head .now) (a .aside .now) (cond (not t) 8 0)
-unfolding coveringPart twice fieldsOf
-covering c t e _ _ _ _ _ =
-    let names = c .before in
-    let lines = names .before .before .before in
-    simp (
-      ← (lines .before .before .before .is-token .ensures),
-      ← (lines .before .before .good2 .ensures),
-      ← (lines .before .good3 .ensures),
-      lines .if1 .left,
-      ← (names .before .before .repeats .ensures),
-      ← (names .before .repeats2 .ensures),
-      names .if2 .left,
-      ← (c .as-ordered .ensures),
-      e,
-    )
-
 as-ordered-requires : tie.Need-as-ordered-requires
-as-ordered-requires c κs = let pre = c .before .before .before .before .before .before .before .before .before .before .before .before .before .pre in (pre .2, pre .3, short-extra _ (pre .1))
+as-ordered-requires c κs =
+    let pre = c .before .before .before .before .before .before .before .before .before .before .before .before .before .before .before .before .before .pre in
+    (pre .2, pre .3, short-extra _ (pre .1))
+
+returns : tie.Need-returns
+unfolding fieldsOf
+returns c clock server-key path body reply =
+    let start = c .before .before .before .before .before .before .before .before .before .before .before .before .before .before .before .before .before .before .before in
+    let a = start .args in
+    let note = c .before .before .before .before .before .before .before .before .note in
+    covers (requestOf (orders (a .numbers) (a .extra .now)) clock server-key (a .value .now) (a .method .now) (a .head .now) (a .aside .now) path body reply)
+    (start .pre .1) _ _ (omega (arith, note .kept, ap length (start .pre .6))) (omega (arith, note .kept, ap length (start .pre .7))) (note .result) (note .ensures) _ _ _
+    (c .before .before .before .is-token .ensures) (c .before .as-ordered .ensures) (c .covering .ensures)
 
 pub compare-spec : {M : Type 1} → statement M
 compare-spec =
-    tie.close (tie.spec (λ c κs. search needs) (λ c κs. search needs) (λ c κs. search needs) returns (λ c κs. search needs) (λ c κs. search needs) returns-2
-    as-ordered-requires (λ c. covering (c .before) false (not-true _ (c .if3 .taken))) (λ c. covering (c .before) true (not-false _ (c .if3 .left))))
+    tie.close (tie.spec (λ c κs. search needs) (λ c κs. search needs) as-ordered-requires (λ c κs. search needs) (λ c. search needs) (λ c. search needs) returns)

@@ -30,14 +30,14 @@ returns : tie.Need-returns
 returns c value reply table h lies l s =
     let vouched = c .before .before .before .before .vouch in
     let named = read-hash _ h (c .before .before .before .before .before .named .ensures) in
-    settled-away (asked (c .before .before .before .before .before .before .before .before .before .before .before .before .before .before .before) value reply) table _ _ s (vouched .result) (vouched .ensures value reply h lies named) _ (c .before .if1 .taken)
+    settled-away (asked (c .before .before .before .before .before .before .before .before .before .before .before .before .before .before .before .before) value reply) table _ _ s (vouched .result) (vouched .ensures value reply h lies named) _ (c .before .if1 .taken)
     (rw named (c .decided .ensures))
 
 returns-2 : tie.Need-returns-2
 unfolding nonceOf timeOf lastTimeOf fieldsOf limits
 returns-2 c value reply table h lies l s =
     let vouched = c .before .before .before .before .before .before .before .before .before .vouch in
-    let q = asked (c .before .before .before .before .before .before .before .before .before .before .before .before .before .before .before .before .before .before .before .before) value reply in
+    let q = asked (c .before .before .before .before .before .before .before .before .before .before .before .before .before .before .before .before .before .before .before .before .before) value reply in
     let named = read-hash q h (c .before .before .before .before .before .before .before .before .before .before .named .ensures) in
     settled-here q table _ _ s (vouched .result) (vouched .ensures value reply h lies named) _ (c .before .admit .result) (c .before .before .before .before .before .before .if1 .left)
     (c .before .admit .ensures q table s (record { clock = refl; t = sym (h .time); lt = sym (h .last-time); within = sym l; hash = named; nonces = refl; n = sym (h .nonce) }))

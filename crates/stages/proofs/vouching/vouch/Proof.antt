@@ -10,42 +10,42 @@ use Rattle.stages.proofs.Stages.{unopened, lapsed, unsigned, vouched}
 use Rattle.stages.proofs.vouching.vouch.Statement.{statement}
 use Rattle.stages.proofs.vouching.vouch.Tie as tie
 
-abbrev begun : tie.After-shared-slice-known9 → tie.Start
-begun c = c .before .before .before .before .before .before .before .before .before
+abbrev begun : tie.After-shared-slice-known10 → tie.Start
+begun c = c .before .before .before .before .before .before .before .before .before .before
 
 part-unseal-end : tie.Need-part-unseal-end
-part-unseal-end c = omega (arith, begun c .pre .5)
+part-unseal-end c = omega (arith, begun c .pre .4)
 
 slice-aggregate-unseal : tie.Need-slice-aggregate-unseal
 slice-aggregate-unseal c =
     let start = begun (c .before .before) in
-    sym (length-take-le _ (start .args .fields .now) (omega (arith, start .pre .3, start .pre .5)))
+    sym (length-take-le _ (start .args .fields .now) (omega (arith, start .pre .2, start .pre .4)))
 
 part-unseal-end-2 : tie.Need-part-unseal-end-2
-part-unseal-end-2 c = omega (arith, begun (c .before .before) .pre .5)
+part-unseal-end-2 c = omega (arith, begun (c .before .before) .pre .4)
 
 unseal-requires : tie.Need-unseal-requires
 unseal-requires c κs =
     let start = begun (c .before .before .before) in
     let run = start .args .fields .now in
-    let long = start .pre .5 in (
-      start .pre .2,
+    let long = start .pre .4 in (
+      start .pre .1,
       length-part run 182 12 (omega (arith, long)),
-      omega (arith, start .pre .3, length-take-le (start .args .request .«s_len») run (omega (arith, start .pre .3, long))),
+      omega (arith, start .pre .2, length-take-le (start .args .request .«s_len») run (omega (arith, start .pre .2, long))),
       length-part run 194 16 (omega (arith, long)),
     )
 
 code-requires : tie.Need-code-requires
 code-requires c κs =
-    let pre = c .before .before .before .before .before .before .before .before .before .before .before .before .before .before .before .before .before .before .before .before .before .before .before .before .pre in
+    let pre = c .before .before .before .before .before .before .before .before .before .before .before .before .before .before .before .before .before .before .before .before .before .before .before .before .before .pre in
     let key : length (c .before .before .before .before .before .before .before .before .before .before .before .unseal .result .key) ≡ 32 = search needs in
-    (pre .0, omega arith, pre .6, pre .1, pre .7, pre .8, pre .9, pre .10)
+    (omega arith, pre .5, pre .0, pre .6, pre .7, pre .8, pre .9, pre .10)
 
 add-end : tie.Need-add-end
-add-end c = omega (arith, c .before .before .before .before .before .before .before .before .before .before .before .before .before .before .before .before .before .before .before .before .before .before .before .before .before .before .pre .4)
+add-end c = omega (arith, c .before .before .before .before .before .before .before .before .before .before .before .before .before .before .before .before .before .before .before .before .before .before .before .before .before .before .before .pre .3)
 
 part-same-code-end : tie.Need-part-same-code-end
-part-same-code-end c = let pre = c .before .before .before .before .before .before .before .before .before .before .before .before .before .before .before .before .before .before .before .before .before .before .before .before .before .before .pre in omega (arith, pre .4, pre .5)
+part-same-code-end c = let pre = c .before .before .before .before .before .before .before .before .before .before .before .before .before .before .before .before .before .before .before .before .before .before .before .before .before .before .before .pre in omega (arith, pre .3, pre .4)
 
 returns : tie.Need-returns
 returns c value reply h lies named =
