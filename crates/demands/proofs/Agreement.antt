@@ -1,11 +1,12 @@
 -- Demand 3: 'Take two requests that each reach the signature check. If their signed texts, as 01 defines them, are equal, then they agree in
 -- coverage, nonce, both times, every covered header value, path and body; an absent header counts as an empty one. If they also carry the same
 -- signature, token, IV and tag, and meet the same server key, orders, clock and table, they get the same verdict, reply and table after.'
--- By document 02, K3, they agree in the method too.
+-- By document 02, K3, they agree in the method too; and by K10, lines that are combined agree with those that they were.
 -- Assumes nothing.
 pub mod SignedText
+pub mod Joining
 pub mod Reading
-use mathlib.Core.Path.{_≡_, sym, ap, _∙_}
+use mathlib.Core.Path.{_≡_, refl, sym, ap, _∙_}
 use mathlib.Core.List.{List, [], _++_, append-nil}
 use Prim.Native.Nat.{ℕ, zero, suc, _%_, _<_}
 use native.Mathlib.Omega.{arith}
@@ -17,11 +18,12 @@ use Rattle.cells.specs.Numbers.{number}
 use Rattle.armor.specs.Numerals.{numberBytes, maskBytes, maskOf}
 use Rattle.armor.specs.Keys.{keyN}
 use Rattle.armor.proofs.Fields.{none-held}
+use Rattle.lines.specs.Lines.{linesIn}
 use Rattle.signed.specs.SignedText.{signedText}
 use Rattle.signed.proofs.SameText as Text
 use Rattle.gate.specs.State.{State}
 use Rattle.stages.specs.Request.{Request}
-use Rattle.stages.specs.Parts.{hashOf, fieldsOf, nonceOf, timeOf, lastTimeOf, openedOf, tokenOf, textOf, readingPart, tokenPart}
+use Rattle.stages.specs.Parts.{hashOf, fieldsOf, ivOf, signatureOf, nonceOf, timeOf, lastTimeOf, openedOf, tokenOf, textOf, readingPart, tokenPart}
 use Rattle.gate.specs.Judge.{entryPart, judged}
 use Rattle.stages.proofs.Checks.{none-holds}
 use Rattle.gate.proofs.Numbers.{entry-numbered}
@@ -31,6 +33,8 @@ use Rattle.demands.proofs.Shared.Checks.{opens}
 use Rattle.demands.proofs.Shared.Passed.{Passed, all-passed}
 use Rattle.demands.proofs.Shared.Carried.{named, hash-ordered, mask-ordered, names-ordered, names-times, mask-fits, nonce-ordered, time-small, last-time-small, nonce-small}
 use Rattle.demands.specs.Agreement.{carries, carriesTimes, signedBy, Alike, Agree, MeetAlike}
+use Rattle.demands.specs.Combined.{Combined, withLines}
+use Rattle.demands.proofs.Agreement.Joining.{head-text, aside-text}
 use Rattle.demands.proofs.Agreement.SignedText.{text-carried, time-carried, last-time-carried, nonce-carried}
 use Rattle.demands.proofs.Agreement.Reading.{ReadAlike, judged-alike, judged-same}
 
@@ -136,3 +140,25 @@ same-verdict p q state rp rq e m = judged-alike p q state (read-alike p q (agree
 pub same-outcome : (p q : Request) (state : State) → Reaches p state → Reaches q state → textOf p ≡ textOf q → MeetAlike p q
     → p .reply ≡ q .reply → judged p state ≡ judged q state
 same-outcome p q state rp rq e m b = judged-same p q state (read-alike p q (agree p q state state rp rq e) m e) rp rq b
+
+-- THE THEOREM of document 02, K10: lines that are combined agree, in the head and among those set aside, and are judged alike
+alike-but-lines : (q : Request) (head aside : List ℕ) → MeetAlike q (withLines q head aside)
+unfolding signatureOf ivOf fieldsOf
+alike-but-lines q head aside = record { signature = refl; token = refl; iv = refl; tag = refl; server-key = refl; orders = refl; clock = refl }
+
+module _ (q : Request) (s : State) (reaches : Reaches q s) where
+  pub combined-head : (head : List ℕ) → Reaches (withLines q head (q .aside)) s → Combined (linesIn (q .head)) (linesIn head)
+      → Agree q (withLines q head (q .aside)) × (judged q s ≡ judged (withLines q head (q .aside)) s)
+  unfolding textOf hashOf nonceOf timeOf lastTimeOf fieldsOf
+  combined-head head there c =
+      let p = withLines q head (q .aside) in
+      let e : textOf q ≡ textOf p = head-text _ _ _ _ _ _ _ (q .aside) (q .head) head (q .path) (q .body) c in
+      (agree q p s s reaches there e, same-outcome q p s reaches there e (alike-but-lines q head (q .aside)) refl)
+
+  pub combined-aside : (aside : List ℕ) → Reaches (withLines q (q .head) aside) s → Combined (linesIn (q .aside)) (linesIn aside)
+      → Agree q (withLines q (q .head) aside) × (judged q s ≡ judged (withLines q (q .head) aside) s)
+  unfolding textOf hashOf nonceOf timeOf lastTimeOf fieldsOf
+  combined-aside aside there c =
+      let p = withLines q (q .head) aside in
+      let e : textOf q ≡ textOf p = aside-text _ _ _ _ _ _ _ (q .aside) aside (q .head) (q .path) (q .body) c in
+      (agree q p s s reaches there e, same-outcome q p s reaches there e (alike-but-lines q (q .head) aside) refl)

@@ -3,7 +3,7 @@
 -- Age; the others after 9 need a token that opens, too, and the stored calls of tests/host give them.
 -- Assumes nothing.
 use mathlib.Core.Path.{_≡_, refl, sym, ap, _∙_}
-use mathlib.Core.Bool.{Bool, true, false}
+use mathlib.Core.Bool.{Bool, true, false, and-false}
 use mathlib.Core.List.{List, [], _∷_, _++_}
 use mathlib.Core.Option.{none}
 use Prim.Native.Nat.{ℕ, _+_, _≤_, _<_, _^_}
@@ -30,12 +30,14 @@ use Rattle.cells.specs.Spans.{all, leading}
 use Rattle.cells.proofs.Equality.{same-self}
 use Rattle.cells.proofs.Numbers.{bytes-bytesOf}
 use Rattle.cells.proofs.Tests.{both}
-use Rattle.names.specs.Names.{hasByte, tokenByte, isToken, lower, sameName, headerNames}
+use Rattle.names.specs.Names.{hasByte, tokenByte, isToken, lower, sameName, hasName, headerNames}
+use Rattle.names.specs.Lists.{listNames, isList}
 use Rattle.names.specs.Extra.{extraNames, goodNames, goodExtra}
 use Rattle.names.specs.Covered.{chosen, coveredNames}
 use Rattle.orders.specs.Orders.{ordersGood, limitsOf, Orders, ordersOf}
 use Rattle.lines.specs.Lines.{CR, LF, valueByte, goodLine, lineText, textOf, frontLine, startsLine, linesUpTo, linesIn, goodBlock}
-use Rattle.lines.specs.Values.{timesNamed, repeated}
+use Rattle.lines.specs.Values.{trimFront, trimEnd, trimmed, valuesIn, repeated}
+use Rattle.lines.proofs.Lines.{lines-none, good-none}
 use Rattle.table.specs.Record.{size, recordBytes, recordOf, begun}
 use Rattle.table.specs.Table.{records, found, taken}
 use Rattle.table.specs.Session.{placeOf}
@@ -59,9 +61,11 @@ use Rattle.gate.specs.Remake.{remakeChecks, remade}
 use Rattle.index.specs.Index as Index
 use Rattle.gate.proofs.Numbers.{entry-passed}
 use Rattle.demands.specs.History.{empty}
-use Rattle.demands.specs.Client.{Message, clientRequest, LentBytes, Fair}
+use Rattle.demands.specs.Client.{Message, clientCode, clientFields, clientRequest, LentBytes, Fair}
 use Rattle.demands.specs.Passing.{PassesOthers}
 use Rattle.demands.proofs.Client.{client-accepted, client-passes, client-carries, Bears, client-bears}
+use Rattle.demands.specs.Combined.{Combined, withLines}
+use Rattle.demands.proofs.Agreement.Joining.{head-text, two-lines as joining}
 use Rattle.demands.proofs.Chosen.{talked-down}
 use Rattle.demands.proofs.Shared.Others.{parts}
 use Rattle.demands.proofs.Age.{by-default, as-named}
@@ -122,10 +126,15 @@ fields =
 abbrev pub host : List ℕ
 host = codes "Host:a" ++ (CR ∷ LF ∷ [])
 
+-- one of a list field
+abbrev pub accepting : List ℕ
+accepting = codes "Accept:a" ++ (CR ∷ LF ∷ [])
+
 pub record SetupWitnesses : Type 0 where
   pub zero : (life : ℕ) → setUp (living offer life) (empty 1) .number ≡ 0
   pub short : (life : ℕ) → setUp (living scanner life) (empty 1) .number ≡ 0
   pub long : (life : ℕ) → setUp (living either life) (empty 1) .number ≡ 0
+  pub lists : setUp (asking 8 0 offer) (empty 1) .number ≡ 0
   pub one : setUp (asking 2 0 offer) (holding [] []) .number ≡ 1
   pub two : setUp (asking (2 ^ 56) 0 offer) (empty 1) .number ≡ 2
   pub three : setUp (asking 2 0 offer) marked .number ≡ 3
@@ -143,6 +152,7 @@ setup-witnesses = record {
   zero = λ life. refl;
   short = λ life. refl;
   long = λ life. refl;
+  lists = refl;
   one = refl;
   two = refl;
   three = refl;
@@ -204,11 +214,12 @@ pub record RequestWitnesses : Type 0 where
   pub six : judged (sending 2 fields (codes "Host")) (empty 1) .number ≡ 6
   pub method-no-token : judged (sending-by (codes "GE T") 2 fields []) (empty 1) .number ≡ 6
   pub seven : judged (sending 2 fields (host ++ host)) (empty 1) .number ≡ 7
+  pub list-twice : judged (sending 8 fields (accepting ++ accepting)) (empty 1) .number ≡ 8
   pub eight : judged (sending 0 fields []) (empty 1) .number ≡ 8
   pub nine : judged (sending 2 fields []) (empty 1) .number ≡ 9
 
 pub request-witnesses : RequestWitnesses
-unfolding judged answered requestChecks entryPart readingPart coveringPart tokenPart signaturePart sessionPart noncePart entryChecks stateChecks requestFits lentFits stateFits tableFits Index.indexOf Index.rankedTo Index.among Index.precedes Index.coded ordersGood goodExtra extraNames goodNames wellFormed fitting sound same records recordOf recordBytes number codes Value.grammar Value.fieldsIn Value.fieldOf Value.pieceGood Value.textObeys Value.carried Pieces.pieces Pieces.upTo Pieces.after decoded full two one ending coded sixBits placeIn alphabet counted obeys ruleOf ruleAt keyNumber rankOf keys isMask isNumeral isNumber plain requestFields rightTimes times contents nonceBit the maskOf fieldsOf goodBlock linesIn linesUpTo startsLine frontLine lineText textOf goodLine valueByte isToken tokenByte hasByte all leading twice repeated timesNamed sameName lower coveredNames chosen headerNames asOrdered allowedOne named maskBytes numberBytes shortest bytesOf openedOf ivOf
+unfolding judged answered requestChecks entryPart readingPart coveringPart tokenPart signaturePart sessionPart noncePart entryChecks stateChecks requestFits lentFits stateFits tableFits Index.indexOf Index.rankedTo Index.among Index.precedes Index.coded ordersGood goodExtra extraNames goodNames wellFormed fitting sound same records recordOf recordBytes number codes Value.grammar Value.fieldsIn Value.fieldOf Value.pieceGood Value.textObeys Value.carried Pieces.pieces Pieces.upTo Pieces.after decoded full two one ending coded sixBits placeIn alphabet counted obeys ruleOf ruleAt keyNumber rankOf keys isMask isNumeral isNumber plain requestFields rightTimes times contents nonceBit the maskOf fieldsOf goodBlock linesIn linesUpTo startsLine frontLine lineText textOf goodLine valueByte isToken tokenByte hasByte all leading twice repeated valuesIn isList listNames hasName sameName lower coveredNames chosen headerNames asOrdered allowedOne named maskBytes numberBytes shortest bytesOf openedOf ivOf
 request-witnesses = record {
   one = refl;
   no-method = refl;
@@ -221,36 +232,41 @@ request-witnesses = record {
   six = refl;
   method-no-token = refl;
   seven = refl;
+  list-twice = refl;
   eight = refl;
   nine = rw (unopened (zeros 32) (zeros 12) (zeros 16) 0);
 }
 
--- nothing but a method and a path, made at 100, and a nonce
+-- a method, a head and a path, made at 100, and a nonce; and nothing in the head
+abbrev pub saying-with : List ℕ → ℕ → Message
+saying-with head n = record { method = codes "GET"; head = head; aside = []; path = codes "/"; body = []; time = 100; last-time = 0; nonce = n }
+
 abbrev pub saying : ℕ → Message
-saying n = record { method = codes "GET"; head = []; aside = []; path = codes "/"; body = []; time = 100; last-time = 0; nonce = n }
+saying = saying-with []
 
 -- over no lines no name is repeated
 unrepeated : (names : List (List ℕ)) → repeated names [] ≡ false
-unfolding repeated timesNamed
+unfolding repeated valuesIn
 unrepeated [] = refl
-unrepeated (n ∷ ns) = unrepeated ns
+unrepeated (n ∷ ns) = rw and-false (unrepeated ns)
 
--- in time it is fair, under any orders
-pub fairly : (s : Setup) (n clock : ℕ) → n < 2 ^ 32
+-- in time it is fair, where no name is repeated; with nothing in the head under any orders
+fairly-with : (s : Setup) (head : List ℕ) (n clock : ℕ) → length head ≤ 16384 → goodBlock head ≡ true
+    → repeated (coveredNames (s .orders .numbers .mask) (s .orders .extra)) (linesIn head) ≡ false → n < 2 ^ 32
     → clock < expiryOf s → 100 ≤ limitsOf (s .orders) .idle → clock ≤ 100 + limitsOf (s .orders) .«request_life» → 100 ≤ clock + 30
-    → Fair s (saying n) clock (zeros 1024)
-unfolding codes isToken all tokenByte hasByte same textOf goodBlock linesIn linesUpTo startsLine frontLine
-fairly s n clock small lasts active timely near = record {
+    → Fair s (saying-with head n) clock (zeros 1024)
+unfolding codes isToken all tokenByte hasByte
+fairly-with s head n clock short good once small lasts active timely near = record {
   method-fits = omega arith;
-  head-fits = omega arith;
+  head-fits = short;
   aside-fits = omega arith;
   path-some = omega arith;
   path-fits = omega arith;
   body-fits = omega arith;
   reply-room = omega arith;
   method-good = refl;
-  lines = refl;
-  once = rw (unrepeated (coveredNames (s .orders .numbers .mask) (s .orders .extra))) refl;
+  lines = rw (good, good-none) refl;
+  once = rw (once, lines-none, unrepeated (coveredNames (s .orders .numbers .mask) (s .orders .extra))) refl;
   time-fits = omega arith;
   last-time-fits = omega arith;
   nonce-fits = small;
@@ -260,9 +276,14 @@ fairly s n clock small lasts active timely near = record {
   near = near;
 }
 
-lent-zeros : (value : List ℕ) (life : ℕ) → LentBytes (living value life)
+pub fairly : (s : Setup) (n clock : ℕ) → n < 2 ^ 32
+    → clock < expiryOf s → 100 ≤ limitsOf (s .orders) .idle → clock ≤ 100 + limitsOf (s .orders) .«request_life» → 100 ≤ clock + 30
+    → Fair s (saying n) clock (zeros 1024)
+fairly s n clock = fairly-with s [] n clock (omega arith) good-none (rw lines-none (unrepeated (coveredNames (s .orders .numbers .mask) (s .orders .extra))))
+
+lent-zeros : (mask : ℕ) (value : List ℕ) (life : ℕ) → LentBytes (under (ordersOf mask 5 [] life 0 0) 0 value)
 unfolding bytesOf
-lent-zeros value life = record {
+lent-zeros mask value life = record {
   server-key = bytes-bytesOf 32 0;
   session-key = bytes-bytesOf 32 0;
   iv = bytes-bytesOf 12 0;
@@ -295,20 +316,20 @@ module _ (value : List ℕ) (life : ℕ) (done : setUp (living value life) (empt
   accepted : (clock : ℕ) → clock < 1209600 → clock ≤ 100 + limitsOf (living value life .orders) .«request_life» → 100 ≤ clock + 30
       → judged (sent value life clock) (left value life) .number ≡ 0
   accepted clock lasts timely near =
-      client-accepted (living value life) (empty 1) (saying 0) clock (zeros 1024) (lent-zeros value life) done (fair value life clock lasts timely near)
+      client-accepted (living value life) (empty 1) (saying 0) clock (zeros 1024) (lent-zeros 2 value life) done (fair value life clock lasts timely near)
 
   at-once : Fair (living value life) (saying 0) 100 (zeros 1024)
   at-once = fair value life 100 (omega arith) (omega arith) (omega arith)
 
   passes : PassesOthers (sent value life 100) (left value life)
-  passes = client-passes (living value life) (empty 1) (saying 0) 100 (zeros 1024) (lent-zeros value life) done at-once .0
+  passes = client-passes (living value life) (empty 1) (saying 0) 100 (zeros 1024) (lent-zeros 2 value life) done at-once .0
 
   carries : (timeOf (sent value life 100) ≡ 100) × (tokenOf (sent value life 100) .expiry ≡ 1209600)
   unfolding expiryOf limitsOf
-  carries = client-carries (living value life) (empty 1) (saying 0) 100 (zeros 1024) (lent-zeros value life) done at-once
+  carries = client-carries (living value life) (empty 1) (saying 0) 100 (zeros 1024) (lent-zeros 2 value life) done at-once
 
   bears : Bears (living value life) (sent value life 100) (left value life)
-  bears = client-bears (living value life) (empty 1) (saying 0) 100 (zeros 1024) (lent-zeros value life) done at-once
+  bears = client-bears (living value life) (empty 1) (saying 0) 100 (zeros 1024) (lent-zeros 2 value life) done at-once
 
 pub age-witnesses : AgeWitnesses
 unfolding limitsOf clientRequest
@@ -372,4 +393,40 @@ hash-witnesses =
           sym (high .keeps ∙ ap hashMask (picks .1)) ∙ e ∙ ap hashMask (low .hash ∙ picks .0)
           in
           omega arith);
+    }
+
+-- a head of two lines of a list field, and of the one that they make
+abbrev pub two-lines : List ℕ
+two-lines = accepting ++ (codes "Accept:b" ++ (CR ∷ LF ∷ []))
+
+abbrev pub one-line : List ℕ
+one-line = codes "Accept:a, b" ++ (CR ∷ LF ∷ [])
+
+-- a request signed with the one is taken with the other
+abbrev pub listing : List ℕ → Request
+listing head = clientRequest (asking 8 0 offer) (saying-with head 0) 100 (zeros 1024)
+
+pub record CombinedWitnesses : Type 0 where
+  pub combined : Combined (linesIn two-lines) (linesIn one-line)
+  pub apart : judged (listing two-lines) (setUp (asking 8 0 offer) (empty 1) .state) .number ≡ 0
+  pub together : judged (withLines (listing two-lines) one-line []) (setUp (asking 8 0 offer) (empty 1) .state) .number ≡ 0
+
+combining : Combined (linesIn two-lines) (linesIn one-line)
+unfolding codes linesIn linesUpTo startsLine frontLine lineText goodLine isToken all tokenByte hasByte valueByte same leading trimmed trimFront trimEnd valuesIn
+combining = joining [] [] [] (codes "Accept") (codes "a") (codes "b") refl refl refl (omega arith)
+
+-- signing two lines signs one
+same-value : withLines (listing two-lines) one-line [] ≡ listing one-line
+unfolding clientRequest clientFields clientCode
+same-value = rw (head-text (codes "GET") (chosenOf (asking 8 0 offer)) 8 [] 0 100 0 [] two-lines one-line (codes "/") [] combining) refl
+
+pub combined-witnesses : CombinedWitnesses
+unfolding codes expiryOf limitsOf goodBlock textOf linesIn linesUpTo startsLine frontLine lineText goodLine isToken all tokenByte hasByte valueByte same leading repeated valuesIn isList listNames hasName sameName lower coveredNames chosen headerNames extraNames
+combined-witnesses =
+    let taken : (head : List ℕ) → Fair (asking 8 0 offer) (saying-with head 0) 100 (zeros 1024) → judged (listing head) (setUp (asking 8 0 offer) (empty 1) .state) .number ≡ 0 =
+    λ head. client-accepted (asking 8 0 offer) (empty 1) (saying-with head 0) 100 (zeros 1024) (lent-zeros 8 offer 0) (setup-witnesses .lists) in
+    record {
+      combined = combining;
+      apart = taken two-lines (fairly-with (asking 8 0 offer) two-lines 0 100 (omega arith) refl refl (omega arith) (omega arith) (omega arith) (omega arith) (omega arith));
+      together = rw same-value (taken one-line (fairly-with (asking 8 0 offer) one-line 0 100 (omega arith) refl refl (omega arith) (omega arith) (omega arith) (omega arith) (omega arith)));
     }

@@ -26,9 +26,6 @@ pub record Combined (ls ms : List Line) : Type 0 where
   pub alone : valuesIn between (one .name) ≡ []
   pub value : trimmed (both .value) ≡ trimmed (one .value) ++ (comma ∷ space ∷ trimmed (two .value))
 
--- a request with another head, and with other lines set aside
-abbrev pub withHead : Request → List ℕ → Request
-withHead q head = requestOf (q .orders) (q .clock) (q .server-key) (q .value) (q .method) head (q .aside) (q .path) (q .body) (q .reply)
-
-abbrev pub withAside : Request → List ℕ → Request
-withAside q aside = requestOf (q .orders) (q .clock) (q .server-key) (q .value) (q .method) (q .head) aside (q .path) (q .body) (q .reply)
+-- a request with other lines
+abbrev pub withLines : Request → List ℕ → List ℕ → Request
+withLines q head aside = requestOf (q .orders) (q .clock) (q .server-key) (q .value) (q .method) head aside (q .path) (q .body) (q .reply)

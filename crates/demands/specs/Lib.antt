@@ -6,6 +6,7 @@ pub mod Effects
 pub mod History
 pub mod Passing
 pub mod Agreement
+pub mod Combined
 pub mod Client
 pub mod Age
 pub mod Lookup

@@ -53,7 +53,7 @@ pub stands-within : (block : List ℕ) (at : ℕ) → Stands block at → at + 4
 stands-within block at s = omega (arith, s .is .named, s .is .ordered, s .is .within)
 
 -- a value without the blanks at its ends is no longer
-end-short : (xs : List ℕ) → length (trimEnd xs) ≤ length xs
+pub end-short : (xs : List ℕ) → length (trimEnd xs) ≤ length xs
 unfolding trimEnd
 end-short [] = omega arith
 end-short (b ∷ bs) = go (trimEnd bs) (end-short bs)
