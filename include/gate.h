@@ -84,7 +84,8 @@ enum gate_number {
     GATE_BAD_VALUE = 4,        /* header value breaks its grammar */
     GATE_BAD_FIELDS = 5,       /* wrong set of fields */
     GATE_BAD_LINE = 6,         /* head or set-aside line malformed, or a byte in the method that no token has */
-    GATE_REPEATED_NAME = 7,    /* a covered name twice among the head lines, or twice among the set-aside ones */
+    GATE_REPEATED_NAME = 7,    /* a covered name that is no list field, twice among the head lines or twice among the
+                                  set-aside ones */
     GATE_BAD_COVERAGE = 8,     /* the request covers otherwise than ordered, or its hash is not one that is allowed, not
                                   that of its signature's length, or not its session's */
     GATE_BAD_TOKEN = 9,        /* token fails to open, or does not hold what it must */
@@ -260,9 +261,14 @@ uint32_t gate_setup(uint64_t mask, uint64_t hashes, const uint8_t *extra, size_t
  *   value       the request's X-S-Armor value
  *   method      1 to GATE_METHOD_MAX characters of a token, as the client sent it: GET is not get
  *   head        its header lines as they will be handed on, `name:value` CR LF each, no request line, no empty line
- *   aside       the client's own lines, in the same form, where the proxy wrote others in their place; mostly nothing
+ *   aside       the client's own lines, in the same form, where the proxy wrote others in their place; mostly nothing; of
+ *               a name all of its lines or none
  *   path        1 to GATE_PATH_MAX, as the client sent it
  *   body        at most GATE_BODY_MAX
+ * A covered header is taken from aside where it stands there, and otherwise from head. A list field may have several lines
+ * there, whose values are joined in order by a comma and a space, empty ones too: `a` and `b` are signed as `a, b`. List
+ * fields are Accept, Accept-Charset, Accept-Encoding, Accept-Language, Connection, Cache-Control, If-Match, If-None-Match,
+ * TE, Trailer, Upgrade and Via.
  * At GATE_ACCEPTED the reply is the session id. At GATE_EXPIRED and GATE_IDLE it is the invalidation, an X-S-Armor value
  * for the client under the request's hash: of GATE_INVALIDATION_SHA_256_BYTES or GATE_INVALIDATION_SHA_512_BYTES.
  */

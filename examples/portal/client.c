@@ -152,16 +152,28 @@ static int same_name(const char *one, size_t length, const char *other) {
     return 1;
 }
 
-/* An absent header is signed as an empty one. */
+static void add_trimmed(text *to, const char *value) {
+    value += strspn(value, " \t");
+    size_t length = strlen(value);
+    while (length > 0 && strchr(" \t", value[length - 1]) != NULL) length--;
+    add(to, value, length);
+}
+
+/* Several lines are joined by a comma and a space, empty ones too; an absent header is signed as an empty one. */
 static void add_header(text *to, const client_request *request, const char *name, size_t length) {
+    uint8_t space[4096];
+    text value = {space, sizeof space, 0, 0};
+    const char *between = "";
     for (size_t i = 0; i < request->header_count; i++) {
         const client_header *header = &request->headers[i];
         if (same_name(name, length, header->name)) {
-            add_netstring(to, header->value, strlen(header->value));
-            return;
+            add_string(&value, between);
+            add_trimmed(&value, header->value);
+            between = ", ";
         }
     }
-    add_netstring(to, "", 0);
+    add_netstring(to, value.bytes, value.length);
+    if (value.full) to->full = 1;
 }
 
 /* The headers that the mask covers, by rising bit, and then the extra ones. */

@@ -16,6 +16,7 @@ typedef struct client {
     uint32_t next; /* nonce */
 } client;
 
+/* A header line. A list field, as Accept, may have several, which are signed as one value; two of another name are refused. */
 typedef struct client_header {
     const char *name;
     const char *value;

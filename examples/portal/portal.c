@@ -18,6 +18,7 @@
  *     hashes-of CALLER NAME..         what this caller's own orders allow
  *     has CALLER NAME..               the hashes that the caller's program has; SHA-512 if nothing is said
  *     clock-of CALLER SECONDS         how far the caller's clock runs ahead from now on; 0 if nothing is said
+ *     line-of CALLER NAME VALUE       a header line that the caller's requests have from now on, besides those of all callers
  *     note TEXT                       printed as it stands
  *     at HH:MM:SS                     the clock from now on
  *     setup CALLER IV KEY             the caller asks for a session; IV and session key in hexadecimal
@@ -25,6 +26,7 @@
  *                                     the caller signs a request, which is kept under a label
  *     deliver LABEL                   it reaches the proxy
  *     forge LABEL METHOD [BODY]       it reaches the proxy with this method and this body
+ *     combine LABEL NAME VALUE        it reaches the proxy with this line in the place of those by line-of
  *     send CALLER METHOD PATH [BODY]  made and delivered at once
  *     signs-with CALLER NAME          the hash that the caller's program signs with from now on, whatever its session's
  *     fetch CALLER COUNT PATH         so many GET requests at once, told in one line
@@ -44,6 +46,13 @@
 
 #define CALLERS 16
 #define KEPT 16
+#define LINES 4
+
+/* A header line of a caller, besides the Host, Cookie and X-Dealer that every one sends. */
+typedef struct own_line {
+    char name[16];
+    char value[64];
+} own_line;
 
 typedef struct caller {
     char name[16];
@@ -53,6 +62,8 @@ typedef struct caller {
     uint32_t ahead; /* its clock of the proxy's */
     uint8_t iv[GATE_IV_BYTES];
     int setups;
+    own_line lines[LINES];
+    size_t line_count;
     client program;
 } caller;
 
@@ -64,6 +75,8 @@ typedef struct request {
     uint32_t made;
     char value[1024];
     char method[GATE_METHOD_MAX + 1];
+    own_line lines[LINES];
+    size_t line_count;
     char path[64];
     char body[64];
 } request;
@@ -102,8 +115,9 @@ static gate_answer set_up(const caller *who, const char *asked, const uint8_t *s
 
 /* The proxy hands requests on under the portal's inner name, and sets the caller's own Host line aside. */
 static gate_answer judge(const request *asked) {
-    char head[256];
-    sprintf(head, "Host: portal.inside\r\nCookie: session=%s\r\nX-Dealer: %s\r\n", asked->from->session_id, asked->from->name);
+    char head[512];
+    int length = sprintf(head, "Host: portal.inside\r\nCookie: session=%s\r\nX-Dealer: %s\r\n", asked->from->session_id, asked->from->name);
+    for (size_t i = 0; i < asked->line_count; i++) length += sprintf(head + length, "%s: %s\r\n", asked->lines[i].name, asked->lines[i].value);
     const gate_request judged = {gate_string(asked->value), gate_string(asked->method),
                                  gate_string(head),         gate_string("Host: parts.example\r\n"),
                                  gate_string(asked->path),  gate_string(asked->body)};
@@ -131,9 +145,15 @@ static void keep(char *to, size_t room, const char *text) {
 static void make(request *asked, caller *from, const char *method, const char *path, const char *body) {
     char cookie[64];
     sprintf(cookie, "session=%s", from->session_id);
-    const client_header headers[] = {{"Host", "parts.example"}, {"Cookie", cookie}, {"X-Dealer", from->name}};
-    const client_request signing = {method, headers, 3, path, body};
+    client_header headers[3 + LINES] = {{"Host", "parts.example"}, {"Cookie", cookie}, {"X-Dealer", from->name}};
+    for (size_t i = 0; i < from->line_count; i++) {
+        headers[3 + i].name = from->lines[i].name;
+        headers[3 + i].value = from->lines[i].value;
+    }
+    const client_request signing = {method, headers, 3 + from->line_count, path, body};
     asked->from = from;
+    memcpy(asked->lines, from->lines, sizeof asked->lines);
+    asked->line_count = from->line_count;
     asked->nonce = from->program.next;
     asked->made = clock_of(from);
     keep(asked->method, sizeof asked->method, method);
@@ -213,6 +233,11 @@ static const char *word(void) {
     return found;
 }
 
+static const char *rest_of_line(void) {
+    const char *found = strtok(NULL, "\n");
+    return found != NULL ? found : "";
+}
+
 static uint32_t number(void) { return (uint32_t)strtoul(word(), NULL, 10); }
 
 static void read_hex(uint8_t *out, size_t count) {
@@ -253,6 +278,11 @@ static request *made_request(void) {
     request *asked = labelled_request();
     if (asked->from == NULL) give_up("no such request");
     return asked;
+}
+
+static void read_line(own_line *into) {
+    keep(into->name, sizeof into->name, word());
+    keep(into->value, sizeof into->value, rest_of_line());
 }
 
 static const char *body_word(void) {
@@ -316,6 +346,12 @@ static void do_clock_of(void) {
     who->ahead = number();
 }
 
+static void do_line_of(void) {
+    caller *who = named_caller();
+    if (who->line_count == LINES) give_up("too many lines");
+    read_line(&who->lines[who->line_count++]);
+}
+
 static void do_signs_with(void) {
     caller *who = named_caller();
     client_sign_with(&who->program, hash_named(word()));
@@ -340,8 +376,7 @@ static void do_limits_of(void) { read_limits(&named_caller()->orders); }
 
 static void do_note(void) {
     static const char *before = "";
-    const char *text = strtok(NULL, "\n");
-    printf("%s%s\n", before, text != NULL ? text : "");
+    printf("%s%s\n", before, rest_of_line());
     before = "\n";
 }
 
@@ -385,6 +420,13 @@ static void do_forge(void) {
     keep(forged.method, sizeof forged.method, word());
     keep(forged.body, sizeof forged.body, body_word());
     print_judged(&forged, judge(&forged));
+}
+
+static void do_combine(void) {
+    request combined = *made_request();
+    combined.line_count = 1;
+    read_line(&combined.lines[0]);
+    print_judged(&combined, judge(&combined));
 }
 
 static void do_send(void) {
@@ -452,7 +494,7 @@ static void act(char *line) {
                   {"at", do_at},         {"setup", do_setup},           {"make", do_make},             {"deliver", do_deliver},
                   {"forge", do_forge},   {"send", do_send},             {"signs-with", do_signs_with}, {"fetch", do_fetch},
                   {"crowd", do_crowd},   {"restart", begin_index},      {"make-index", do_make_index}, {"table", print_table},
-                  {"end", do_end},       {"index", print_index}};
+                  {"end", do_end},       {"index", print_index},        {"line-of", do_line_of},       {"combine", do_combine}};
     const char *name = strtok(line, " \n");
     if (name == NULL || name[0] == '#') return;
     for (size_t i = 0; i < sizeof events / sizeof events[0]; i++) {

@@ -128,7 +128,7 @@ def sent_again(request):
 
 
 def phrases():
-    """What the page says with numbers in it outside its tables, and whether it is so."""
+    """What the page says outside its tables with numbers in it, or of several lines, and whether it is so."""
     setup, request = calls.named(DEALER.setup), DEALER.request
     mask, clock, told = setup["mask"], setup["clock"], dict(DEALER.fields)
     defaults = model.Orders(0, hashing.BOTH, b"", 0, 0, 0)
@@ -143,6 +143,11 @@ def phrases():
     yield f"none of the {len(model.NAMES)}", True
     yield f"at most {model.MOST_EXTRA_NAMES}, at most {model.MOST_EXTRA} bytes together", True
     yield "at most 459 bytes", longest_reply() == 459
+    yield "Twelve of the names that have a bit are list fields", len(model.LIST_FIELDS) == 12 and set(model.LIST_FIELDS) <= set(model.NAMES)
+    yield "the lines `a`, an empty one and `b` come to `a, , b`", at_edge("Accept on three lines, `a`, an empty one and `b`, signed as `a, , b`") == 0
+    yield "Two lines `a` and `b` are signed as the one line `a, b` is", at_edge("two lines of Accept, `a` and `b`, that were made one on the way, `a, b`") == 0
+    yield "made `a,b`, they are another value", at_edge("two lines of Accept, `a` and `b`, that were made one on the way, `a,b`") == 11
+    yield "`a` and an empty line come to `a, ` with its space", at_edge("Accept on two lines, `a` and an empty one, signed as `a, `") == 0
     yield f"from 0 to {model.HIGHEST:,}", True
     yield "14; at the default 60 passes and 61 does not", at_edge("a request made 60 seconds ago") == 0 and at_edge("a request made 61 seconds ago") == 14
     yield f"exceeds {model.MOST_AHEAD} seconds", True
@@ -198,6 +203,7 @@ def claims(text):
     named = header_numbers()
     yield "numbers", [row[:2] for row in rows(text, "Numbers")] == [[str(number), f"`{named[number]}`"] for number in range(23)]
     yield "names", ", ".join(name.decode() for name in model.NAMES) in re.sub(r"\s+", " ", text)
+    yield "list fields", ": " + ", ".join(name.decode() for name in model.LIST_FIELDS) + ".\n" in text
     told = dict(phrases())
     for phrase, good in told.items():
         yield phrase, bool(good) and phrase in text

@@ -11,7 +11,7 @@ use lib.ListN.{length, getD, drop, List·getD-eq-default}
 use Rattle.cells.specs.Runs.{cut}
 use Rattle.lines.specs.Lines.{linesIn}
 use Rattle.lines.specs.Values.{valuesIn, joined, orElse, coveredValue}
-use Rattle.lines.specs.InnerPlaces.{Stands, frontAt, ownAt}
+use Rattle.lines.specs.InnerPlaces.{Stands, frontAt}
 use Rattle.lines.specs.InnerNotes.{placeOf, NoteIs, Notes, NotesOn, noteValue, valueBy, valuesBy, Placed}
 use Rattle.lines.proofs.Joined.{joined-one, own-more}
 

@@ -153,10 +153,10 @@ fn absorb_joined(state: State, block: &[u8], at: usize) -> State
     let open = netstring::opening(lines::joined_size(block, at));
     let all = open.all;
     let start = open.start;
-    let mut s = state;
-    s = s.absorb(&all[start..]);
-    s = absorb_lines(s, block, at);
-    s.absorb(b",")
+    let mut taken = state;
+    taken = taken.absorb(&all[start..]);
+    taken = absorb_lines(taken, block, at);
+    taken.absorb(b",")
 }
 
 fn absorb_lines(state: State, block: &[u8], at: usize) -> State

@@ -1,22 +1,21 @@
 -- What the notes on the covered names come to: checks 6 to 8, and the notes for the signature.
 -- Assumes nothing.
-use mathlib.Core.Path.{_≡_, refl, sym, ap, _∙_}
+use mathlib.Core.Path.{_≡_, refl, sym, _∙_}
 use mathlib.Core.Bool.{Bool, true, false, not, _&&_, and-false}
 use mathlib.Core.List.{List, [], _∷_}
-use Prim.Native.Nat.{ℕ, _≤_, _<_}
+use Prim.Native.Nat.{ℕ, _≤_}
 use native.Mathlib.Omega.{arith}
-use lib.ListN.{length, getD, take}
+use lib.ListN.{length, take}
 use lib.Seq.{length-take-le, getD-take}
 use Rattle.names.specs.Names.{isToken}
 use Rattle.names.specs.Extra.{goodExtra}
 use Rattle.names.specs.Covered.{coveredNames}
 use Rattle.names.proofs.Sizes.{names-few}
-use Rattle.lines.specs.Lines.{goodBlock}
 use Rattle.lines.specs.InnerNotes.{Notes, NotedIs}
 use Rattle.lines.specs.declared.noting.Noted.{Noted as LinesNoted}
 use Rattle.coverage.specs.Coverage.{asOrdered}
 use Rattle.stages.specs.Request.{Request}
-use Rattle.stages.specs.Checks.{Check, check, first}
+use Rattle.stages.specs.Checks.{check, first}
 use Rattle.stages.specs.Parts.{fieldsOf, twice, coveringPart}
 use Rattle.stages.specs.InnerStages.{Noted, Covers}
 

@@ -9,7 +9,8 @@ import drafts
 import hashing
 import model
 import record as rec
-from sentences.placing import CLOCK, HIGHEST, IV, at, lent, ordered, replaced, request_call, setup_call
+from sentences.lists import lines
+from sentences.placing import CLOCK, HIGHEST, IV, ORDERS, at, covering, lent, ordered, replaced, request_call, setup_call, signing
 
 
 def cases():
@@ -69,6 +70,22 @@ def changed(method):
     return request_call(replaced("lent", "method", method), method=b"POST")
 
 
+def named(name, *alterations, **blocks):
+    """With lines in these blocks, where this name is ordered too."""
+    orders = covering(name)
+    return request_call(*alterations, orders=orders._replace(mask=orders.mask | ORDERS.mask), **blocks)
+
+
+def accepting(value, head, aside=b""):
+    """With these lines of Accept, and signed as this value."""
+    return named(b"Accept", signing(lambda _: value), head=head, aside=aside)
+
+
+def made_one(sent, value):
+    """Signed with these lines of Accept and lent with one."""
+    return named(b"Accept", replaced("lent", "head", lines(value)), head=sent)
+
+
 def among(count):
     """In the last of so many records; the others are free."""
     return lent(request_call(), [rec.FREE] * (count - 1) + [OWN])
@@ -79,6 +96,10 @@ ONLY_512 = ordered(3, hashes=hashing.SHA_512)
 OWN, OTHER = (rec.fresh(iv, HIGHEST) for iv in (IV, IV[::-1]))
 
 HOST = b"Host:a\r\n"
+TWO = lines(b"a", b"b")
+THREE = lines(b"a", b"", b"b")
+LAST_EMPTY = lines(b"a", b"")
+OWN_TWO = lines(b"c", b"d")
 
 EDGES = (
     ("a request made 60 seconds ago", aged(60), 0),
@@ -114,7 +135,24 @@ EDGES = (
     ("a value with `t:AB==`, a spare bit set", with_value(lambda value: value + b";t:AB=="), 4),
     ("no line for a covered name, signed as an empty one", request_call(), 0),
     ("a covered name in the head and among the set-aside lines", request_call(head=HOST, aside=b"host: b \r\n"), 0),
-    ("a covered name twice in the head", request_call(head=HOST + HOST), 7),
+    ("Accept on two lines, `a` and `b`, signed as `a, b`", accepting(b"a, b", TWO), 0),
+    ("the same, signed as `a`", accepting(b"a", TWO), 11),
+    ("the same, signed as `a,b`", accepting(b"a,b", TWO), 11),
+    ("the same, signed as `b, a`", accepting(b"b, a", TWO), 11),
+    ("two lines of Accept, `a` and `b`, that were made one on the way, `a, b`", made_one(TWO, b"a, b"), 0),
+    ("two lines of Accept, `a` and `b`, that were made one on the way, `a,b`", made_one(TWO, b"a,b"), 11),
+    ("Accept on three lines, `a`, an empty one and `b`, signed as `a, , b`", accepting(b"a, , b", THREE), 0),
+    ("the same, signed as `a, b`", accepting(b"a, b", THREE), 11),
+    ("Accept on two lines, `a` and an empty one, signed as `a, `", accepting(b"a, ", LAST_EMPTY), 0),
+    ("the same, made one line on the way, `a, `, whose space is left out", made_one(LAST_EMPTY, b"a, "), 11),
+    ("Accept twice in the head and twice among the set-aside lines, signed as the latter", accepting(b"c, d", TWO, OWN_TWO), 0),
+    ("Accept twice in the head and once among the set-aside lines, signed as the latter", accepting(b"c", TWO, lines(b"c")), 0),
+    ("the same, signed as the head's two", accepting(b"a, b", TWO, lines(b"c")), 11),
+    ("Host twice in the head", request_call(head=HOST + HOST), 7),
+    ("Host twice in the head and once among the set-aside lines", request_call(head=HOST + HOST, aside=HOST), 7),
+    ("Cookie twice among the set-aside lines", named(b"Cookie", aside=b"Cookie: a\r\nCookie: b\r\n"), 7),
+    ("an extra name twice in the head", named(b"X-Dealer", head=b"X-Dealer: a\r\nX-Dealer: b\r\n"), 7),
+    ("a name that is not covered, twice in the head", request_call(head=b"Cookie: a\r\nCookie: b\r\n"), 0),
     ("a head whose last line lacks CR LF", request_call(replaced("lent", "head", HOST[:-2])), 6),
     ("a method of 16 bytes", request_call(method=b"M" * 16), 0),
     ("a method of 17 bytes", request_call(method=b"M" * 17), 1),

@@ -1,7 +1,6 @@
 -- `value_at` meets its contract.
 -- Assumes nothing.
 use borrow.Author.Needs.{needs}
-use mathlib.Core.Path.{_≡_}
 use native.Mathlib.Omega.{arith}
 use Rattle.lines.specs.InnerPlaces.{WholeLine}
 use Rattle.lines.proofs.Lines.{lines-stop}

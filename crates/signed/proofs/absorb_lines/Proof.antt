@@ -11,7 +11,7 @@ use Rattle.sha2.specs.InnerTaken.{TookIn}
 use Rattle.sha2.proofs.Streaming.{took-in-turn}
 use Rattle.names.specs.Extra.{comma}
 use Rattle.lines.specs.Values.{space, joined}
-use Rattle.lines.specs.InnerPlaces.{Stands, frontAt, ownAt, AgainIs}
+use Rattle.lines.specs.InnerPlaces.{Stands, ownAt, AgainIs}
 use Rattle.lines.specs.declared.Found.the-variants.{At}
 use Rattle.lines.proofs.Joined.{own-alone, own-then, own-begins, stands-within}
 use Rattle.signed.proofs.absorb_lines.Statement.{statement}
