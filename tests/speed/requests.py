@@ -74,6 +74,11 @@ class Maker:
             others.insert(place * (len(others) + 1) // len(named), text)
         return others
 
+    def around(self, size):
+        """Each list field twice, before and behind lines of 4 bytes."""
+        lists = [client.line(name, b"a") for name in model.LIST_FIELDS]
+        return lists + [b"a:\r\n"] * ((size - 2 * sum(map(len, lists))) // 4) + lists
+
     def judge(self, covered=8, lines=None, records=64, body=200, extra=b"", expiry=EXPIRY, lt=CLOCK - 40, known=hashing.SHA_512):
         """A request that covers the first names; its head has a line for each, and no other, unless lines are given."""
         iv = self.run(12)
@@ -124,6 +129,10 @@ def measured():
     yield "judge, 55 names, head of 16 KiB", maker.judge(covered=55, lines=maker.lines(55, 16_384))
     yield "judge, 55 names, lines of 4 bytes", maker.judge(covered=55, lines=[b"a:\r\n"] * 4_096)
     yield "judge, all of it", maker.judge(covered=55, lines=maker.lines(55, 16_384), body=65_536)
+    yield "judge, 63 names, lines of 4 bytes", maker.judge(covered=55, lines=[b"a:\r\n"] * 4_096, extra=b"b,c,d,e,f,g,h,i")
+    yield "judge, Accept on two lines", maker.judge(lines=maker.lines(8) + [client.line(b"Accept", b" text/plain")])
+    yield "judge, TE on lines of 5 bytes", maker.judge(covered=55, lines=[b"TE:\r\n"] * 3_276)
+    yield "judge, 12 list fields around others", maker.judge(covered=55, lines=maker.around(16_384))
 
 
 def hashed():

@@ -38,9 +38,6 @@ abbrev pub firstBy : List ℕ → List ℕ → ℕ → ℕ → List ℕ
 firstBy aside head in-head in-aside =
     cond (eqb in-aside 0) (cond (eqb in-head 0) [] (frontAt head (placeOf in-head))) (frontAt aside (placeOf in-aside))
 
-abbrev pub CoveredIs : List ℕ → List ℕ → ℕ → ℕ → List ℕ → Type 0
-CoveredIs aside head in-head in-aside r = r ≡ firstBy aside head in-head in-aside
-
 -- the value by a note: of one line, or joined
 abbrev pub noteValue : List ℕ → ℕ → List ℕ
 noteValue block note = cond (leb 32768 note) (joined (ownAt block (placeOf note))) (frontAt block (placeOf note))

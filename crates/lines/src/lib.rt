@@ -6,7 +6,7 @@ ghost use Rattle.cells.specs.Spans.{all, Spans, Passed};
 ghost use Rattle.lines.specs.Lines.{valueByte};
 ghost use Rattle.lines.specs.Values.{blank, joined};
 ghost use Rattle.lines.specs.InnerPlaces.{PlaceIs, BackAt, TrimmedTo, Stands, frontAt, ownAt, FoundIs, AgainIs};
-ghost use Rattle.lines.specs.InnerNotes.{placeOf, PlaceIn, CoveredIs};
+ghost use Rattle.lines.specs.InnerNotes.{placeOf, PlaceIn, firstBy};
 use names::token;
 
 pub mod noting;
@@ -14,7 +14,7 @@ pub mod noting;
 // The value of a covered name by its notes, of its first line where it has several: a part of one of the two blocks.
 pub fn covered<'a>(head: &'a [u8], aside: &'a [u8], in_head: u16, in_aside: u16) -> &'a [u8]
     requires { ⌜ PlaceIn (now head) in_head × PlaceIn (now aside) in_aside ⌝ }
-    ensures { λ r. ⌜ CoveredIs (now (aside .entry)) (now (head .entry)) in_head in_aside (now r) ⌝ }
+    ensures { λ r. ⌜ now r ≡ firstBy (now (aside .entry)) (now (head .entry)) in_head in_aside ⌝ }
 {
     if in_aside != 0 {
         return value_at(aside, place_of(in_aside));

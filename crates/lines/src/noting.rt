@@ -1,4 +1,5 @@
-// Going through the lines of a block once: whether they are lines, and where each covered name stands.
+// Going through the lines of a block once: whether they are lines, and where each covered name stands. The note on a name is 0 where no line bears
+// it; otherwise 1 more than where the first that does starts, and 32768 more if others do too.
 ghost use mathlib.Core.Path.{_≡_};
 ghost use mathlib.Core.Bool.{true};
 ghost use Prim.Native.Nat.{_≤_, _<_};
@@ -12,8 +13,8 @@ use super::Place;
 use super::line_at;
 use names::sheet;
 
-// Whether both blocks are lines; how many names are covered; and, where both are lines, whether one of them that is no list field stands twice
-// in a block.
+// Whether both blocks are lines; where they are, whether a covered name that is no list field stands twice in one; and how many names are
+// covered.
 pub struct Noted {
     pub good: bool,
     pub twice: bool,

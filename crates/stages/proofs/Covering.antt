@@ -12,12 +12,12 @@ use Rattle.names.specs.Extra.{goodExtra}
 use Rattle.names.specs.Covered.{coveredNames}
 use Rattle.names.proofs.Sizes.{names-few}
 use Rattle.lines.specs.InnerNotes.{Notes, NotedIs}
-use Rattle.lines.specs.declared.noting.Noted.{Noted as LinesNoted}
+use Rattle.lines.specs.declared.noting.Noted.{Noted}
 use Rattle.coverage.specs.Coverage.{asOrdered}
 use Rattle.stages.specs.Request.{Request}
 use Rattle.stages.specs.Checks.{check, first}
 use Rattle.stages.specs.Parts.{fieldsOf, twice, coveringPart}
-use Rattle.stages.specs.InnerStages.{Noted, Covers}
+use Rattle.stages.specs.InnerStages.{CoveredNotes, Covers}
 
 -- notes on names, and on as many of them as there are names
 noted-front : (block : List ℕ) (ns : List (List ℕ)) (notes : List ℕ) → Notes block ns notes → Notes block ns (take (length ns) notes)
@@ -27,7 +27,7 @@ abbrev names : Request → List (List ℕ)
 names q = coveredNames (q .orders .numbers .mask) (q .orders .extra)
 
 module _ (q : Request) (good : goodExtra (q .orders .extra) ≡ true) (in-head in-aside : List ℕ) (long : 64 ≤ length in-head) (long-aside : 64 ≤ length in-aside)
-    (n : LinesNoted) (is : NotedIs (names q) (q .head) (q .aside) in-head in-aside n) where
+    (n : Noted) (is : NotedIs (names q) (q .head) (q .aside) in-head in-aside n) where
   covering : (b : Bool) → n .good ≡ b
       → first (coveringPart q)
       ≡ first (check 6 (not (isToken (q .method) && n .good)) ∷ check 7 (n .twice) ∷ check 8 (not (asOrdered (q .orders .numbers .hashes) (q .orders .numbers .mask) (q .orders .extra) (fieldsOf q))) ∷ [])
@@ -35,7 +35,7 @@ module _ (q : Request) (good : goodExtra (q .orders .extra) ≡ true) (in-head i
   covering true e = simp (← (is .good), e, is .twice e)
   covering false e = simp (← (is .good), e, and-false)
 
-  read-notes : n .good ≡ true → Noted (q .orders) (q .head) (q .aside) in-head in-aside (n .covered)
+  read-notes : n .good ≡ true → CoveredNotes (q .orders) (q .head) (q .aside) in-head in-aside (n .covered)
   read-notes e =
       let few = names-few (q .orders .numbers .mask) (q .orders .extra) good in
       record {

@@ -31,14 +31,14 @@ use Rattle.table.specs.Session.{placeOf, heldAt}
 use Rattle.stages.specs.Parts.{ivOf, hashOf, nonceOf, timeOf, lastTimeOf, tokenOf, limits, ordered, nextOf, coveringPart, readingPart, vouchingPart, admittingPart, invalidates}
 
 -- notes on the covered names, as many as there are names
-pub record Noted (o : Orders) (head aside in-head in-aside : List ℕ) (count : ℕ) : Type 0 where
+pub record CoveredNotes (o : Orders) (head aside in-head in-aside : List ℕ) (count : ℕ) : Type 0 where
   pub fits : count ≤ 64
   pub notes : NotesOn (coveredNames (o .numbers .mask) (o .extra)) head aside (take count in-head) (take count in-aside)
 
 -- 6 to 8: the number, and where it is 0 the notes
 pub record Covers (q : Request) (in-head in-aside : List ℕ) (r : Compared) : Type 0 where
   pub is : r .number ≡ first (coveringPart q)
-  pub noted : r .number ≡ 0 → Noted (q .orders) (q .head) (q .aside) in-head in-aside (r .covered)
+  pub noted : r .number ≡ 0 → CoveredNotes (q .orders) (q .head) (q .aside) in-head in-aside (r .covered)
 
 abbrev pub CoversIs : Orders → List ℕ → List ℕ → List ℕ → List ℕ → List ℕ → List ℕ → Compared → Type 0
 CoversIs o value method head aside in-head in-aside r =
@@ -49,7 +49,7 @@ pub record Reads (q : Request) (run in-head in-aside : List ℕ) (r : Reading) :
   pub is : r .number ≡ first (readingPart q)
   pub holds : r .number ≡ 0 → Holds (q .value) (carried (q .value)) (r .request)
   pub lies : r .number ≡ 0 → Lies (carried (q .value)) (r .request) run
-  pub noted : r .number ≡ 0 → Noted (q .orders) (q .head) (q .aside) in-head in-aside (r .covered)
+  pub noted : r .number ≡ 0 → CoveredNotes (q .orders) (q .head) (q .aside) in-head in-aside (r .covered)
 
 abbrev pub ReadIs : Orders → List ℕ → List ℕ → List ℕ → List ℕ → List ℕ → List ℕ → List ℕ → Reading → Type 0
 ReadIs o value method head aside run in-head in-aside r =
