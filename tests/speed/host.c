@@ -244,6 +244,10 @@ static void print_times(void) {
     }
     print_ratios(" 4096 records", " 64 records");
     print_ratios(" judged", " hashed");
+    print_ratios(" lines of 4 bytes, 55 names", " small");
+    print_ratios(" lines of 4 bytes, 63 names", " small");
+    print_ratios(" TE on lines of 5 bytes", " small");
+    print_ratios(" 12 list fields around others", " small");
 }
 
 /* Stack: the call runs on one that was painted, and the paint that is gone tells how deep it went */

@@ -127,9 +127,9 @@ def measured():
     for covered in (0, 8, 55):
         yield f"judge, {covered} of 55 names covered", maker.judge(covered=covered, lines=maker.lines(55))
     yield "judge, 55 names, head of 16 KiB", maker.judge(covered=55, lines=maker.lines(55, 16_384))
-    yield "judge, 55 names, lines of 4 bytes", maker.judge(covered=55, lines=[b"a:\r\n"] * 4_096)
+    yield "judge, lines of 4 bytes, 55 names", maker.judge(covered=55, lines=[b"a:\r\n"] * 4_096)
     yield "judge, all of it", maker.judge(covered=55, lines=maker.lines(55, 16_384), body=65_536)
-    yield "judge, 63 names, lines of 4 bytes", maker.judge(covered=55, lines=[b"a:\r\n"] * 4_096, extra=b"b,c,d,e,f,g,h,i")
+    yield "judge, lines of 4 bytes, 63 names", maker.judge(covered=55, lines=[b"a:\r\n"] * 4_096, extra=b"b,c,d,e,f,g,h,i")
     yield "judge, Accept on two lines", maker.judge(lines=maker.lines(8) + [client.line(b"Accept", b" text/plain")])
     yield "judge, TE on lines of 5 bytes", maker.judge(covered=55, lines=[b"TE:\r\n"] * 3_276)
     yield "judge, 12 list fields around others", maker.judge(covered=55, lines=maker.around(16_384))
