@@ -43,7 +43,7 @@ valuesIn (l ∷ ls) name = cond (sameName (l .name) name) (trimmed (l .value) �
 -- one of the names stands twice or more and is no list field
 unfoldable pub repeated : List (List ℕ) → List Line → Bool
 repeated [] ls = false
-repeated (n ∷ ns) ls = not (isList n) && ltb 1 (length (valuesIn ls n)) || repeated ns ls
+repeated (n ∷ ns) ls = (not (isList n) && ltb 1 (length (valuesIn ls n))) || repeated ns ls
 
 -- a comma and a space before each value
 unfoldable pub following : List (List ℕ) → List ℕ

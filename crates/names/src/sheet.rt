@@ -1,4 +1,6 @@
-// The covered names on a sheet, so that a line's name is found among them without going through all of them.
+// The covered names on a sheet, so that a line's name is found among them without going through all of them. Names are numbered from 1 on, and 0
+// is none. A sheet has for each of 64 keys the last name that has it; from 64 on, for each name, the one before it that has its key; and from 128
+// on where each name starts, an extra one 1024 further on.
 ghost use mathlib.Core.Path.{_≡_};
 ghost use mathlib.Core.Bool.{true, not};
 ghost use Prim.Native.Nat.{_+_, _≤_, _<_};
