@@ -1,5 +1,6 @@
 /*
- * The login gate, for a proxy written in C: set up a session, judge a request, end a session by its IV.
+ * The login gate, for a proxy written in C: set up a session, judge a request, end a session by its IV; and for those who
+ * write clients, try a request.
  *
  * First come the sizes and numbers, then the calls as libgate.a exports them, and last the form that most hosts want:
  * structs, and inline functions over the calls. Every call takes any bytes, numbers, table and index and answers a number
@@ -70,14 +71,14 @@ extern "C" {
  * ---- The numbers that a call answers ----
  *
  * A request is checked for 1, 2, 3, 22, 4 to 12, then for 8 against its session's record, then for 13, 14, 21, 15, 16; a
- * setup for 1, 2, 3, 22, 4, 5, 19, 20, 17, 18, in this order; an ending for 1, 3, 22, 12; gate_index for 1, 3. The first
- * that holds is the number. Table, index and reply buffer keep every byte and the reply has length 0, unless the line says
- * more; where a record is taken or freed, the index is made to fit.
+ * setup for 1, 2, 3, 22, 4, 5, 19, 20, 17, 18, in this order; an ending for 1, 3, 22, 12; gate_index for 1, 3; gate_fits
+ * for 1, 23, 4 to 8, 11. The first that holds is the number. Table, index and reply buffer keep every byte and the reply has
+ * length 0, unless the line says more; where a record is taken or freed, the index is made to fit.
  */
 enum gate_number {
     GATE_ACCEPTED = 0,         /* done. Setup: the record is taken, the reply is for the client. Request: the reply
                                   is the session id, and the record holds the nonce. Ending: the record is freed, no
-                                  reply. gate_index: the index is written, no reply */
+                                  reply. gate_index: the index is written, no reply. gate_fits: the request fits */
     GATE_BAD_SIZE = 1,         /* something lent to this call has a size outside those above */
     GATE_BAD_ORDERS = 2,       /* orders bad */
     GATE_BAD_TABLE = 3,        /* table not well formed */
@@ -87,7 +88,8 @@ enum gate_number {
     GATE_REPEATED_NAME = 7,    /* a covered name that is no list field, twice among the head lines or twice among the
                                   set-aside ones */
     GATE_BAD_COVERAGE = 8,     /* the request covers otherwise than ordered, or its hash is not one that is allowed, not
-                                  that of its signature's length, or not its session's */
+                                  that of its signature's length, or not its session's. gate_fits: ah, eah, h, s, iv or
+                                  tag other than the setup reply's, too */
     GATE_BAD_TOKEN = 9,        /* token fails to open, or does not hold what it must */
     GATE_EXPIRED = 10,         /* the clock is at or past the token's expiry. Frees the record if there is one; the
                                   reply is the invalidation */
@@ -102,7 +104,8 @@ enum gate_number {
     GATE_NO_HASH = 19,         /* setup: no hash in common: none that the client has is allowed */
     GATE_EXPIRY_TOO_LATE = 20, /* setup: expiry would pass 4,294,967,295 */
     GATE_TOO_FAR_AHEAD = 21,   /* the request's time is more than GATE_AHEAD_MAX ahead of the clock */
-    GATE_BAD_INDEX = 22        /* the index is not the one that fits its table */
+    GATE_BAD_INDEX = 22,       /* the index is not the one that fits its table */
+    GATE_BAD_SETUP_REPLY = 23  /* gate_fits: no setup writes such a reply */
 };
 
 /* A number in a few words, for a log. */
@@ -131,6 +134,7 @@ static inline const char *gate_text(unsigned number) {
     case GATE_EXPIRY_TOO_LATE: return "expiry past the last time";
     case GATE_TOO_FAR_AHEAD: return "request too far ahead";
     case GATE_BAD_INDEX: return "index does not fit its table";
+    case GATE_BAD_SETUP_REPLY: return "no setup writes such a reply";
     default: return "no number of the gate";
     }
 }
@@ -288,6 +292,19 @@ uint32_t gate_end(const uint8_t *iv, size_t iv_len, uint8_t *table, size_t table
  * the table, and has no reply.
  */
 uint32_t gate_index(const uint8_t *table, size_t table_len, uint8_t *index, size_t index_len);
+
+/*
+ * Tries a client: whether the request that it made fits the setup reply that it got, without server key, orders, clock and
+ * table. The checks are those of gate_judge up to the signature, by the orders that the reply tells of, under its key.
+ *   setup_reply  at most GATE_SETUP_REPLY_MAX: the X-S-Armor value of the reply
+ *   value, method, head, aside, path, body
+ *                as for gate_judge
+ * At GATE_ACCEPTED the gate that wrote the reply would carry the request past its signature and the hash of its session,
+ * as long as the token lasts and the session's record stands. It has no reply.
+ */
+uint32_t gate_fits(const uint8_t *setup_reply, size_t setup_reply_len, const uint8_t *value, size_t value_len,
+                   const uint8_t *method, size_t method_len, const uint8_t *head, size_t head_len, const uint8_t *aside,
+                   size_t aside_len, const uint8_t *path, size_t path_len, const uint8_t *body, size_t body_len);
 
 /* One session's record, for hosts that keep their sessions apart. */
 typedef struct gate_record {
@@ -449,6 +466,14 @@ static inline gate_answer gate_end_session(gate_run iv, gate_room table, gate_ro
 
 static inline gate_answer gate_make_index(gate_run table, gate_room index) {
     return gate_answer_of(gate_index(gate_lent(table), table.length, gate_lent_room(index), index.length));
+}
+
+static inline gate_answer gate_fits_request(gate_run setup_reply, const gate_request *request) {
+    return gate_answer_of(gate_fits(
+        gate_lent(setup_reply), setup_reply.length, gate_lent(request->value), request->value.length,
+        gate_lent(request->method), request->method.length, gate_lent(request->head), request->head.length,
+        gate_lent(request->aside), request->aside.length, gate_lent(request->path), request->path.length,
+        gate_lent(request->body), request->body.length));
 }
 
 /* ---- A record as a struct and as the GATE_RECORD_BYTES that it has in a table, numbers highest byte first ---- */

@@ -47,6 +47,7 @@ static void nulls_everywhere(void) {
     expect("so is one for a record", single.number == GATE_BAD_SIZE && single.length == 0);
     expect("an ending of nulls is 1", gate_end_session(empty, none, none).number == GATE_BAD_SIZE);
     expect("the index of a null table is 1", gate_make_index(empty, none).number == GATE_BAD_SIZE);
+    expect("a trial of nulls is 1", gate_fits_request(empty, &request).number == GATE_BAD_SIZE);
 }
 
 /* The parts of a request for which nothing is ordered, good up to its token, which does not open. */
@@ -64,6 +65,8 @@ static void nulls_for_empty_runs(void) {
     request.value = empty;
     judged = gate_judge_request(&no_orders, 0, key(), &request, in_table(), in_index(), in_reply());
     expect("a null value is an empty one", judged.number == GATE_BAD_VALUE);
+    gate_answer tried = gate_fits_request(empty, &request);
+    expect("a null setup reply is an empty one, which no setup writes", tried.number == GATE_BAD_SETUP_REPLY && tried.length == 0);
     expect("a null text is an empty run", gate_string(NULL).length == 0 && gate_string("abc").length == 3);
 }
 
@@ -130,7 +133,7 @@ static void records(void) {
 }
 
 static void texts(void) {
-    const unsigned none = GATE_BAD_INDEX + 1;
+    const unsigned none = GATE_BAD_SETUP_REPLY + 1;
     int apart = 1;
     for (unsigned i = 0; i <= none; i++) {
         for (unsigned j = 0; j < i; j++) apart = apart && strcmp(gate_text(i), gate_text(j)) != 0;
@@ -148,7 +151,7 @@ static void print_constants(void) {
         GATE_BODY_MAX,             GATE_REPLY_MIN,         GATE_EXTRA_MAX,            GATE_EXTRA_NAMES_MAX,
         GATE_RECORD_BYTES,         GATE_RECORDS_MAX,       GATE_INDEX_ENTRY_BYTES,    GATE_WINDOW,
         GATE_REQUEST_LIFE_DEFAULT, GATE_IDLE_DEFAULT,      GATE_SESSION_LIFE_DEFAULT, GATE_SESSION_LIFE_MAX,
-        GATE_AHEAD_MAX,
+        GATE_AHEAD_MAX,            GATE_SETUP_REPLY_MAX,
         GATE_HASH_SHA_256,         GATE_INVALIDATION_SHA_256_BYTES,
         GATE_HASH_SHA_512,         GATE_INVALIDATION_SHA_512_BYTES,
     };

@@ -37,9 +37,12 @@
 
 enum place { AT_END, AT_BEGIN, ON_HEAP };
 
-enum kind { SETUP, JUDGE, ONE, END, MAKE_INDEX, KINDS };
+enum kind { SETUP, JUDGE, ONE, END, MAKE_INDEX, FITS, KINDS };
 
-enum which { EXTRA, SERVER_KEY, SESSION_KEY, IV, SESSION_ID, VALUE, METHOD, HEAD, ASIDE, PATH, BODY, TABLE, INDEX, RECORD, REPLY, RUNS };
+enum which {
+    EXTRA, SERVER_KEY, SESSION_KEY, IV, SESSION_ID, VALUE, METHOD, HEAD, ASIDE, PATH, BODY, TABLE, INDEX, RECORD, REPLY,
+    SETUP_REPLY, RUNS
+};
 
 struct run {
     const char *name;
@@ -54,6 +57,7 @@ static struct run runs[RUNS] = {
     {"method", NULL, NULL, 0},      {"head", NULL, NULL, 0},       {"set-aside", NULL, NULL, 0},
     {"path", NULL, NULL, 0},        {"body", NULL, NULL, 0},       {"table", NULL, NULL, 0},
     {"index", NULL, NULL, 0},       {"record", NULL, NULL, 0},     {"reply", NULL, NULL, 0},
+    {"setup reply", NULL, NULL, 0},
 };
 
 static enum place place;
@@ -261,6 +265,9 @@ static void perform(void) {
     case END:
         call.answer = gate_end_session(lent(IV), in_table, in_index);
         break;
+    case FITS:
+        call.answer = gate_fits_request(lent(SETUP_REPLY), &call.request);
+        break;
     default:
         call.answer = gate_make_index(lent(TABLE), in_index);
     }
@@ -287,8 +294,8 @@ static void perform_apart(void) {
 }
 
 static void print_deepest(void) {
-    fprintf(stderr, "deepest stack in bytes: setup %zu, judge %zu, one %zu, end %zu, index %zu\n", deepest[SETUP],
-            deepest[JUDGE], deepest[ONE], deepest[END], deepest[MAKE_INDEX]);
+    fprintf(stderr, "deepest stack in bytes: setup %zu, judge %zu, one %zu, end %zu, index %zu, fits %zu\n", deepest[SETUP],
+            deepest[JUDGE], deepest[ONE], deepest[END], deepest[MAKE_INDEX], deepest[FITS]);
 }
 
 static void ask(enum kind kind) {
@@ -377,13 +384,22 @@ static void play_index(void) {
     print_answer(call.answer, reply);
 }
 
+/* Table, index and reply buffer are not lent: what stands beside the call has to stay as it is. */
+static void play_fits(void) {
+    lend_next(SETUP_REPLY);
+    read_request();
+    lend_table();
+    ask(FITS);
+    print_answer(call.answer, reply);
+}
+
 static void play(char *line) {
     static const struct {
         const char *name;
         size_t words;
         void (*play)(void);
     } kinds[] = {{"table", 3, set_table}, {"reply", 3, set_reply}, {"setup", 13, play_setup}, {"judge", 15, play_judge},
-                 {"one", 15, play_one},   {"end", 2, play_end},    {"index", 1, play_index}};
+                 {"one", 15, play_one},   {"end", 2, play_end},    {"index", 1, play_index}, {"fits", 8, play_fits}};
     split(line);
     const char *kind = words[next_word++];
     for (size_t i = 0; i < sizeof kinds / sizeof kinds[0]; i++) {

@@ -10,6 +10,8 @@ import calls
 import sentences
 from histories import History
 
+NUMBERS = range(24)  # that a call can answer
+
 
 def generate(arguments):
     """Write the calls of a history."""
@@ -18,7 +20,7 @@ def generate(arguments):
         history = History(arguments.seed, writer)
         history.generate(arguments.count)
     print(f"{history.written} calls")
-    return report_numbers(history.counts)
+    return report_missing(history.counts)
 
 
 def write_sentences(arguments):
@@ -58,8 +60,10 @@ def coverage(arguments):
     history.generate(arguments.count)
     counts = history.counts
     print(f"seed {arguments.seed}: {history.written} calls")
-    for number in range(23):
+    for number in NUMBERS:
         print(f"number {number}: {counts.numbers[number]}")
+    for side, count in counts.agreements.items():
+        print(f"gate and trial agree on {side}: {count}")
     for name, count in counts.acts.items():
         print(f"act {count}: {name}")
     for name, count in counts.faults.items():
@@ -68,7 +72,7 @@ def coverage(arguments):
         print(f"pair {check_text(*lower)} with {check_text(*higher)} gave {answer}: {count}")
     unmet = [name for name, count in counts.faults.items() if count == 0]
     print(f"{len(counts.faults) - len(unmet)} of {len(counts.faults)} faults came up")
-    return report_numbers(counts)
+    return report_missing(counts)
 
 
 def check_text(number, late):
@@ -93,12 +97,15 @@ def run_logs(arguments):
     return play.run(sys.stdout, arguments.program, arguments.seed, arguments.count)
 
 
-def report_numbers(counts):
-    """True if every number 0 to 22 came up."""
-    missing = [number for number in range(23) if counts.numbers[number] == 0]
+def report_missing(counts):
+    """True if every number came up, and both sides of K11's agreement."""
+    missing = [number for number in NUMBERS if counts.numbers[number] == 0]
     if missing:
         print("numbers that never came up:", *missing)
-    return not missing
+    unmet = [side for side, count in counts.agreements.items() if count == 0]
+    if unmet:
+        print("gate and trial never agreed on:", *unmet)
+    return not missing and not unmet
 
 
 def names_beside(path):

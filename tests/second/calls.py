@@ -6,13 +6,15 @@ import model
 import record as rec
 
 ORDERS = model.Orders._fields
-REQUEST = [*ORDERS, *"clock server_key value method head aside path body".split()]
+SENT = "value method head aside path body".split()
+REQUEST = [*ORDERS, "clock", "server_key", *SENT]
 ARGUMENTS = {
     "setup": [*ORDERS, *"clock server_key session_key iv session_id value".split()],
     "judge": REQUEST,
     "one": REQUEST,
     "end": ["iv"],
     "index": [],
+    "fits": ["setup_reply", *SENT],
 }
 MOST_SHOWN = 5
 
@@ -39,6 +41,12 @@ def orders_of(call):
     return model.Orders(*call.arguments[:len(ORDERS)])
 
 
+def request_fields(value):
+    """Contents by key, or None where the value is no request's."""
+    fields = model.fields_of(value)
+    return None if fields is None or model.request_fields_wrong(fields) else dict(fields)
+
+
 def answered(call, reply):
     """What the model answers to this call."""
     table, index, arguments = call.table, call.index, call.arguments
@@ -46,6 +54,8 @@ def answered(call, reply):
         return model.end(*arguments, table, index)._replace(reply=reply)
     if call.kind == "index":
         return model.make_index(table, index)._replace(reply=reply)
+    if call.kind == "fits":
+        return model.Outcome(model.fits(*arguments), 0, reply, table, index)
     orders, rest = orders_of(call), arguments[len(ORDERS):]
     if call.kind == "setup":
         return model.setup(orders, *rest, table, index, reply)

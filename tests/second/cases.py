@@ -5,11 +5,14 @@ import hashlib
 import hmac
 import io
 import random
+import re
 
 from cryptography.hazmat.primitives.ciphers.aead import AESGCM
 
+import agreement
 import calls
 import client
+import drafts
 import encoding
 import hashing
 import model
@@ -404,6 +407,159 @@ def fitting():
     return True
 
 
+# Trials of clients (document 02, K11), by the example of docs/RULES.md
+
+TOKEN_TOLD = (
+    b"s:0YuUAwcepCfo4jAesk44d1TofWyGBzwXQnF53a4p1uelNsyA5oO9JkCabxu8PPPr+0ubBAPx2zGzLeY3Cw==;iv:QEFCQ0RFRkdISUpL;"
+    b"tag:ZckYUDPe5o/Ab/zCK/KKww==;"
+)
+TOLD = TOKEN_TOLD + b"kh:ICEiIyQlJicoKSorLC0uLzAxMjM0NTY3ODk6Ozw9Pj8=;h:AQQ=;ah:AgED;eah:WC1EZWFsZXI="
+CARRIED = TOKEN_TOLD + b"h:AQQ=;ah:AgED;eah:WC1EZWFsZXI=;n:Bw==;t:WcBGfw==;lt:WcBGQw==;c:"
+CODE = b"ZUY8lGKYPFNFMNnrQbq7l9IBvnw9Q43EgKJUT0+04bFMoBcf7bzHEBzjWGYLOC0iKthvEu2pS1JxpQMVwjbxCw=="
+CODE_256 = base64.b64encode(bytes.fromhex("1d64128e0766eeeefd0b24a7556f1da4ba0e80be92b55050716473440535adeb"))
+SENT = {
+    "method": b"POST",
+    "head": b"Host:portal.example\r\nCookie: seat=4 \r\nX-Dealer:Brandt\r\n",
+    "aside": b"",
+    "path": b"/orders",
+    "body": b"belts=11",
+}
+
+
+def tried(number, name, setup_reply=TOLD, value=CARRIED + CODE, **changed):
+    equal(f"trial, {name}", model.fits(setup_reply, value, **SENT | changed), number)
+
+
+def told_for(old, new):
+    return TOLD.replace(old, new)
+
+
+TOLD_256, SENT_256 = told_for(b";h:AQQ=", b";h:AQE="), (CARRIED + CODE_256).replace(b";h:AQQ=", b";h:AQE=")
+
+tried(0, "the example")
+tried(0, "the scanner's", TOLD_256, SENT_256)
+tried(0, "one closing semicolon of the value", value=CARRIED + CODE + b";")
+tried(0, "a line set aside", head=SENT["head"].replace(b"Brandt", b"proxy"), aside=b"x-dealer: Brandt\r\n")
+tried(8, "the scanner's by the dealer's reply", value=SENT_256)
+tried(8, "the dealer's by the scanner's reply", TOLD_256)
+tried(8, "a code of the other length", value=CARRIED + CODE_256)
+tried(8, "another s", told_for(b"s:0Y", b"s:1Y"))
+tried(8, "another iv", told_for(b"iv:QE", b"iv:RE"))
+tried(8, "another tag", told_for(b"tag:Zc", b"tag:ac"))
+tried(8, "another ah", told_for(b";ah:AgED", b";ah:AgEB"))
+tried(8, "another eah", told_for(b"eah:WC1EZWFsZXI=", b"eah:cQ=="))
+tried(8, "no eah", told_for(b";eah:WC1EZWFsZXI=", b""))
+tried(11, "another kh", told_for(b"kh:IC", b"kh:JC"))
+tried(11, "another body", body=b"belts=12")
+tried(11, "another path", path=b"/order")
+tried(11, "another method", method=b"PUT")
+tried(11, "another covered value", head=SENT["head"].replace(b"seat=4", b"seat=5"))
+tried(11, "another byte of c", value=CARRIED + b"Y" + CODE[1:])
+tried(7, "Host twice", head=SENT["head"] + b"host:a\r\n")
+tried(6, "a method with a space", method=b"PO ST")
+tried(5, "no n", value=(CARRIED + CODE).replace(b"n:Bw==;", b""))
+tried(4, "an empty value", value=b"")
+for sized, bad_size in (("path", 0), ("method", 0), ("method", 17), ("body", 65_537), ("head", 16_385), ("aside", 16_385), ("value", 4_097)):
+    tried(1, f"{sized} of {bad_size}", **{sized: bytes(bad_size)})
+    tried(1, f"{sized} of {bad_size}, before 23", setup_reply=b"", **{sized: bytes(bad_size)})
+tried(1, "a reply of 460 bytes", bytes(460))
+tried(23, "a reply of 459 bytes", bytes(459))
+tried(23, "before 4", TOLD + b";", b"")
+tried(23, "before 5", TOLD + b";", b"x:AAAA")
+tried(23, "before 6", TOLD + b";", method=b"PO ST")
+tried(23, "before 7", TOLD + b";", head=SENT["head"] * 2)
+tried(23, "before 8", TOLD + b";", SENT_256)
+tried(23, "before 11", TOLD + b";", body=b"")
+tried(7, "before another token", told_for(b"s:0Y", b"s:1Y"), head=SENT["head"] * 2)
+tried(8, "another token, before 11", told_for(b"s:0Y", b"s:1Y"), body=b"")
+for other_reply in (
+    b"",
+    TOLD + b";",
+    b" " + TOLD,
+    TOLD + b" ",
+    TOLD[:-1],
+    TOLD.replace(b";", b"; "),
+    told_for(b";kh:", b";KH:"),
+    told_for(b";h:AQQ=", b""),
+    told_for(b";h:AQQ=", b";h:AQQ=;h:AQQ="),
+    told_for(b";h:AQQ=;ah:AgED", b";ah:AgED;h:AQQ="),
+    told_for(b"iv:QEFCQ0RFRkdISUpL", b"iv:QEFCQ0RFRkdISUo="),
+    told_for(b"tag:ZckYUDPe5o/Ab/zCK/KKww==", b"tag:ZckYUDPe5o/Ab/zCK/KK"),
+    told_for(b"Pj8=;h", b"Pg==;h"),
+    told_for(b"Pj8=;h", b"Pj9A;h"),
+    told_for(b"Pj8=;h", b"Pj8;h"),
+    told_for(b"Pj8=;h", b"Pj9=;h"),
+    told_for(b";ah:AgED", b";ah:AwABAw=="),
+    told_for(b";ah:AgED", b";ah:" + base64.b64encode(b"\x08\1" + bytes(7))),
+    *(told_for(b";h:AQQ=", b";h:" + base64.b64encode(b"\1%c" % h)) for h in (0, 2, 3, 5, 8, 255)),
+    *(told_for(b"WC1EZWFsZXI=", base64.b64encode(names)) for names in (b"", b",", b"q,", b"q,Q", b"q q", b"Host", b"te", b"x-s-armor", b"a,b,c,d,e,f,g,i,j", b"n" * 129)),
+):
+    tried(23, f"{other_reply}", other_reply)
+
+
+def written_by_a_setup(reply):
+    """Whether a setup can write it, read in another way than the model's: by the text of each field."""
+    found = re.fullmatch(rb"s:([^;]*);iv:([^;]*);tag:([^;]*);kh:([^;]*);h:AQ[EQ]=;ah:([^;]*)(?:;eah:([^;]*))?", reply, re.DOTALL)
+    if not found:
+        return False
+    s, iv, tag, kh, ah = (strictly_decoded(text) or b"" for text in found.groups()[:5])
+    mask = int.from_bytes(ah[1:], "big")
+    names = [b"q"] if found[6] is None else (strictly_decoded(found[6]) or b"").split(b",")
+    known = {name.lower() for name in (*model.NAMES, b"X-S-Armor")}
+    return (
+        1 <= len(s) <= 118
+        and (len(iv), len(tag), len(kh)) == (12, 16, 32)
+        and ah == client.encoded_mask(mask)
+        and mask < 1 << 56
+        and len(names) <= 8
+        and len(b",".join(names)) <= 128
+        and all(re.fullmatch(rb"[!#-'*+.^_`|~0-9A-Za-z-]+", name) for name in names)
+        and len({name.lower() for name in names} | known) == len(names) + len(known)
+    )
+
+
+@case("trial: a reply with a byte altered, put in or taken out anywhere is 23 exactly if no setup writes it")
+def replies_altered():
+    for place in range(len(TOLD) + 1):
+        for byte in b";:=A/w+1 \0\xff":
+            altered, longer = (TOLD[:place] + bytes([byte]) + TOLD[rest:] for rest in (place + 1, place))
+            for reply in (altered, longer, TOLD[:place] + TOLD[place + 1:]):
+                if (model.fits(reply, b"", **SENT) == 4) != written_by_a_setup(reply):
+                    return False
+    return True
+
+
+# A judged request and its trial: where something is not given, there is none
+
+JUDGED_12, *_ = request()
+TOKENS_12 = {IV: model.Token(SESSION_KEY, b"id", 2_000)}
+
+
+def trial_12(tokens=TOKENS_12, records=(FRESH, rec.FREE), clock=1_000, server_key=SERVER_KEY, orders=ORDERS, value=None, judged=JUDGED_12):
+    """The trial of case 12's request."""
+    run = AESGCM(SERVER_KEY).encrypt(IV, TOKEN, None)
+    fields = {b"s": run[:-16], b"iv": IV, b"tag": run[-16:], **FIELDS_12, b"c": hmac.new(SESSION_KEY, TEXT_12, hashlib.sha512).digest()}
+    sent = (text_of(fields) if value is None else value, b"GET", b"Host: a\r\n", b"", b"/", b"")
+    call = drafts.Call("judge", (*orders, clock, server_key, *sent), rec.table_of(records), rec.fitting_index(records), None)
+    return agreement.trial_of(call, judged, tokens)
+
+
+equal("trial of case 12", calls.answered(trial_12(), b"").number, 0)
+equal("trial of an empty value", calls.answered(trial_12(value=b""), b"").number, 4)
+equal("no trial at the token's expiry", trial_12(clock=2_000), None)
+equal("no trial without the record", trial_12(records=(rec.FREE,)), None)
+equal("no trial under another server key", trial_12(server_key=bytes(32)), None)
+equal("no trial where the orders do not allow the session's hash", trial_12(orders=ONLY_256), None)
+equal("no trial of an unknown session", trial_12(tokens={b"another iv..": TOKENS_12[IV]}), None)
+for lent_badly in (1, 2, 3, 22):
+    equal(f"no trial of what is {lent_badly}", trial_12(judged=JUDGED_12._replace(number=lent_badly)), None)
+for judged_number in range(24):
+    for tried_number in (0, 4, 8, 11):
+        agreed = judged_number in (4, 5, 6, 7, 8, 11) if tried_number else judged_number in (0, 13, 14, 15, 16, 21)
+        both = (JUDGED_12._replace(number=number) for number in (judged_number, tried_number))
+        equal(f"judged {judged_number}, tried {tried_number}", agreement.agree(*both), agreed)
+
+
 # The window over whole histories, against the rule of demand 2
 
 
@@ -484,9 +640,9 @@ def comparing():
 
     same, short, other = compared(lines), compared(lines[:-1]), compared(altered)
     return (
-        same == (True, "200 passed, 0 failed\n")
+        same == (True, f"{len(lines)} passed, 0 failed\n")
         and not short[0]
         and not other[0]
         and "got      21" + lines[99].strip() in other[1]
-        and other[1].endswith("199 passed, 1 failed\n")
+        and other[1].endswith(f"{len(lines) - 1} passed, 1 failed\n")
     )

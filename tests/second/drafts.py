@@ -1,11 +1,12 @@
 """Calls in the making. A draft is a good call; faults alter it at named stages, and what comes later follows suit.
 
 The stages of a request: plan (orders, times, nonce, method, lines, path, body), token (its three parts), token text (what gets
-sealed), fields (what will be signed), parts and text (of the signature), signed (the fields with c), pieces, value,
-lent (the runs as handed over), index (the one that fits the table). A setup has plan, fields, pieces, value, lent, index; an
-ending has plan, lent, index, and so has the index made anew.
+sealed), told and setup reply (the pieces and the whole of what the session's setup answered), fields (what will be signed), parts
+and text (of the signature), signed (the fields with c), pieces, value, lent (the runs as handed over), index (the one that fits
+the table). A setup has plan, fields, pieces, value, lent, index; an ending has plan, lent, index, and so has the index made anew.
 """
 
+import base64
 from dataclasses import dataclass, field
 from typing import NamedTuple, Optional
 
@@ -26,6 +27,12 @@ class Call(NamedTuple):
     table: bytes
     index: bytes
     reply: Optional[tuple]  # count and byte; None leaves the buffer as it stands
+
+
+def with_text(pieces, key, change):
+    """The pieces, the base64 text of this key's altered."""
+    start = key + b":"
+    return [start + change(piece[len(start):]) if piece.startswith(start) else piece for piece in pieces]
 
 
 @dataclass
@@ -100,8 +107,7 @@ class Valued(Draft):
 
     def set_text(self, key, change):
         """Alter the base64 text of this key's piece."""
-        start = key + b":"
-        self.pieces = [start + change(p[len(start):]) if p.startswith(start) else p for p in self.pieces]
+        self.pieces = with_text(self.pieces, key, change)
 
     def numbers_and_keys(self):
         return (*self.orders, self.clock, self.server_key)
@@ -138,7 +144,7 @@ class Setup(Valued):
 
 @dataclass
 class Request(Valued):
-    """A request to judge, by the whole table (kind judge) or by the thin entry (kind one)."""
+    """A request: to judge by the whole table (kind judge) or by the thin entry (kind one), or to hold to its setup reply (kind fits)."""
 
     key: bytes = b""
     session_id: bytes = b""
@@ -147,6 +153,7 @@ class Request(Valued):
     lt: int = 0
     n: int = 0  # carried if the orders say so
     hash: int = hashing.SHA_512  # that it names and signs with
+    chosen: int = hashing.SHA_512  # that the session's setup chose
     method: bytes = b"GET"
     head_lines: list = field(default_factory=list)
     aside_lines: list = field(default_factory=list)
@@ -155,12 +162,14 @@ class Request(Valued):
 
     token: list = field(default_factory=list)  # three parts
     token_text: bytes = b""
+    told: list = field(default_factory=list)
+    setup_reply: bytes = b""
     parts: list = field(default_factory=list)
     text: bytes = b""
     head: bytes = b""
     aside: bytes = b""
 
-    stages = ("plan", "token", "token text", "fields", "parts", "text", "signed", "pieces", "value", "lent", "index")
+    stages = ("plan", "token", "token text", "told", "setup reply", "fields", "parts", "text", "signed", "pieces", "value", "lent", "index")
 
     def order_nonces(self):
         self.order(mask=self.orders.mask | 1)
@@ -173,8 +182,12 @@ class Request(Valued):
 
     def hashed(self, known):
         """Let the session have this hash, and the request sign with it."""
-        self.hash = known
+        self.hash = self.chosen = known
         self.put(self.place, self.own()._replace(hash=known))
+
+    def tell(self, key, contents):
+        """Let the setup reply have these contents under this key, where it has the key."""
+        self.told = with_text(self.told, key, lambda text: base64.b64encode(contents))
 
     def code(self, key, text):
         return hashing.code(client.named_hash(self.fields, self.hash), key, text)
@@ -236,6 +249,10 @@ class Request(Valued):
             self.token = [self.key, self.session_id, b"%d" % self.expiry]
         if name == "token text":
             self.token_text = b"".join(netstring(part) for part in self.token)
+        if name == "told":
+            self.told = [client.piece(key, contents) for key, contents in self.told_fields()]
+        if name == "setup reply":
+            self.setup_reply = b";".join(self.told)
         if name == "fields":
             self.fields = self.unsigned_fields()
             rng.shuffle(self.fields)
@@ -250,12 +267,25 @@ class Request(Valued):
             self.aside = b"".join(self.aside_lines)
         super().stage(name, rng)
 
-    def unsigned_fields(self):
+    def token_fields(self):
         s, tag = model.sealed(self.server_key, self.iv, self.token_text)
+        return [(b"s", s), (b"iv", self.iv), (b"tag", tag)]
+
+    def told_fields(self):
+        """What a setup under the orders as planned tells the client."""
         fields = [
-            (b"s", s),
-            (b"iv", self.iv),
-            (b"tag", tag),
+            *self.token_fields(),
+            (b"kh", self.key),
+            (b"h", client.encoded_mask(self.chosen)),
+            (b"ah", client.encoded_mask(self.orders.mask)),
+        ]
+        if self.orders.extra:
+            fields.append((b"eah", self.orders.extra))
+        return fields
+
+    def unsigned_fields(self):
+        fields = [
+            *self.token_fields(),
             (b"t", client.encoded_number(self.t)),
             (b"lt", client.encoded_number(self.lt)),
             (b"h", client.encoded_mask(self.hash)),
@@ -268,8 +298,9 @@ class Request(Valued):
         return fields
 
     def call(self):
+        by = (self.setup_reply,) if self.kind == "fits" else self.numbers_and_keys()
         runs = (self.value, self.method, self.head, self.aside, self.path, self.body)
-        return Call(self.kind, (*self.numbers_and_keys(), *runs), self.table, self.index, self.reply)
+        return Call(self.kind, (*by, *runs), self.table, self.index, self.reply)
 
 
 def build(draft, faults, rng):

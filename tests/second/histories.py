@@ -2,14 +2,16 @@
 
 A history is cut into chapters. Each begins with a table, a server key, a clock and orders of its own; the table is empty, or
 large and mostly of strangers' sessions. Good calls alternate with resent requests, requests of sessions that are gone or with
-covered names on several lines, endings, the index made anew, single faults and pairs of faults. Every single fault must get
-the number that the catalogue gives it: the model and the catalogue check each other.
+covered names on several lines, endings, the index made anew, trials of clients, single faults and pairs of faults. Every single
+fault must get the number that the catalogue gives it: the model and the catalogue check each other. After each judged request comes
+its trial, where what K11 takes as given is so, and the two must agree.
 """
 
 import random
 from collections import Counter
 from dataclasses import dataclass
 
+import agreement
 import calls
 import client
 import drafts
@@ -26,7 +28,7 @@ LARGE_SIZES = [65, 100, 128, 200, 256, 257, 300]
 VARIED = [range(12)] * 4 + [(0,), (7,), (8,), (11,), (0, 11), (7, 8), range(8), range(8, 12)]  # the bytes in which IVs differ
 CLOCKS = [0, 200, 5_000, 70_000, 1_505_773_123, 1_760_000_000, (1 << 31) - 600, HIGHEST - 3_000_000, HIGHEST - 9_000]
 OFFERS = [1, 1, 3, 4, 5, 5, 6, 0xF4, 0xF9, 1 << 40 | 5]
-KINDS_IN_PAIRS = ["judge"] * 14 + ["one"] * 3 + ["setup"] * 8 + ["end"] * 2 + ["index"]
+KINDS_IN_PAIRS = ["judge"] * 14 + ["one"] * 3 + ["setup"] * 8 + ["end"] * 2 + ["index"] + ["fits"] * 6
 
 
 class Disagreement(Exception):
@@ -44,16 +46,18 @@ class Session:
     hash: int
     orders: model.Orders
     last: int
+    reply: bytes  # that its setup wrote
 
 
 class Counts:
-    """How often each number, each act without a fault, each fault and each pair of numbers came up."""
+    """How often each number, each act without a fault, each fault, each pair of numbers and each side of K11's agreement came up."""
 
     def __init__(self):
         self.numbers = Counter()
         self.acts = Counter()
         self.faults = Counter({fault.name: 0 for fault in CATALOGUE})
         self.pairs = Counter()
+        self.agreements = Counter({"fit": 0, "not fit": 0})
 
 
 class History:
@@ -140,20 +144,22 @@ class History:
         if not live:
             return self.set_up_or_clear()
         chosen = self.rng.random()
-        if chosen < 0.29:
+        if chosen < 0.22:
             return self.good_request(self.rng.choice(live))
-        if chosen < 0.32:
+        if chosen < 0.25:
             return self.request_on_several_lines(self.rng.choice(live))
-        if chosen < 0.38:
+        if chosen < 0.31:
             return self.resend()
-        if chosen < 0.41:
+        if chosen < 0.34:
             return self.request_of_gone_session()
-        if chosen < 0.47:
+        if chosen < 0.40:
             return self.set_up()
-        if chosen < 0.48:
+        if chosen < 0.41:
             return self.end(self.rng.choice(self.sessions))
-        if chosen < 0.49:
+        if chosen < 0.42:
             return self.make_index()
+        if chosen < 0.45:
+            return self.try_client()
         if chosen < 0.85:
             return self.single_fault()
         return self.pair_of_faults()
@@ -209,6 +215,17 @@ class History:
         found = self.rng.choice([self.index, bytes(size), b"\xff" * size, self.rng.randbytes(size)])
         return self.act(drafts.Call("index", (), self.table, found, self.lent_reply()), "index made")
 
+    def try_client(self):
+        """A good request of a session, live or gone, held to the reply that its setup wrote, and now and then to another's."""
+        session = self.rng.choice(self.sessions)
+        other = self.rng.choice(self.sessions)
+        told, expected = (session, 0) if other is session or self.rng.random() < 0.7 else (other, 8)
+        call = drafts.build(self.request_draft(session, "fits"), [], self.rng)
+        outcome = self.act(calls.altered(call, setup_reply=told.reply), "trial")
+        if outcome.number != expected:
+            raise Disagreement(f"trial: the model answers {outcome.number}, not {expected}: {call}")
+        return outcome
+
     def single_fault(self):
         if not self.deck:
             self.deck = shuffled_deck(self.rng)
@@ -255,7 +272,7 @@ class History:
         place = rec.place_of(records, session.iv)
         orders = session.orders
         t, lt = self.times(session)
-        nonce = fresh_nonce(records[place], rng) if place is not None else 5
+        nonce = 5 if place is None or kind == "fits" else fresh_nonce(records[place], rng)
         if nonce is None:
             orders = orders._replace(mask=orders.mask & ~1)
             nonce = 0
@@ -273,6 +290,7 @@ class History:
             session_id=session.session_id,
             expiry=session.expiry,
             hash=session.hash,
+            chosen=session.hash,
             t=t,
             lt=lt,
             n=nonce,
@@ -352,14 +370,28 @@ class History:
         outcome = self.writer.write(call, name)
         self.written += 1
         self.counts.numbers[outcome.number] += 1
-        self.reply_altered = call.reply not in (None, self.reply)
+        if call.reply is not None:
+            self.reply_altered = call.reply != self.reply
         if (call.table, call.index) == (self.table, self.index):
             self.table, self.index = outcome.table, outcome.index
             if self.index != rec.index_for(self.table):
                 raise Disagreement(f"{name}: the model leaves an index that does not fit: {call}")
             if outcome.number == 0:
                 self.remember(call, outcome)
+        if call.kind == "judge":
+            self.try_too(call, outcome, name)
         return outcome
+
+    def try_too(self, call, judged, name):
+        """The trial of a request that was judged, if K11 says what that comes to."""
+        tokens = {session.iv: model.Token(session.key, session.session_id, session.expiry) for session in self.sessions}
+        trial = agreement.trial_of(call, judged, tokens)
+        if trial is None:
+            return
+        tried = self.write(trial, f"{name}: tried")
+        if not agreement.agree(judged, tried):
+            raise Disagreement(f"{name}: judged {judged.number}, tried {tried.number}: {call}, {trial}")
+        self.counts.agreements["not fit" if tried.number else "fit"] += 1
 
     def remember(self, call, outcome):
         """A call was accepted on the chapter's own table: later ones build on it."""
@@ -375,6 +407,7 @@ class History:
                     hash=client.decoded_mask(given[b"h"]),
                     orders=orders,
                     last=told["clock"],
+                    reply=outcome.reply[:outcome.length],
                 )
             )
         if call.kind in ("judge", "one") and sum(len(run) for run in call.arguments if isinstance(run, bytes)) < 4_000:
@@ -382,7 +415,7 @@ class History:
 
 
 def shuffled_deck(rng):
-    """Every fault with every kind of call that it concerns; the thin entry, judge's twin, only for a third of judge's.
+    """Every fault with every kind of call that it concerns; judge's twins, the thin entry and the trial, only for a third of judge's.
 
     One fault of each check is dealt first, so that short histories too meet them all.
     """
@@ -390,7 +423,7 @@ def shuffled_deck(rng):
         (fault, kind)
         for fault in CATALOGUE
         for kind in fault.on
-        if kind != "one" or len(fault.on) == 1 or rng.random() < 0.33
+        if kind not in ("one", "fits") or len(fault.on) == 1 or rng.random() < 0.33
     ]
     rng.shuffle(deck)
     first_of_check = {fault.check: (fault, kind) for fault, kind in deck}

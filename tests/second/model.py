@@ -1,7 +1,7 @@
-"""The login gate of document 01, with document 02's changes so far, as pure functions: setup, judge, judge_one, end and make_index.
+"""The login gate of document 01, with document 02's changes so far, as pure functions: setup, judge, judge_one, end, make_index and fits.
 
-Each takes everything lent and answers an Outcome. The checks stand in 01's order, one short function for each number;
-a comment names docs/DECISIONS.md where 01 can be read in two ways.
+Each takes everything lent and answers an Outcome; fits, which touches nothing, answers a number. The checks stand in 01's order,
+one short function for each number; a comment names docs/DECISIONS.md where 01 can be read in two ways.
 """
 
 from typing import NamedTuple
@@ -31,6 +31,7 @@ MOST_PATH = 2_048
 MOST_BODY = 65_536
 MOST_SESSION_ID = 64
 LEAST_REPLY = 1_024
+MOST_SETUP_REPLY = 459
 KEY = 32
 IV = 12
 
@@ -85,7 +86,7 @@ class Token(NamedTuple):
     expiry: int
 
 
-# The three calls, the thin entry, and the making of an index
+# The three calls, the thin entry, the making of an index, and the trial of a client
 
 
 def setup(orders, clock, server_key, session_key, iv, session_id, value, table, index, reply):
@@ -149,12 +150,7 @@ def judge(orders, clock, server_key, value, method, head, aside, path, body, tab
 
     if (
         key_size_bad(server_key)
-        or value_size_bad(value)
-        or method_size_bad(method)
-        or lines_size_bad(head)
-        or lines_size_bad(aside)
-        or path_size_bad(path)
-        or body_size_bad(body)
+        or request_size_bad(value, method, head, aside, path, body)
         or table_size_bad(table)
         or index_size_bad(index, table)
         or reply_size_bad(reply)
@@ -167,27 +163,16 @@ def judge(orders, clock, server_key, value, method, head, aside, path, body, tab
         return refused(3)
     if index_bad(index, records):
         return refused(22)
-    fields = fields_of(value)
-    if fields is None:
-        return refused(4)
-    if request_fields_wrong(fields):
-        return refused(5)
-    field = dict(fields)
-    head_lines, aside_lines = lines_of(head), lines_of(aside)
-    if method_bad(method) or head_lines is None or aside_lines is None:
-        return refused(6)
-    if covered_name_twice(orders, head_lines) or covered_name_twice(orders, aside_lines):
-        return refused(7)
-    if coverage_differs(orders, field):
-        return refused(8)
+    number, field, values = read_request(orders, value, method, head, aside)
+    if number != 0:
+        return refused(number)
     token = opened_token(server_key, field)
     if token is None:
         return refused(9)
     place = rec.place_of(records, field[b"iv"])
     if expired(clock, token):
         return invalidated(10, token, place)
-    text = signed_text(method, field, covered_values(orders, head_lines, aside_lines), path, body)
-    if signature_differs(field, token, text):
+    if signature_differs(field, token.key, signed_text(method, field, values, path, body)):
         return refused(11)
     if place is None:
         return refused(12)
@@ -247,6 +232,45 @@ def make_index(table, index):
     return Outcome(0, 0, b"", table, rec.fitting_index(records))
 
 
+def fits(setup_reply, value, method, head, aside, path, body):
+    """Try a client: whether its request fits the setup reply that it got (document 02, K11). Checks 1, 23, 4 to 8, 11, in this order."""
+    if len(setup_reply) > MOST_SETUP_REPLY or request_size_bad(value, method, head, aside, path, body):
+        return 1
+    told = told_by(setup_reply)
+    if told is None or no_orders_give(told):
+        return 23
+    number, field, values = read_request(told_orders(told), value, method, head, aside)
+    if number != 0:
+        return number
+    if token_differs(told, field):
+        return 8
+    if signature_differs(field, told[b"kh"], signed_text(method, field, values, path, body)):
+        return 11
+    return 0
+
+
+def read_request(orders, value, method, head, aside):
+    """Checks 4 to 8, in this order: the number, and where it is 0 the fields by key and the covered values."""
+
+    def refused(number):
+        return number, None, None
+
+    fields = fields_of(value)
+    if fields is None:
+        return refused(4)
+    if request_fields_wrong(fields):
+        return refused(5)
+    field = dict(fields)
+    head_lines, aside_lines = lines_of(head), lines_of(aside)
+    if method_bad(method) or head_lines is None or aside_lines is None:
+        return refused(6)
+    if covered_name_twice(orders, head_lines) or covered_name_twice(orders, aside_lines):
+        return refused(7)
+    if coverage_differs(orders, field):
+        return refused(8)
+    return 0, field, covered_values(orders, head_lines, aside_lines)
+
+
 # 1: sizes
 
 
@@ -260,6 +284,17 @@ def iv_size_bad(iv):
 
 def session_id_size_bad(session_id):
     return not 1 <= len(session_id) <= MOST_SESSION_ID
+
+
+def request_size_bad(value, method, head, aside, path, body):
+    return (
+        value_size_bad(value)
+        or method_size_bad(method)
+        or lines_size_bad(head)
+        or lines_size_bad(aside)
+        or path_size_bad(path)
+        or body_size_bad(body)
+    )
 
 
 def value_size_bad(value):
@@ -547,8 +582,8 @@ def signed_text(method, field, values, path, body):
     return b"".join(netstring(part) for part in parts)
 
 
-def signature_differs(field, token, text):
-    return field[b"c"] != hashing.code(own_hash(field), token.key, text)
+def signature_differs(field, key, text):
+    return field[b"c"] != hashing.code(own_hash(field), key, text)
 
 
 # 13, 14 and 21: idleness and age, which may be below zero
@@ -583,6 +618,36 @@ def place_for_setup(records, clock):
 def chosen_hash(orders, fields):
     """'Setup picks the longest hash that both sides have.'"""
     return hashing.longest(encoding.mask(dict(fields)[b"r"]) & orders.hashes)
+
+
+# 23 and 8: a setup reply, and a request held to it
+
+
+def told_by(setup_reply):
+    """'Exactly s, iv, tag, kh, h, ah and perhaps eah in this order with no closing ;': contents by key, or None if it is otherwise."""
+    pieces = [piece.partition(b":") for piece in setup_reply.split(b";")]
+    must = [b"s", b"iv", b"tag", b"kh", b"h", b"ah"]
+    if [key for key, _, _ in pieces] not in (must, [*must, b"eah"]):
+        return None
+    told = {key: base64_bytes(text) for key, _, text in pieces}
+    if any(not contents or contents_bad(key, contents) for key, contents in told.items()) or key_size_bad(told[b"kh"]):
+        return None
+    return told
+
+
+def no_orders_give(told):
+    """'An h that isn't 1 or 4, an ah with a bit above 55, an eah that no orders could have.'"""
+    return own_hash(told) is None or orders_bad(told_orders(told))
+
+
+def told_orders(told):
+    """The orders that a reply tells: its hash alone is allowed. It tells no limits, and nothing here asks for them."""
+    return Orders(encoding.mask(told[b"ah"]), encoding.mask(told[b"h"]), told.get(b"eah", b""), 0, 0, 0)
+
+
+def token_differs(told, field):
+    """'8 also where h, s, iv or tag differ from the reply.' Of h, told_orders has said so."""
+    return any(field[key] != told[key] for key in (b"s", b"iv", b"tag"))
 
 
 # Replies

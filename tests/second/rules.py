@@ -142,7 +142,7 @@ def phrases():
     yield f"Bits 1 to {len(model.NAMES)}", model.HIGHEST_BIT == len(model.NAMES)
     yield f"none of the {len(model.NAMES)}", True
     yield f"at most {model.MOST_EXTRA_NAMES}, at most {model.MOST_EXTRA} bytes together", True
-    yield "at most 459 bytes", longest_reply() == 459
+    yield f"at most {model.MOST_SETUP_REPLY} bytes", longest_reply() == model.MOST_SETUP_REPLY
     yield "Twelve of the names that have a bit are list fields", len(model.LIST_FIELDS) == 12 and set(model.LIST_FIELDS) <= set(model.NAMES)
     yield "the lines `a`, an empty one and `b` come to `a, , b`", at_edge("Accept on three lines, `a`, an empty one and `b`, signed as `a, , b`") == 0
     yield "Two lines `a` and `b` are signed as the one line `a, b` is", at_edge("two lines of Accept, `a` and `b`, that were made one on the way, `a, b`") == 0
@@ -201,7 +201,7 @@ def claims(text):
     for key, _, sizes in FIELDS:
         yield f"{key} of its sizes", all(held_by(key, size) == (size in sizes) for size in range(200))
     named = header_numbers()
-    yield "numbers", [row[:2] for row in rows(text, "Numbers")] == [[str(number), f"`{named[number]}`"] for number in range(23)]
+    yield "numbers", [row[:2] for row in rows(text, "Numbers")] == [[str(number), f"`{named[number]}`"] for number in range(24)]
     yield "names", ", ".join(name.decode() for name in model.NAMES) in re.sub(r"\s+", " ", text)
     yield "list fields", ": " + ", ".join(name.decode() for name in model.LIST_FIELDS) + ".\n" in text
     told = dict(phrases())
@@ -210,7 +210,7 @@ def claims(text):
     yield f"numbers that nothing checks: {unchecked(text, told)}", not unchecked(text, told)
     for line in example_lines():
         yield f"example: {line[:40]}", line in text.split("\n")
-    for call in (DEALER.setup, DEALER.request, SCANNER.setup, SCANNER.request):
+    for call in (DEALER.setup, DEALER.request, DEALER.trial, SCANNER.setup, SCANNER.request, SCANNER.trial):
         yield f"example: {call.kind}", outcome(call).number == 0
     yield "edges", rows(text, "Edges") == [[asked, str(number)] for asked, _, number in EDGES]
     for asked, call, number in EDGES:

@@ -11,7 +11,7 @@ use borrow.Author.Tests.{eqb-true, eqb-false, eq-eqb, ne-eqb, leb-true, leb-fals
 use Rattle.armor.specs.declared.scanning.Seen.{Seen}
 use Rattle.armor.specs.Keys.{obeys, keyNumber, ruleAt, ruleOf}
 use Rattle.armor.specs.Value.{Field, allGood, carried}
-use Rattle.armor.specs.Fields.{contents, times, the, rightTimes}
+use Rattle.armor.specs.Fields.{contents, times, the, rightTimes, replyTimes}
 use Rattle.armor.specs.InnerScan.{Notes, Noted, countIn}
 use Rattle.cells.proofs.Tests.{tested, both}
 
@@ -26,24 +26,47 @@ count-few c n e =
     tested (leb n 1) (λ p. let q : n ≤ 1 = leb-true n 1 p in rw p (le-leb c 1 (omega arith)))
     (λ p. let q : 1 < n = leb-false n 1 p in rw p (lt-leb c 1 (omega arith)))
 
-right-times : (c n : ℕ → ℕ) → ((k : ℕ) → k < 12 → c k ≡ min 2 (n k)) → rightTimes c ≡ rightTimes n
-unfolding rightTimes
-right-times c n h =
-    let one : (k : ℕ) → k < 12 → eqb (c k) 1 ≡ eqb (n k) 1 = λ k small. count-bit (c k) (n k) 1 (h k small) (lit< tt) in
-    let no : (k : ℕ) → k < 12 → eqb (c k) 0 ≡ eqb (n k) 0 = λ k small. count-bit (c k) (n k) 0 (h k small) (lit< tt) in
-    simp (
-      one 0 (lit< tt),
-      one 1 (lit< tt),
-      one 3 (lit< tt),
-      one 4 (lit< tt),
-      one 6 (lit< tt),
-      one 7 (lit< tt),
-      one 8 (lit< tt),
-      one 9 (lit< tt),
-      count-few (c 10) (n 10) (h 10 (lit< tt)),
-      no 5 (lit< tt),
-      no 11 (lit< tt),
-    )
+module _ (c n : ℕ → ℕ) (h : (k : ℕ) → k < 12 → c k ≡ min 2 (n k)) where
+  one : (k : ℕ) → k < 12 → eqb (c k) 1 ≡ eqb (n k) 1
+  one k small = count-bit (c k) (n k) 1 (h k small) (lit< tt)
+
+  no : (k : ℕ) → k < 12 → eqb (c k) 0 ≡ eqb (n k) 0
+  no k small = count-bit (c k) (n k) 0 (h k small) (lit< tt)
+
+  right-times : rightTimes c ≡ rightTimes n
+  unfolding rightTimes
+  right-times =
+      simp (
+        one 0 (lit< tt),
+        one 1 (lit< tt),
+        one 3 (lit< tt),
+        one 4 (lit< tt),
+        one 6 (lit< tt),
+        one 7 (lit< tt),
+        one 8 (lit< tt),
+        one 9 (lit< tt),
+        count-few (c 10) (n 10) (h 10 (lit< tt)),
+        no 5 (lit< tt),
+        no 11 (lit< tt),
+      )
+
+  reply-times : replyTimes c ≡ replyTimes n
+  unfolding replyTimes
+  reply-times =
+      simp (
+        one 3 (lit< tt),
+        one 4 (lit< tt),
+        one 6 (lit< tt),
+        one 8 (lit< tt),
+        one 9 (lit< tt),
+        one 11 (lit< tt),
+        count-few (c 10) (n 10) (h 10 (lit< tt)),
+        no 0 (lit< tt),
+        no 1 (lit< tt),
+        no 2 (lit< tt),
+        no 5 (lit< tt),
+        no 7 (lit< tt),
+      )
 
 module _ (v : List ℕ) (seen : Seen) (fs : List Field) (h : Notes v seen fs) where
   pub counted : (k : ℕ) → k < 12 → countIn seen k ≡ min 2 (times k fs)
@@ -53,6 +76,10 @@ module _ (v : List ℕ) (seen : Seen) (fs : List Field) (h : Notes v seen fs) wh
   -- the counts of a request
   pub counts-are : rightTimes (countIn seen) ≡ rightTimes (λ k. times k fs)
   counts-are = right-times (countIn seen) (λ k. times k fs) counted
+
+  -- and of a setup's reply
+  pub reply-counts : replyTimes (countIn seen) ≡ replyTimes (λ k. times k fs)
+  reply-counts = reply-times (countIn seen) (λ k. times k fs) counted
 
 -- what stands in the place of a key that is carried once or not
 pub noted : {v : List ℕ} {seen : Seen} → Notes v seen (carried v) → (k : ℕ) → k < 12 → times k (carried v) ≤ 1 → Noted v seen k

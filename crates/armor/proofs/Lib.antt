@@ -7,6 +7,7 @@ pub mod Scan
 pub mod Fields
 pub mod Texts
 pub mod Requests
+pub mod Replies
 pub mod Cases
 pub mod Carried
 pub mod Laying

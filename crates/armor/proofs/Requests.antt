@@ -64,7 +64,7 @@ once-or-not fs e k small =
     let few = nonce-few fs (parts .1) in
     from-at (λ j. times j fs ≤ 1) 0 12 (omega arith) k (omega arith) (omega arith)
 
-exact : (n : ℕ) (b : List ℕ) → obeys (sized n n) b ≡ true → length b ≡ n
+pub exact : (n : ℕ) (b : List ℕ) → obeys (sized n n) b ≡ true → length b ≡ n
 exact n b e = let room = sized-room n n b e in omega (arith, room .0, room .1)
 
 -- the sizes of what a request's keys hold
@@ -142,7 +142,7 @@ missing none e = refl
 missing (some fs) e = absurd (let z : _≡_ {A = ℕ} 0 1 = cc in omega arith)
 
 module _ (v : List ℕ) (r : ScanRead) (h : Scanned v r) (bad : not (r .good) ≡ true) where
-  broken : grammar v ≡ none
+  pub broken : grammar v ≡ none
   broken = missing (grammar v) (sym (h .good) ∙ not-true (r .good) bad)
 
   pub request-breaks : Answer.Grammar ≡ requestAnswer v

@@ -1,4 +1,4 @@
--- The set of fields of a request and of a setup: document 01, The X-S-Armor value.
+-- The set of fields of a request, of a setup and of a setup's reply: document 01, The X-S-Armor value, and document 02, K11, for the reply.
 -- Assumes nothing.
 use mathlib.Core.Bool.{Bool, cond, _&&_}
 use mathlib.Core.List.{List, [], _∷_}
@@ -39,3 +39,14 @@ requestFields fs = rightTimes (λ k. times k fs) && eqb (times keyN fs) (nonceBi
 -- r alone
 unfoldable pub setupFields : List Field → Bool
 setupFields fs = eqb (length fs) 1 && eqb (times keyR fs) 1
+
+-- how often each key stands in a setup's reply: s, iv, tag, h, ah and one key without a rule, which kh is, once; eah once or not; the others not
+unfoldable pub replyTimes : (ℕ → ℕ) → Bool
+replyTimes n =
+    (eqb (n keyS) 1 && eqb (n keyIv) 1 && eqb (n keyTag) 1 && eqb (n otherKey) 1)
+    && (eqb (n keyH) 1 && eqb (n keyAh) 1 && leb (n keyEah) 1)
+    && (eqb (n keyC) 0 && eqb (n keyT) 0 && eqb (n keyLt) 0 && eqb (n keyN) 0 && eqb (n keyR) 0)
+
+-- those, with a session key of 32 bytes and extra names of at most 128
+unfoldable pub replyHolds : List Field → Bool
+replyHolds fs = replyTimes (λ k. times k fs) && (eqb (length (the otherKey fs)) 32 && leb (length (the keyEah fs)) 128)

@@ -1,7 +1,7 @@
 -- What reading a value comes to: document 01, The numbers a call returns.
 -- Assumes nothing.
 use mathlib.Core.Path.{_≡_}
-use mathlib.Core.Bool.{cond}
+use mathlib.Core.Bool.{true, cond}
 use mathlib.Core.List.{List}
 use mathlib.Core.Option.{Option, none, some}
 use Prim.Native.Nat.{ℕ, _≤_}
@@ -14,10 +14,12 @@ use Rattle.armor.specs.declared.Answer.{Answer}
 use Rattle.armor.specs.declared.Request.{Request}
 use Rattle.armor.specs.declared.RequestRead.{RequestRead}
 use Rattle.armor.specs.declared.SetupRead.{SetupRead}
+use Rattle.armor.specs.declared.Reply.{Reply}
+use Rattle.armor.specs.declared.ReplyRead.{ReplyRead}
 use Rattle.armor.specs.Numerals.{maskOf}
-use Rattle.armor.specs.Keys.{keyT, keyLt, keyN, keyH, keyAh, keyR, keyS, keyC, keyIv, keyTag, keyEah}
+use Rattle.armor.specs.Keys.{keyT, keyLt, keyN, keyH, keyAh, keyR, keyS, keyC, keyIv, keyTag, keyEah, otherKey}
 use Rattle.armor.specs.Value.{Field, grammar, carried}
-use Rattle.armor.specs.Fields.{times, the, requestFields, setupFields}
+use Rattle.armor.specs.Fields.{times, the, requestFields, setupFields, replyHolds}
 
 -- document 01's numbers
 abbrev pub answerNumber : Answer → ℕ
@@ -68,3 +70,21 @@ pub record ReadsRequest (v run : List ℕ) (r : RequestRead) : Type 0 where
   pub is : r .answer ≡ requestAnswer v
   pub holds : r .answer ≡ Answer.Good → Holds v (carried v) (r .request)
   pub lies : r .answer ≡ Answer.Good → Lies (carried v) (r .request) run
+
+-- a setup's reply holds what its fields do
+pub record HoldsReply (fs : List Field) (r : Reply) : Type 0 where
+  pub token : take (r .«s_len») (r .s) ≡ the keyS fs
+  pub token-size : r .«s_len» ≡ length (the keyS fs)
+  pub token-fits : r .«s_len» ≤ 118
+  pub vector : r .iv ≡ the keyIv fs
+  pub tag : r .tag ≡ the keyTag fs
+  pub key : r .key ≡ the otherKey fs
+  pub hash : r .h ≡ maskOf (the keyH fs)
+  pub coverage : r .ah ≡ maskOf (the keyAh fs)
+  pub extra : take (r .«eah_len») (r .eah) ≡ the keyEah fs
+  pub extra-size : r .«eah_len» ≡ length (the keyEah fs)
+  pub extra-fits : r .«eah_len» ≤ 128
+
+pub record ReadsReply (v : List ℕ) (r : ReplyRead) : Type 0 where
+  pub is : r .good ≡ replyHolds (carried v)
+  pub holds : r .good ≡ true → HoldsReply (carried v) (r .reply)

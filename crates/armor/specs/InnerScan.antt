@@ -15,7 +15,7 @@ use Rattle.armor.specs.declared.scanning.ScanRead.{ScanRead}
 use Rattle.armor.specs.declared.scanning.Piece.{Piece}
 use Rattle.armor.specs.declared.contents.Numbers.{Numbers}
 use Rattle.armor.specs.Pieces.{colon, semicolon, upTo}
-use Rattle.armor.specs.Keys.{keyNumber, keyT, keyLt, keyN, keyH, keyAh, keyS, keyC, keyIv, keyTag}
+use Rattle.armor.specs.Keys.{keyNumber, keyT, keyLt, keyN, keyH, keyAh, keyS, keyC, keyIv, keyTag, keyEah, otherKey}
 use Rattle.armor.specs.Numerals.{maskOf}
 use Rattle.armor.specs.Value.{Field, pieceGood, grammar, carried}
 use Rattle.armor.specs.Fields.{contents, the}
@@ -77,6 +77,21 @@ pub record Ready (v : List ℕ) (seen : Seen) : Type 0 where
   pub notes : Notes v seen (carried v)
   pub noted : (k : ℕ) → k < 12 → Noted v seen k
   pub sizes : Sizes (carried v)
+
+-- how long what the keys of a setup's reply hold is
+pub record ReplySizes (fs : List Field) : Type 0 where
+  pub s : (1 ≤ length (the keyS fs)) × (length (the keyS fs) ≤ 118)
+  pub iv : length (the keyIv fs) ≡ 12
+  pub tag : length (the keyTag fs) ≡ 16
+  pub key : length (the otherKey fs) ≡ 32
+  pub h : (1 ≤ length (the keyH fs)) × (length (the keyH fs) ≤ 9)
+  pub ah : (1 ≤ length (the keyAh fs)) × (length (the keyAh fs) ≤ 9)
+  pub eah : length (the keyEah fs) ≤ 128
+
+-- notes of a setup's reply whose set of fields is right
+pub record ReadyReply (v : List ℕ) (seen : Seen) : Type 0 where
+  pub noted : (k : ℕ) → k < 12 → Noted v seen k
+  pub sizes : ReplySizes (carried v)
 
 -- how often a key was seen, up to two
 abbrev pub countIn : Seen → ℕ → ℕ

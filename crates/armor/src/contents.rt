@@ -6,14 +6,16 @@ ghost use Rattle.cells.specs.Runs.{fronted};
 ghost use Rattle.cells.specs.Numbers.{number};
 ghost use Rattle.armor.specs.Numerals.{maskOf};
 ghost use Rattle.armor.specs.Value.{carried};
-ghost use Rattle.armor.specs.Fields.{the, rightTimes, requestFields};
-ghost use Rattle.armor.specs.InnerAnswers.{Holds, Lies};
-ghost use Rattle.armor.specs.InnerScan.{countIn, Sound, Noted, Ready, HoldsNumbers};
+ghost use Rattle.armor.specs.Fields.{the, rightTimes, requestFields, replyTimes, replyHolds};
+ghost use Rattle.armor.specs.InnerAnswers.{Holds, Lies, HoldsReply};
+ghost use Rattle.armor.specs.InnerScan.{countIn, Sound, Noted, Ready, HoldsNumbers, ReadyReply};
+use super::Reply;
 use super::Request;
 use super::key;
 use super::numeral;
 use super::scanning::Seen;
 use base64::Decoded;
+use base64::Measured;
 use window::Nonce;
 use window::time::Time;
 
@@ -120,5 +122,74 @@ pub fn request_of(value: &[u8], seen: Seen, fields: &mut [u8]) -> Request
         with_eah: seen.count[key::EAH] == 1,
         eah_start: seen.start[key::EAH],
         eah_end: seen.end[key::EAH],
+    }
+}
+
+// Whether each key stands as often as in a setup's reply.
+fn reply_times_good(seen: Seen) -> bool
+    ensures { λ r. ⌜ r ≡ replyTimes (countIn seen) ⌝ }
+{
+    let count = seen.count;
+    ((count[key::S] == 1)
+        & (count[key::IV] == 1)
+        & (count[key::TAG] == 1)
+        & (count[key::OTHER] == 1))
+        & ((count[key::H] == 1) & (count[key::AH] == 1) & (count[key::EAH] <= 1))
+        & ((count[key::C] == 0)
+            & (count[key::T] == 0)
+            & (count[key::LT] == 0)
+            & (count[key::N] == 0)
+            & (count[key::R] == 0))
+}
+
+// How many bytes a key holds.
+fn size(value: &[u8], seen: Seen, key: usize) -> usize
+    requires { ⌜ Noted (now value) seen key ⌝ }
+    ensures { λ r. ⌜ r ≡ length (the key (carried (now (value .entry)))) ⌝ }
+{
+    let start = seen.start[key];
+    let end = seen.end[key];
+    let Measured::Bytes(n) = base64::measure(&value[start..end]) else {
+        return 0;
+    };
+    n
+}
+
+// Whether the set of fields is that of a setup's reply, with a session key and extra names of the right sizes.
+pub fn reply_good(value: &[u8], seen: Seen) -> bool
+    requires { ⌜ Sound (now value) seen ⌝ }
+    ensures { λ r. ⌜ r ≡ replyHolds (carried (now (value .entry))) ⌝ }
+{
+    if !reply_times_good(seen) {
+        return false;
+    }
+    (size(value, seen, key::OTHER) == 32) & (size(value, seen, key::EAH) <= 128)
+}
+
+// What a setup's reply carries.
+pub fn reply_of(value: &[u8], seen: Seen) -> Reply
+    requires { ⌜ ReadyReply (now value) seen ⌝ }
+    ensures { λ r. ⌜ HoldsReply (carried (now (value .entry))) r ⌝ }
+{
+    let mut s = [0u8; 118];
+    let mut iv = [0u8; 12];
+    let mut tag = [0u8; 16];
+    let mut session_key = [0u8; 32];
+    let mut eah = [0u8; 128];
+    let s_len = content(value, seen, key::S, &mut s);
+    content(value, seen, key::IV, &mut iv);
+    content(value, seen, key::TAG, &mut tag);
+    content(value, seen, key::OTHER, &mut session_key);
+    let eah_len = content(value, seen, key::EAH, &mut eah);
+    Reply {
+        s,
+        s_len,
+        iv,
+        tag,
+        key: session_key,
+        h: mask_in(value, seen, key::H),
+        ah: mask_in(value, seen, key::AH),
+        eah,
+        eah_len,
     }
 }

@@ -2,7 +2,7 @@
 ghost use mathlib.Core.Path.{_≡_};
 ghost use Prim.Native.Nat.{_≤_};
 ghost use lib.ListN.{length};
-ghost use Rattle.armor.specs.InnerAnswers.{setupAnswer, ReadsRequest};
+ghost use Rattle.armor.specs.InnerAnswers.{setupAnswer, ReadsRequest, ReadsReply};
 use window::Nonce;
 use window::time::Time;
 
@@ -48,6 +48,24 @@ pub enum SetupRead {
     Mask(u64),
     Grammar,
     Fields,
+}
+
+// What a setup's reply carries: of s and eah the bytes up to their lengths.
+pub struct Reply {
+    pub s: [u8; 118],
+    pub s_len: usize,
+    pub iv: [u8; 12],
+    pub tag: [u8; 16],
+    pub key: [u8; 32],
+    pub h: u64,
+    pub ah: u64,
+    pub eah: [u8; 128],
+    pub eah_len: usize,
+}
+
+pub struct ReplyRead {
+    pub good: bool,
+    pub reply: Reply,
 }
 
 // The mask of a setup request.
@@ -104,5 +122,44 @@ pub fn read_request(value: &[u8], fields: &mut [u8]) -> RequestRead
     RequestRead {
         answer: Answer::Good,
         request: contents::request_of(value, seen, fields),
+    }
+}
+
+fn no_reply() -> Reply {
+    Reply {
+        s: [0u8; 118],
+        s_len: 0,
+        iv: [0u8; 12],
+        tag: [0u8; 16],
+        key: [0u8; 32],
+        h: 0,
+        ah: 0,
+        eah: [0u8; 128],
+        eah_len: 0,
+    }
+}
+
+// What a setup's reply carries, if its set of fields is that of one.
+pub fn read_reply(value: &[u8]) -> ReplyRead
+    requires { ⌜ length (now value) ≤ 4096 ⌝ }
+    ensures { λ r. ⌜ ReadsReply (now (value .entry)) r ⌝ }
+{
+    let scan = scanning::scan_value(value);
+    if !scan.good {
+        return ReplyRead {
+            good: false,
+            reply: no_reply(),
+        };
+    }
+    let seen = scan.seen;
+    if !contents::reply_good(value, seen) {
+        return ReplyRead {
+            good: false,
+            reply: no_reply(),
+        };
+    }
+    ReplyRead {
+        good: true,
+        reply: contents::reply_of(value, seen),
     }
 }

@@ -30,42 +30,49 @@ use Rattle.stages.specs.InnerStages.{tells, Settles}
 use Rattle.stages.proofs.Checks.{numbered, lacks, first-lacks, first-small, passed-by, stopped-by}
 use Rattle.stages.proofs.Parts.{reading-numbered, reading-ten, reading-thirteen}
 use Rattle.gate.specs.State.{State, holding, indexed, untouched, replied}
-use Rattle.gate.specs.Sizes.{longFrom, exactly, tableFits, stateFits, lentFits, requestFits}
+use Rattle.gate.specs.Sizes.{longFrom, exactly, tableFits, stateFits, broughtFits, lentFits, requestFits}
 use Rattle.gate.specs.Judge.{entryPart, requestChecks, stateAfter, answered, outcomeAt, judged}
 use Rattle.gate.specs.InnerDecisions.{Decides, leftBy, answeredBy}
 use Rattle.gate.proofs.Numbers.{Entered, indexed-by, request-stated, entry-numbered, entry-ten, entry-thirteen, request-small}
 
--- the sizes of a request that passes check 1, as far as the later stages need them
-pub record Sized (q : Request) : Type 0 where
-  pub key : length (q .server-key) ≡ 32
+-- the sizes of what a request brings, as far as the later stages need them
+pub record Brought (q : Request) : Type 0 where
   pub value : length (q .value) ≤ 4096
   pub method : length (q .method) ≤ 16
   pub head : length (q .head) ≤ 16384
   pub aside : length (q .aside) ≤ 16384
   pub path : length (q .path) ≤ 2048
   pub body : length (q .body) ≤ 65536
+
+pub brought : (q : Request) → broughtFits q ≡ true → Brought q
+unfolding broughtFits
+brought q e =
+    let value = both (leb (length (q .value)) 4096) _ e in
+    let method = both (longFrom 1 16 (q .method)) _ (value .1) in
+    let head = both (leb (length (q .head)) 16384) _ (method .1) in
+    let aside = both (leb (length (q .aside)) 16384) _ (head .1) in
+    let path = both (longFrom 1 2048 (q .path)) _ (aside .1) in
+    record {
+      value = leb-true _ _ (value .0);
+      method = leb-true _ _ (both (leb 1 (length (q .method))) _ (method .0) .1);
+      head = leb-true _ _ (head .0);
+      aside = leb-true _ _ (aside .0);
+      path = leb-true _ _ (both (leb 1 (length (q .path))) _ (path .0) .1);
+      body = leb-true _ _ (path .1);
+    }
+
+-- and of all that is lent with one that passes check 1
+pub record Sized (q : Request) : Type 0 where
+  pub key : length (q .server-key) ≡ 32
+  pub brings : Brought q
   pub reply : 1024 ≤ length (q .reply)
 
 pub sized : (q : Request) (state : State) → requestFits q state ≡ true → Sized q
 unfolding requestFits lentFits
 sized q state e =
     let key = both (exactly 32 (q .server-key)) _ (both (lentFits q) (stateFits state) e .0) in
-    let value = both (leb (length (q .value)) 4096) _ (key .1) in
-    let method = both (longFrom 1 16 (q .method)) _ (value .1) in
-    let head = both (leb (length (q .head)) 16384) _ (method .1) in
-    let aside = both (leb (length (q .aside)) 16384) _ (head .1) in
-    let path = both (longFrom 1 2048 (q .path)) _ (aside .1) in
-    let body = both (leb (length (q .body)) 65536) _ (path .1) in
-    record {
-      key = eqb-true _ _ (key .0);
-      value = leb-true _ _ (value .0);
-      method = leb-true _ _ (both (leb 1 (length (q .method))) _ (method .0) .1);
-      head = leb-true _ _ (head .0);
-      aside = leb-true _ _ (aside .0);
-      path = leb-true _ _ (both (leb 1 (length (q .path))) _ (path .0) .1);
-      body = leb-true _ _ (body .0);
-      reply = leb-true _ _ (body .1);
-    }
+    let brings = both (broughtFits q) _ (key .1) in
+    record { key = eqb-true _ _ (key .0); brings = brought q (brings .0); reply = leb-true _ _ (brings .1) }
 
 -- the answer of `refused`
 abbrev Refused : Decision → ℕ → Type 0

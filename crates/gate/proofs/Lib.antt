@@ -3,3 +3,4 @@ pub mod Numbers
 pub mod Judging
 pub mod Starting
 pub mod Ending
+pub mod Trials

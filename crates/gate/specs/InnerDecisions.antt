@@ -17,7 +17,7 @@ use Rattle.stages.specs.InnerStages.{tells, About}
 use Rattle.gate.specs.declared.entry.Entry.{Entry}
 use Rattle.gate.specs.State.{State, holding, Outcome, outcome}
 use Rattle.gate.specs.Calls.{setupOf}
-use Rattle.gate.specs.Sizes.{setupFits, lentFits, requestFits}
+use Rattle.gate.specs.Sizes.{setupFits, broughtFits, lentFits, requestFits}
 use Rattle.gate.specs.Entry.{stateChecks, entryChecks}
 use Rattle.gate.specs.Judge.{requestChecks, stateAfter, answered}
 
@@ -25,6 +25,10 @@ use Rattle.gate.specs.Judge.{requestChecks, stateAfter, answered}
 abbrev pub RequestFits : List ℕ → List ℕ → List ℕ → List ℕ → List ℕ → List ℕ → List ℕ → List ℕ → List ℕ → List ℕ → Bool → Type 0
 RequestFits server-key value method head aside path body table index reply r =
     (o : Orders) (clock : ℕ) → r ≡ requestFits (requestOf o clock server-key value method head aside path body reply) (holding table index)
+
+abbrev pub BroughtFits : List ℕ → List ℕ → List ℕ → List ℕ → List ℕ → List ℕ → Bool → Type 0
+BroughtFits value method head aside path body r =
+    (o : Orders) (clock : ℕ) (server-key reply : List ℕ) → r ≡ broughtFits (requestOf o clock server-key value method head aside path body reply)
 
 abbrev pub LentFits : List ℕ → List ℕ → List ℕ → List ℕ → List ℕ → List ℕ → List ℕ → List ℕ → Bool → Type 0
 LentFits server-key value method head aside path body reply r =

@@ -7,5 +7,7 @@ pub mod Setup
 pub mod Judge
 pub mod End
 pub mod Remake
+pub mod Trial
 pub mod InnerDecisions
 pub mod InnerStarts
+pub mod InnerTrials

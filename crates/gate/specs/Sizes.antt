@@ -36,17 +36,19 @@ setupFits s state =
     && (stateFits state
     && leb 1024 (length (s .reply)))))))
 
--- of a request, the state apart
-unfoldable pub lentFits : Request → Bool
-lentFits q =
-    exactly 32 (q .server-key)
-    && (leb (length (q .value)) 4096
+-- of what a request brings
+unfoldable pub broughtFits : Request → Bool
+broughtFits q =
+    leb (length (q .value)) 4096
     && (longFrom 1 16 (q .method)
     && (leb (length (q .head)) 16384
     && (leb (length (q .aside)) 16384
     && (longFrom 1 2048 (q .path)
-    && (leb (length (q .body)) 65536
-    && leb 1024 (length (q .reply))))))))
+    && leb (length (q .body)) 65536))))
+
+-- of a request, the state apart
+unfoldable pub lentFits : Request → Bool
+lentFits q = exactly 32 (q .server-key) && (broughtFits q && leb 1024 (length (q .reply)))
 
 unfoldable pub requestFits : Request → State → Bool
 requestFits q state = lentFits q && stateFits state

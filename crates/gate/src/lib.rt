@@ -1,4 +1,5 @@
-// The login gate: setting up a session, judging a request, ending a session, and making an index anew, for a proxy written in C.
+// The login gate: setting up a session, judging a request, ending a session, and making an index anew, for a proxy written in C; and trying a
+// client's request.
 // Each call takes any numbers and bytes, and answers its number plus 256 times the reply's length.
 ghost use mathlib.Core.Path.{_≡_};
 ghost use mathlib.Core.List.{[]};
@@ -11,6 +12,7 @@ ghost use Rattle.gate.specs.Setup.{setUp};
 ghost use Rattle.gate.specs.Judge.{judged};
 ghost use Rattle.gate.specs.End.{ended};
 ghost use Rattle.gate.specs.Remake.{remade};
+ghost use Rattle.gate.specs.Trial.{trialOf, tried};
 use index::change;
 use index::lookup;
 use orders::Numbers;
@@ -25,6 +27,7 @@ mod judge;
 pub mod one;
 mod setup;
 mod sizes;
+mod trying;
 
 // Sets up a session.
 #[no_mangle]
@@ -218,4 +221,20 @@ pub extern "C" fn gate_index(table: &[u8], index: &mut [u8]) -> u32
     }
     change::make(table, index);
     0
+}
+
+// Tries a client: whether its request fits the reply to its setup, and otherwise the first rule that it breaks.
+#[no_mangle]
+pub extern "C" fn gate_fits<'a>(
+    setup_reply: &[u8],
+    value: &[u8],
+    method: &[u8],
+    head: &'a [u8],
+    aside: &'a [u8],
+    path: &[u8],
+    body: &[u8],
+) -> u32
+    ensures { λ r. ⌜ r ≡ tried (trialOf (now («setup_reply» .entry)) (now (value .entry)) (now (method .entry)) (now (head .entry)) (now (aside .entry)) (now (path .entry)) (now (body .entry))) ⌝ }
+{
+    trying::number(setup_reply, value, method, head, aside, path, body)
 }

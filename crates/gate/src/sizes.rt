@@ -2,7 +2,8 @@
 ghost use mathlib.Core.Path.{_≡_};
 ghost use Rattle.gate.specs.State.{holding};
 ghost use Rattle.gate.specs.Sizes.{longFrom, tableFits, stateFits, endFits};
-ghost use Rattle.gate.specs.InnerDecisions.{SetupFits, RequestFits, LentFits};
+ghost use Rattle.gate.specs.InnerDecisions.{SetupFits, RequestFits, LentFits, BroughtFits};
+ghost use Rattle.gate.specs.Trial.{trialOf, trialFits};
 use table::session::SIZE;
 
 // Records in a table, bytes in what a request brings, and bytes in a reply buffer.
@@ -19,6 +20,8 @@ const MOST_PATH: usize = 2048;
 const MOST_BODY: usize = 65536;
 
 const LEAST_REPLY: usize = 1024;
+
+const MOST_SETUP_REPLY: usize = 459;
 
 fn long_from(low: usize, high: usize, run: &[u8]) -> bool
     ensures { λ r. ⌜ r ≡ longFrom low high (now (run .entry)) ⌝ }
@@ -89,12 +92,39 @@ pub fn lent_fits(
     ensures { λ r. ⌜ LentFits (now («server_key» .entry)) (now (value .entry)) (now (method .entry)) (now (head .entry)) (now (aside .entry)) (now (path .entry)) (now (body .entry)) (now (reply .entry)) r ⌝ }
 {
     (server_key.len() == 32)
-        & ((value.len() <= MOST_VALUE)
-            & (long_from(1, MOST_METHOD, method)
-                & ((head.len() <= MOST_LINES)
-                    & ((aside.len() <= MOST_LINES)
-                        & (long_from(1, MOST_PATH, path)
-                            & ((body.len() <= MOST_BODY) & (LEAST_REPLY <= reply.len())))))))
+        & (brought_fits(value, method, head, aside, path, body) & (LEAST_REPLY <= reply.len()))
+}
+
+// What a request brings.
+fn brought_fits(
+    value: &[u8],
+    method: &[u8],
+    head: &[u8],
+    aside: &[u8],
+    path: &[u8],
+    body: &[u8],
+) -> bool
+    ensures { λ r. ⌜ BroughtFits (now (value .entry)) (now (method .entry)) (now (head .entry)) (now (aside .entry)) (now (path .entry)) (now (body .entry)) r ⌝ }
+{
+    (value.len() <= MOST_VALUE)
+        & (long_from(1, MOST_METHOD, method)
+            & ((head.len() <= MOST_LINES)
+                & ((aside.len() <= MOST_LINES)
+                    & (long_from(1, MOST_PATH, path) & (body.len() <= MOST_BODY)))))
+}
+
+pub fn trial_fits(
+    setup_reply: &[u8],
+    value: &[u8],
+    method: &[u8],
+    head: &[u8],
+    aside: &[u8],
+    path: &[u8],
+    body: &[u8],
+) -> bool
+    ensures { λ r. ⌜ r ≡ trialFits (trialOf (now («setup_reply» .entry)) (now (value .entry)) (now (method .entry)) (now (head .entry)) (now (aside .entry)) (now (path .entry)) (now (body .entry))) ⌝ }
+{
+    (setup_reply.len() <= MOST_SETUP_REPLY) & brought_fits(value, method, head, aside, path, body)
 }
 
 pub fn end_fits(iv: &[u8], table: &[u8], index: &[u8]) -> bool

@@ -1,4 +1,4 @@
-// The replies that the gate writes: that of a setup, and the invalidation of a session.
+// The replies that the gate writes: that of a setup, which is read back too, and the invalidation of a session.
 ghost use mathlib.Core.Path.{_≡_};
 ghost use mathlib.Core.List.{_++_};
 ghost use Prim.Native.Nat.{_+_, _≤_};
@@ -9,6 +9,8 @@ ghost use Rattle.cells.specs.Text.{codes};
 ghost use Rattle.armor.specs.Value.{field, fieldText, following};
 ghost use Rattle.reply.specs.Replies.{extraField, tokenFields, orderFields, setupReply, invalidation};
 use hashes::Hash;
+
+pub mod reading;
 
 // Writes the reply of a setup to the front of out; how long it is.
 pub fn setup(

@@ -38,7 +38,7 @@ use Rattle.stages.specs.declared.settling.Decision.{Decision}
 use Rattle.stages.specs.Request.{Request}
 use Rattle.stages.specs.Checks.{first, missing, nowhere}
 use Rattle.table.specs.Session.{placeOf, heldAt}
-use Rattle.stages.specs.Parts.{fieldsOf, ivOf, hashOf, nonceOf, timeOf, lastTimeOf, signatureOf, openedOf, tokenOf, limits, textOf, codeOf, ordered, keepsHash, stepped, nextOf, tokenPart, signaturePart, vouchingPart, sessionPart, noncePart, admittingPart}
+use Rattle.stages.specs.Parts.{fieldsOf, ivOf, hashOf, nonceOf, timeOf, lastTimeOf, signatureOf, openedOf, tokenOf, limits, textOf, codeUnder, codeOf, ordered, keepsHash, stepped, nextOf, tokenPart, signaturePart, vouchingPart, sessionPart, noncePart, admittingPart}
 use Rattle.stages.specs.InnerStages.{tells, decisionOf, About, Vouches, StandsAt, Admits, Settles}
 use Rattle.stages.proofs.Checks.{passed-by, stopped-by}
 use Rattle.stages.proofs.Parts.{vouching-numbered}
@@ -107,21 +107,27 @@ module _ (q : Request) (r : ArmorRequest) (run : List ℕ) (h : Holds (q .value)
     lapsed late =
         record { is = simp (sym (opens .is) ∙ good, ← (held .expiry), le-leb (u .expiry .0) (q .clock) late); holds = λ z. held }
 
-    module _ (lasts : q .clock < u .expiry .0) (hash : Hash) (named : hashOf q ≡ hash) (end : ℕ) (ends : end ≡ 118 + r .«c_len») (code : List ℕ)
-        (made : code ≡ hmacOf hash (u .key) (requestText (q .method) hash (q .orders .numbers .mask) (q .orders .extra) (r .n .0) (r .t .0) (r .lt .0) (q .aside) (q .head) (q .path) (q .body))) where
-      signature : cut run 118 end ≡ the keyC (carried (q .value))
-      signature = let size : end - 118 ≡ r .«c_len» = omega arith in ap (part run 118) size ∙ lies .signature
+    module _ (lasts : q .clock < u .expiry .0) where
+      compared : first (vouchingPart q) ≡ cond (not (same (signatureOf q) (codeUnder (u .key) q))) 11 0
+      unfolding tokenPart signaturePart codeOf
+      compared = simp (sym (opens .is) ∙ good, ← (held .expiry), lt-leb (u .expiry .0) (q .clock) lasts, ← (held .key))
 
-      compared : first (vouchingPart q) ≡ cond (not (same (cut run 118 end) code)) 11 0
-      unfolding tokenPart signaturePart signatureOf codeOf textOf nonceOf timeOf lastTimeOf fieldsOf
-      compared =
-          simp (sym (opens .is) ∙ good, ← (held .expiry), lt-leb (u .expiry .0) (q .clock) lasts, ← (held .key), named, ← signature, ← (h .nonce), ← (h .time), ← (h .last-time), ← made)
-
-      pub unsigned : same (cut run 118 end) code ≡ false → Vouches q (record { number = 11; token = u })
+      pub unsigned : same (signatureOf q) (codeUnder (u .key) q) ≡ false → Vouches q (record { number = 11; token = u })
       unsigned z = record { is = sym (compared ∙ simp z); holds = λ n. held }
 
-      pub vouched : same (cut run 118 end) code ≡ true → Vouches q (record { number = 0; token = u })
+      pub vouched : same (signatureOf q) (codeUnder (u .key) q) ≡ true → Vouches q (record { number = 0; token = u })
       vouched z = record { is = sym (compared ∙ simp z); holds = λ n. held }
+
+-- the signature where it lies, held against the code that was made
+pub signed-by : (q : Request) (r : ArmorRequest) (run : List ℕ) → Holds (q .value) (carried (q .value)) r → Lies (carried (q .value)) r run
+    → (key : List ℕ) (hash : Hash) → hashOf q ≡ hash → (end : ℕ) → end ≡ 118 + r .«c_len» → (code : List ℕ)
+    → code ≡ hmacOf hash key (requestText (q .method) hash (q .orders .numbers .mask) (q .orders .extra) (r .n .0) (r .t .0) (r .lt .0) (q .aside) (q .head) (q .path) (q .body))
+    → same (cut run 118 end) code ≡ same (signatureOf q) (codeUnder key q)
+unfolding signatureOf textOf nonceOf timeOf lastTimeOf fieldsOf
+signed-by q r run h lies key hash named end ends code made =
+    let size : end - 118 ≡ r .«c_len» = omega arith in
+    let signature : cut run 118 end ≡ the keyC (carried (q .value)) = ap (part run 118) size ∙ lies .signature in
+    simp (named, signature, made, h .nonce, h .time, h .last-time)
 
 module _ (q : Request) (table : List ℕ) where
   -- the window's answer in a session that is there, and its record after it

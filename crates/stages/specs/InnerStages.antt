@@ -7,6 +7,7 @@ use mathlib.Core.List.{List, _++_}
 use Prim.Native.Nat.{ℕ, _≤_}
 use lib.Dec.{eqb}
 use lib.ListN.{length, take}
+use Rattle.cells.specs.Runs.{same}
 use Rattle.hashes.specs.declared.Hash.{Hash}
 use Rattle.armor.specs.Value.{carried}
 use Rattle.armor.specs.InnerAnswers.{Holds, Lies}
@@ -28,7 +29,7 @@ use Rattle.stages.specs.declared.settling.Decision.{Decision}
 use Rattle.stages.specs.Request.{Request, requestOf}
 use Rattle.stages.specs.Checks.{first, nowhere}
 use Rattle.table.specs.Session.{placeOf, heldAt}
-use Rattle.stages.specs.Parts.{ivOf, hashOf, nonceOf, timeOf, lastTimeOf, tokenOf, limits, ordered, nextOf, coveringPart, readingPart, vouchingPart, admittingPart, invalidates}
+use Rattle.stages.specs.Parts.{ivOf, hashOf, nonceOf, timeOf, lastTimeOf, signatureOf, codeUnder, tokenOf, limits, ordered, nextOf, coveringPart, readingPart, vouchingPart, admittingPart, invalidates}
 
 -- notes on the covered names, as many as there are names
 pub record CoveredNotes (o : Orders) (head aside in-head in-aside : List ℕ) (count : ℕ) : Type 0 where
@@ -54,6 +55,13 @@ pub record Reads (q : Request) (run in-head in-aside : List ℕ) (r : Reading) :
 abbrev pub ReadIs : Orders → List ℕ → List ℕ → List ℕ → List ℕ → List ℕ → List ℕ → List ℕ → Reading → Type 0
 ReadIs o value method head aside run in-head in-aside r =
     (clock : ℕ) (server-key path body reply : List ℕ) → Reads (requestOf o clock server-key value method head aside path body reply) run in-head in-aside r
+
+-- 11: whether a session key has signed it
+abbrev pub SignIs : Orders → List ℕ → ArmorRequest → List ℕ → Hash → List ℕ → List ℕ → List ℕ → List ℕ → List ℕ → Bool → Type 0
+SignIs o key request run hash method head aside path body r =
+    (clock : ℕ) (server-key value reply : List ℕ)
+    → let q = requestOf o clock server-key value method head aside path body reply in
+    Holds value (carried value) request → Lies (carried value) request run → hashOf q ≡ hash → r ≡ same (signatureOf q) (codeUnder key q)
 
 -- 9 to 11: the number, and the token unless it is 9
 pub record Vouches (q : Request) (r : Vouched) : Type 0 where

@@ -71,9 +71,12 @@ unfoldable pub textOf : Request → List ℕ
 textOf q =
     requestText (q .method) (hashOf q) (q .orders .numbers .mask) (q .orders .extra) (nonceOf q) (timeOf q) (lastTimeOf q) (q .aside) (q .head) (q .path) (q .body)
 
--- what its signature must be
+-- what its signature must be under a session key, and under its token's
+abbrev pub codeUnder : List ℕ → Request → List ℕ
+codeUnder key q = hmacOf (hashOf q) key (textOf q)
+
 unfoldable pub codeOf : Request → List ℕ
-codeOf q = hmacOf (hashOf q) (tokenOf q .key) (textOf q)
+codeOf q = codeUnder (tokenOf q .key) q
 
 -- whether a name that the orders cover, and that is no list field, stands twice in a block
 unfoldable pub twice : Request → List ℕ → Bool

@@ -7,7 +7,7 @@ ghost use Rattle.names.specs.Extra.{goodExtra};
 ghost use Rattle.names.specs.Covered.{coveredNames};
 ghost use Rattle.lines.specs.InnerNotes.{NotesOn};
 ghost use Rattle.orders.specs.Orders.{orders};
-ghost use Rattle.stages.specs.InnerStages.{VouchIs};
+ghost use Rattle.stages.specs.InnerStages.{VouchIs, SignIs};
 use armor::Request;
 use hashes::Hash;
 use orders::Numbers;
@@ -39,7 +39,7 @@ pub fn vouch<'a>(
     requires { ⌜ (goodExtra (now extra) ≡ true) × (length (now «server_key») ≡ 32) × (request .«s_len» ≤ 118) × (request .«c_len» ≤ 64) × (length (now fields) ≡ 210) × (length (now method) ≤ 16) × (length (now head) ≤ 16384) × (length (now aside) ≤ 16384) × (length (now path) ≤ 2048) × (length (now body) ≤ 65536) × NotesOn (coveredNames (numbers .mask) (now extra)) (now head) (now aside) (now «in_head») (now «in_aside») ⌝ }
     ensures { λ r. ⌜ VouchIs (orders numbers (now (extra .entry))) (clock .0) (now («server_key» .entry)) request (now (fields .entry)) hash (now (method .entry)) (now (head .entry)) (now (aside .entry)) (now (path .entry)) (now (body .entry)) r ⌝ }
 {
-    // Where iv, s, tag and c lie in the run: armor::Request.
+    // Where iv, s and tag lie in the run: armor::Request.
     let s_len = request.s_len;
     let token = token::unseal(
         server_key,
@@ -55,11 +55,50 @@ pub fn vouch<'a>(
         return Vouched { number: 10, token };
     }
     let key = token.key;
+    if !signs(
+        numbers,
+        extra,
+        &key,
+        request,
+        fields,
+        hash,
+        method,
+        head,
+        aside,
+        in_head,
+        in_aside,
+        path,
+        body,
+    ) {
+        return Vouched { number: 11, token };
+    }
+    Vouched { number: 0, token }
+}
+
+// Whether a session key has signed the request.
+pub fn signs<'a>(
+    numbers: Numbers,
+    extra: &[u8],
+    key: &[u8],
+    request: Request,
+    fields: &[u8],
+    hash: Hash,
+    method: &[u8],
+    head: &'a [u8],
+    aside: &'a [u8],
+    in_head: &[u16],
+    in_aside: &[u16],
+    path: &[u8],
+    body: &[u8],
+) -> bool
+    requires { ⌜ (goodExtra (now extra) ≡ true) × (length (now key) ≡ 32) × (request .«c_len» ≤ 64) × (length (now fields) ≡ 210) × (length (now method) ≤ 16) × (length (now head) ≤ 16384) × (length (now aside) ≤ 16384) × (length (now path) ≤ 2048) × (length (now body) ≤ 65536) × NotesOn (coveredNames (numbers .mask) (now extra)) (now head) (now aside) (now «in_head») (now «in_aside») ⌝ }
+    ensures { λ r. ⌜ SignIs (orders numbers (now (extra .entry))) (now (key .entry)) request (now (fields .entry)) hash (now (method .entry)) (now (head .entry)) (now (aside .entry)) (now (path .entry)) (now (body .entry)) r ⌝ }
+{
     let n = request.n;
     let t = request.t;
     let lt = request.lt;
     let code = signed::code(
-        &key,
+        key,
         method,
         hash,
         numbers.mask,
@@ -74,9 +113,7 @@ pub fn vouch<'a>(
         path,
         body,
     );
+    // Where c lies in the run: armor::Request.
     let end = 118 + request.c_len;
-    if !signed::same_code(&fields[118..end], code, hash) {
-        return Vouched { number: 11, token };
-    }
-    Vouched { number: 0, token }
+    signed::same_code(&fields[118..end], code, hash)
 }

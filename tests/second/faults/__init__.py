@@ -16,6 +16,7 @@ from faults import (  # noqa: F401  (each enters its faults as it is read)
     sizes,
     tables,
     times,
+    trials,
     window,
 )
 from faults.catalogue import CATALOGUE

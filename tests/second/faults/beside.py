@@ -56,10 +56,10 @@ def nonce_seen(draft):
     draft.n = 100
 
 
-def beside(name, needs, also, late=False):
+def beside(name, needs, also, on=None, late=False):
     """Faults that need this, each with something else: what that is, the number that comes first, and the stage."""
     for other, number, at in also:
 
-        @fault(f"{name}, {other.__name__.replace('_', ' ')}", number, at, needs=needs, late=late and number == 8)
+        @fault(f"{name}, {other.__name__.replace('_', ' ')}", number, at, on, needs=needs, late=late and number == 8)
         def alter(draft, rng, other=other):
             other(draft)

@@ -7,10 +7,14 @@ from typing import Callable, NamedTuple
 
 import hashing
 
-REQUEST = ("judge", "one")
-VALUED = ("judge", "one", "setup")
+JUDGED = ("judge", "one")
+REQUEST = (*JUDGED, "fits")
+VALUED = (*REQUEST, "setup")
+ORDERED = (*JUDGED, "setup")
 INDEXED = ("judge", "setup", "end")
 TABLED = (*INDEXED, "index")
+
+IN_A_TRIAL = (0, 1, 4, 5, 6, 7, 8, 11)  # what gate_fits answers to a request as the gate does
 
 CATALOGUE = []
 
@@ -34,11 +38,15 @@ def nothing(draft):
     """What most faults need."""
 
 
-def fault(name, number, at, on=REQUEST, needs=nothing, long=False, late=False):
-    """Enter the decorated function, which alters a draft by chance of the generator given, into the catalogue."""
+def fault(name, number, at, on=None, needs=nothing, long=False, late=False):
+    """Enter the decorated function, which alters a draft by chance of the generator given, into the catalogue.
+
+    Where the calls that it concerns are not named, they are those that judge a request, and gate_fits if the number is one of its own.
+    """
+    by_number = REQUEST if number in IN_A_TRIAL and not late else JUDGED
 
     def enter(alter):
-        CATALOGUE.append(Fault(name, number, at, on, needs, alter, long, late))
+        CATALOGUE.append(Fault(name, number, at, on or by_number, needs, alter, long, late))
         return alter
 
     return enter

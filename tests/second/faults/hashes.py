@@ -19,7 +19,7 @@ from faults.beside import (
     too_far_ahead,
     too_old,
 )
-from faults.catalogue import both_hashes, fault, sha_256, sha_512
+from faults.catalogue import JUDGED, both_hashes, fault, sha_256, sha_512
 
 # In its old place
 
@@ -58,8 +58,8 @@ def one_allowed(draft, own, allowed):
     draft.order(hashes=allowed)
 
 
-beside("h 1 where SHA-512 alone is allowed", lambda d: one_allowed(d, sha_256, hashing.SHA_512), BEFORE_THE_TOKEN)
-beside("h 4 where SHA-256 alone is allowed", lambda d: one_allowed(d, sha_512, hashing.SHA_256), BEFORE_THE_TOKEN)
+beside("h 1 where SHA-512 alone is allowed", lambda d: one_allowed(d, sha_256, hashing.SHA_512), BEFORE_THE_TOKEN, JUDGED)
+beside("h 4 where SHA-256 alone is allowed", lambda d: one_allowed(d, sha_512, hashing.SHA_256), BEFORE_THE_TOKEN, JUDGED)
 
 
 # Against the record
@@ -84,8 +84,8 @@ def signed_otherwise(draft, own):
     draft.hash ^= hashing.BOTH
 
 
-beside("SHA-256 in a session of SHA-512", lambda d: signed_otherwise(d, sha_512), AFTER_THE_SESSION, late=True)
-beside("SHA-512 in a session of SHA-256", lambda d: signed_otherwise(d, sha_256), AFTER_THE_SESSION, late=True)
+beside("SHA-256 in a session of SHA-512", lambda d: signed_otherwise(d, sha_512), AFTER_THE_SESSION, JUDGED, late=True)
+beside("SHA-512 in a session of SHA-256", lambda d: signed_otherwise(d, sha_256), AFTER_THE_SESSION, JUDGED, late=True)
 
 
 def record_otherwise(name, needs):

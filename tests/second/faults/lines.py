@@ -171,16 +171,22 @@ def thrice(draft, rng):
     draft.head_lines.append(b"HOST:c\r\n")
 
 
-@fault("twice: a name the orders cover and the request doesn't", 7, "fields")
-def twice_ordered_not_own(draft, rng):
+def host_twice(draft):
     covered_twice(draft, "head", b"Host", b"Host")
+
+
+def host_twice_uncovered(draft):
+    host_twice(draft)
+    draft.uncover(b"Host")
+
+
+@fault("twice: a name the orders cover and the request doesn't", 7, "fields", needs=host_twice)
+def twice_ordered_not_own(draft, rng):
     draft.set_field(b"ah", client.encoded_mask(draft.orders.mask & ~2))
 
 
-@fault("twice: a name the request covers and the orders don't", 8, "fields")
+@fault("twice: a name the request covers and the orders don't", 8, "fields", needs=host_twice_uncovered)
 def twice_own_not_ordered(draft, rng):
-    covered_twice(draft, "head", b"Host", b"Host")
-    draft.uncover(b"Host")
     draft.set_field(b"ah", client.encoded_mask(draft.orders.mask | 2))
 
 

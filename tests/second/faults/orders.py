@@ -2,68 +2,78 @@
 
 import hashing
 import model
-from faults.catalogue import REQUEST, VALUED, each_32_but, fault
+from faults.catalogue import ORDERED, REQUEST, VALUED, each_32_but, fault
 
 LONGEST_NAME = b"X-" + b"n" * 126
 
+GOOD_EXTRAS = {
+    "none": b"",
+    "one of one byte": b"q",
+    "one of 128 bytes": LONGEST_NAME,
+    "eight": b"a,b,c,d,e,f,g,j",
+    "eight, 128 bytes": b",".join(bytes([letter]) * 15 for letter in b"abcdefg") + b"," + b"h" * 16,
+    "every token character": model.TOKEN_CHARACTERS,
+    "a listed name and more": b"Hostess,Hos,X-S-Armory,X-S-Armo",
+}
 
-def extra_run(name, run, number):
-    @fault(f"extra names: {name}", number, "plan", VALUED)
-    def alter(draft, rng):
+BAD_EXTRAS = {
+    "nine": b"a,b,c,d,e,f,g,j,k",
+    "one of 129 bytes": LONGEST_NAME + b"n",
+    "eight, 129 bytes": b",".join(bytes([letter]) * 15 for letter in b"abcdefg") + b"," + b"h" * 17,
+    "far over 128 bytes": b"a" * 384,
+    "one of 256 bytes": b"a" * 256,
+    "a lone comma": b",",
+    "a leading comma": b",a",
+    "a closing comma": b"a,",
+    "a double comma": b"a,,b",
+    "a blank after the comma": b"a, b",
+    "a blank name": b" ",
+    "twice": b"X-Farm,b,X-Farm",
+    "twice in other case": b"X-Farm,b,x-fARM",
+    "twice, first and last of eight": b"a,b,c,d,e,f,g,A",
+    "X-S-Armor": b"X-S-Armor",
+    "x-s-armor in other case": b"a,x-S-aRMOR",
+}
+
+for good_extras, good_run in GOOD_EXTRAS.items():
+
+    @fault(f"extra names: {good_extras}", 0, "plan", VALUED)
+    def order_good_extras(draft, rng, run=good_run):
         draft.order(extra=run)
 
 
-extra_run("none", b"", 0)
-extra_run("one of one byte", b"q", 0)
-extra_run("one of 128 bytes", LONGEST_NAME, 0)
-extra_run("eight", b"a,b,c,d,e,f,g,j", 0)
-extra_run("eight, 128 bytes", b",".join(bytes([letter]) * 15 for letter in b"abcdefg") + b"," + b"h" * 16, 0)
-extra_run("every token character", model.TOKEN_CHARACTERS, 0)
-extra_run("a listed name and more", b"Hostess,Hos,X-S-Armory,X-S-Armo", 0)
+for bad_extras, bad_run in BAD_EXTRAS.items():
 
-extra_run("nine", b"a,b,c,d,e,f,g,j,k", 2)
-extra_run("one of 129 bytes", LONGEST_NAME + b"n", 2)
-extra_run("eight, 129 bytes", b",".join(bytes([letter]) * 15 for letter in b"abcdefg") + b"," + b"h" * 17, 2)
-extra_run("far over 128 bytes", b"a" * 384, 2)
-extra_run("one of 256 bytes", b"a" * 256, 2)
-extra_run("a lone comma", b",", 2)
-extra_run("a leading comma", b",a", 2)
-extra_run("a closing comma", b"a,", 2)
-extra_run("a double comma", b"a,,b", 2)
-extra_run("a blank after the comma", b"a, b", 2)
-extra_run("a blank name", b" ", 2)
-extra_run("twice", b"X-Farm,b,X-Farm", 2)
-extra_run("twice in other case", b"X-Farm,b,x-fARM", 2)
-extra_run("twice, first and last of eight", b"a,b,c,d,e,f,g,A", 2)
-extra_run("X-S-Armor", b"X-S-Armor", 2)
-extra_run("x-s-armor in other case", b"a,x-S-aRMOR", 2)
+    @fault(f"extra names: {bad_extras}", 2, "plan", ORDERED)
+    def order_bad_extras(draft, rng, run=bad_run):
+        draft.order(extra=run)
 
 
 for no_token, no_token_values in each_32_but(model.TOKEN_CHARACTERS + b","):
 
-    @fault(f"extra names: a byte that no token has {no_token}", 2, "plan", VALUED)
+    @fault(f"extra names: a byte that no token has {no_token}", 2, "plan", ORDERED)
     def extra_bad_byte(draft, rng, values=no_token_values):
         draft.order(extra=b"a,X-%cb" % rng.choice(values))
 
 
-@fault("extra names: a listed name, covered", 2, "plan", VALUED)
+@fault("extra names: a listed name, covered", 2, "plan", ORDERED)
 def extra_listed_covered(draft, rng):
     place = rng.randrange(len(model.NAMES))
     draft.order(extra=model.NAMES[place], mask=draft.orders.mask | 2 << place)
 
 
-@fault("extra names: a listed name, not covered", 2, "plan", VALUED)
+@fault("extra names: a listed name, not covered", 2, "plan", ORDERED)
 def extra_listed_uncovered(draft, rng):
     place = rng.randrange(len(model.NAMES))
     draft.order(extra=b"q," + model.NAMES[place], mask=draft.orders.mask & ~(2 << place))
 
 
-@fault("extra names: a listed name in other case", 2, "plan", VALUED)
+@fault("extra names: a listed name in other case", 2, "plan", ORDERED)
 def extra_listed_other_case(draft, rng):
     draft.order(extra=rng.choice(model.NAMES).swapcase())
 
 
-@fault("extra names: 65,541 bytes", 2, "lent", VALUED, long=True)
+@fault("extra names: 65,541 bytes", 2, "lent", ORDERED, long=True)
 def extra_past_16_bits(draft, rng):
     draft.order(extra=b"a" * 65_541)
 
@@ -83,12 +93,12 @@ two_extras("alike but for ^ and ~", b"x^,x~")
 two_extras("in both cases of other letters", b"xA,xb,Xc")
 
 
-@fault("mask with a bit above 55", 2, "plan", VALUED)
+@fault("mask with a bit above 55", 2, "plan", ORDERED)
 def mask_higher_bit(draft, rng):
     draft.order(mask=draft.orders.mask | 1 << rng.randint(56, 63))
 
 
-@fault("mask with bit 56", 2, "plan", VALUED)
+@fault("mask with bit 56", 2, "plan", ORDERED)
 def mask_bit_56(draft, rng):
     draft.order(mask=draft.orders.mask | 1 << 56)
 
@@ -115,7 +125,7 @@ def mask_single_bit(draft, rng):
 
 for bad_hashes in (0, 2, 3, 6, 7, 8, 9, 12, 13, 255, 256, 260, 1 << 32, 1 << 32 | 5, 1 << 63, 1 << 63 | 4, (1 << 64) - 1):
 
-    @fault(f"hashes {bad_hashes}", 2, "plan", VALUED)
+    @fault(f"hashes {bad_hashes}", 2, "plan", ORDERED)
     def hashes_bad(draft, rng, hashes=bad_hashes):
         draft.order(hashes=hashes)
 
@@ -135,12 +145,12 @@ def longest_reply(draft, rng):
     draft.clock = rng.randint(1_000_000_000, 4_000_000_000)
 
 
-@fault("session life of 2,592,001", 2, "plan", VALUED)
+@fault("session life of 2,592,001", 2, "plan", ORDERED)
 def life_too_long(draft, rng):
     draft.order(session_life=2_592_001)
 
 
-@fault("session life of 4,294,967,295", 2, "plan", VALUED)
+@fault("session life of 4,294,967,295", 2, "plan", ORDERED)
 def life_longest_number(draft, rng):
     draft.order(session_life=model.HIGHEST)
 

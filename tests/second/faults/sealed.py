@@ -7,7 +7,7 @@ from cryptography.hazmat.primitives.ciphers.aead import AESGCM
 
 import model
 from encoding import netstring
-from faults.catalogue import fault, short_id
+from faults.catalogue import JUDGED, fault, short_id
 
 # Tokens that don't open
 
@@ -124,7 +124,7 @@ def longest_token(draft):
 other_plan("118 bytes", longest_token, 0)
 
 
-@fault("token: 119 bytes", 4, "plan")
+@fault("token: 119 bytes", 4, "plan", JUDGED)
 def token_too_long(draft, rng):
     longest_token(draft)
     draft.session_id = bytes(65)

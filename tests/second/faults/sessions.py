@@ -4,7 +4,7 @@ import client
 import hashing
 import model
 import record as rec
-from faults.catalogue import REQUEST, fault
+from faults.catalogue import JUDGED, fault
 
 HIGHEST = model.HIGHEST
 OTHER_IV = b"another iv.."
@@ -22,7 +22,7 @@ def record_other_iv(draft, rng):
     draft.put(draft.place, draft.own()._replace(iv=draft.iv[:11] + bytes([draft.iv[11] ^ 1])))
 
 
-@fault("a request with the IV of zeros and free records", 12, "plan", REQUEST)
+@fault("a request with the IV of zeros and free records", 12, "plan", JUDGED)
 def zero_iv(draft, rng):
     """The zeros of a free record are no IV."""
     draft.iv = bytes(12)
@@ -35,7 +35,7 @@ def zero_iv_to_end(draft, rng):
     draft.put(draft.place, rec.FREE)
 
 
-@fault("a token for an IV that never was set up", 12, "plan", REQUEST)
+@fault("a token for an IV that never was set up", 12, "plan", JUDGED)
 def unknown_iv(draft, rng):
     draft.iv = rng.randbytes(12)
 

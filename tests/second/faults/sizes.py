@@ -2,7 +2,7 @@
 
 import client
 import record as rec
-from faults.catalogue import REQUEST, TABLED, VALUED, fault
+from faults.catalogue import ORDERED, REQUEST, TABLED, VALUED, fault
 
 
 def resized(run, length):
@@ -18,7 +18,7 @@ def of_length(name, attribute, lengths, number, on, at="lent", long=False):
             setattr(draft, attribute, resized(getattr(draft, attribute), length))
 
 
-of_length("server key", "server_key", [0, 16, 31, 33, 64, 288], 1, VALUED)
+of_length("server key", "server_key", [0, 16, 31, 33, 64, 288], 1, ORDERED)
 of_length("session key", "session_key", [0, 31, 33, 64], 1, ("setup",))
 of_length("session id", "session_id", [0, 65, 257], 1, ("setup",))
 of_length("session id", "session_id", [1, 63, 64], 0, ("setup",))
@@ -102,7 +102,7 @@ def head_of_many_lines(draft, rng):
 
 
 def reply_of(count, number):
-    @fault(f"reply buffer of {count} bytes", number, "lent", VALUED)
+    @fault(f"reply buffer of {count} bytes", number, "lent", ORDERED)
     def alter(draft, rng):
         draft.reply = (count, rng.randrange(256))
 

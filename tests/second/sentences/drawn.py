@@ -8,6 +8,7 @@ import encoding
 import hashing
 import histories
 import model
+from faults.catalogue import ORDERED
 from sentences import placing
 
 SEED = 20_260_101
@@ -25,7 +26,7 @@ class Recorder(calls.Writer):
 
     def write(self, call, name):
         outcome = super().write(call, name)
-        if outcome.number != 1 and call.kind not in ("end", "index"):
+        if outcome.number != 1 and call.kind in ORDERED:
             self.asked.append(call)
         return outcome
 

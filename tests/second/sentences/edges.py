@@ -21,6 +21,7 @@ def cases():
     for whose, one in (("a dealer", DEALER), ("a scanner", SCANNER)):
         yield given, f"a setup of {whose}", one.setup, 0
         yield given, f"a request of {whose}", one.request, 0
+        yield given, f"a request of {whose}, tried", one.trial, 0
 
 
 def given(asked, call, number):
@@ -191,6 +192,7 @@ class Exchange(NamedTuple):
     code: bytes
     fields: list
     request: drafts.Call
+    trial: drafts.Call
 
 
 def exchange(offered):
@@ -211,14 +213,11 @@ def exchange(offered):
     parts = client.signed_parts(method, fields, head, [], path, body)
     code = hashing.code(client.decoded_mask(carried[b"h"]), key, client.joined(parts))
     fields.append((b"c", code))
-    request = drafts.Call(
-        "judge",
-        (*orders, 1_505_773_190, server_key, client.header_value(fields), method, b"".join(head), b"", path, body),
-        outcome.table,
-        outcome.index,
-        (model.LEAST_REPLY, 0),
-    )
-    return Exchange(setup, reply, parts, code, fields, request)
+    sent = (client.header_value(fields), method, b"".join(head), b"", path, body)
+    left = (outcome.table, outcome.index, (model.LEAST_REPLY, 0))
+    request = drafts.Call("judge", (*orders, 1_505_773_190, server_key, *sent), *left)
+    trial = drafts.Call("fits", (reply, *sent), *left)
+    return Exchange(setup, reply, parts, code, fields, request, trial)
 
 
 DEALER, SCANNER = exchange(hashing.BOTH), exchange(hashing.SHA_256)

@@ -7,6 +7,7 @@ gap, which meet the limits to the second.
 
 import random
 
+import agreement
 import calls
 import client
 import drafts
@@ -59,14 +60,15 @@ def setup_call(orders=ORDERS, value=OFFER, session_id=SESSION_ID):
     return draft.call()
 
 
-def request_call(*alterations, orders=ORDERS, iv=IV, hash=hashing.SHA_512, head=b"", aside=b"", **planned):
+def request_call(*alterations, kind="judge", orders=ORDERS, iv=IV, hash=hashing.SHA_512, head=b"", aside=b"", **planned):
     """A request of the session that the table's one record is for, altered at some stages of its draft."""
     plan = {"clock": CLOCK, "key": KEY, "session_id": SESSION_ID, "t": CLOCK, "lt": CLOCK, "n": NONCE, **planned}
     draft = drafts.Request(
-        kind="judge",
+        kind=kind,
         table=rec.to_bytes(rec.fresh(iv, HIGHEST, hash)),
         iv=iv,
         hash=hash,
+        chosen=hash,
         place=0,
         reply=REPLY,
         orders=orders,
@@ -215,6 +217,19 @@ def freed_apart(note, freeing, number):
     ))
 
 
+# Trials of clients
+
+
+def judged_and_tried(note, number, tried_as, call):
+    """A request of the one session by gate_judge and by gate_fits, and whether the two agree (document 02, K11)."""
+    judged = calls.answered(call, bytes([REPLY[1]]) * REPLY[0])
+    trial = agreement.trial_of(call, judged, {IV: model.Token(KEY, SESSION_ID, HIGHEST)})
+    if not agreement.agree(judged, calls.answered(trial, b"")):
+        raise Disagreement(f"{note}: judged {judged.number}, and otherwise tried: {call}, {trial}")
+    yield f"{note}, judged", call, (number,)
+    yield f"{note}, tried", trial, (tried_as,)
+
+
 # Sessions apart
 
 
@@ -243,7 +258,7 @@ def borne(call):
     """The IV of a request's iv field, if its value has good grammar and fields, or the one that an ending is lent."""
     if call.kind in ("end", "index"):
         return calls.named(call).get("iv")
-    fields = request_fields(calls.named(call)["value"])
+    fields = calls.request_fields(calls.named(call)["value"])
     return fields and fields[b"iv"]
 
 
@@ -383,7 +398,7 @@ def setup(value):
 
 def request(value):
     """Under orders that agree with what it covers, where such orders are good."""
-    fields = request_fields(value)
+    fields = calls.request_fields(value)
     own = ordered(encoding.mask(fields[b"ah"]), fields.get(b"eah", b"")) if fields else ORDERS
     orders = ORDERS if model.orders_bad(own) else own
     yield "as the value of a request", valued(value, orders), (4, 5, 8, 9)
@@ -406,15 +421,9 @@ def request(value):
 def coverage(mask, hashes, extra, value):
     orders = ordered(mask, extra, HIGHEST, HIGHEST, hashes=hashes)
     yield "as the value of a request", valued(value, orders), (2, 4, 5, 8, 9)
-    if request_fields(value):
-        t = encoding.number(request_fields(value)[b"t"])
+    if calls.request_fields(value):
+        t = encoding.number(calls.request_fields(value)[b"t"])
         yield "vouched for", vouched(value, orders, about(t)), (0, 2, 8)
-
-
-def request_fields(value):
-    """Contents by key, or None where the value is no request's."""
-    fields = model.fields_of(value)
-    return None if fields is None or model.request_fields_wrong(fields) else dict(fields)
 
 
 def valued(value, orders):

@@ -69,7 +69,7 @@ read-requires : tie.Need-read-requires
 read-requires c κs =
     let s = begun (c .before .before .before .before .before) in
     let size = sized (asked s) _ (entered (c .before .before .before) .sizes) in
-    (s .pre, good-extra _ (entered (c .before .before .before) .orders), size .value, size .head, size .aside, search needs, search needs, search needs)
+    (s .pre, good-extra _ (entered (c .before .before .before) .orders), size .brings .value, size .brings .head, size .brings .aside, search needs, search needs, search needs)
 
 returns-2 : tie.Need-returns-2
 returns-2 c =
@@ -100,7 +100,7 @@ settle-requires c κs =
     let size = sized (asked (start read)) _ (entered (gone-in read) .sizes) in
     let told = read .read .ensures 0 [] [] [] [] in
     let held = told .holds (c .before .before .before .before .before .before .before .before .if2 .left) in
-    (good-extra _ (entered (gone-in read) .orders), size .key, held .token-fits, held .signature-fits, omega (arith, read .read .kept), size .method, size .head, size .aside, size .path, size .body, told .noted (c .before .before .before .before .before .before .before .before .if2 .left) .notes)
+    (good-extra _ (entered (gone-in read) .orders), size .key, held .token-fits, held .signature-fits, omega (arith, read .read .kept), size .brings .method, size .brings .head, size .brings .aside, size .brings .path, size .brings .body, told .noted (c .before .before .before .before .before .before .before .before .if2 .left) .notes)
 
 returns-3 : tie.Need-returns-3
 unfolding ivOf fieldsOf

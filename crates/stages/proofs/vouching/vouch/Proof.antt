@@ -1,9 +1,9 @@
 -- `vouching::vouch` meets its contract, one test after the other.
-use mathlib.Core.Path.{_≡_, refl, sym, _∙_}
+-- Assumes nothing.
+use mathlib.Core.Path.{sym, _∙_}
 use native.Mathlib.Omega.{arith}
 use borrow.Author.Needs.{needs}
 use borrow.Author.Tests.{not-true, not-false}
-use lib.ListN.{length}
 use lib.Seq.{length-take-le}
 use Rattle.cells.proofs.Runs.{length-part}
 use Rattle.stages.proofs.Stages.{unopened, lapsed, unsigned, vouched}
@@ -13,16 +13,10 @@ use Rattle.stages.proofs.vouching.vouch.Tie as tie
 abbrev begun : tie.After-shared-slice-known10 → tie.Start
 begun c = c .before .before .before .before .before .before .before .before .before .before
 
-part-unseal-end : tie.Need-part-unseal-end
-part-unseal-end c = omega (arith, begun c .pre .4)
-
 slice-aggregate-unseal : tie.Need-slice-aggregate-unseal
 slice-aggregate-unseal c =
     let start = begun (c .before .before) in
     sym (length-take-le _ (start .args .fields .now) (omega (arith, start .pre .2, start .pre .4)))
-
-part-unseal-end-2 : tie.Need-part-unseal-end-2
-part-unseal-end-2 c = omega (arith, begun (c .before .before) .pre .4)
 
 unseal-requires : tie.Need-unseal-requires
 unseal-requires c κs =
@@ -34,18 +28,6 @@ unseal-requires c κs =
       omega (arith, start .pre .2, length-take-le (start .args .request .«s_len») run (omega (arith, start .pre .2, long))),
       length-part run 194 16 (omega (arith, long)),
     )
-
-code-requires : tie.Need-code-requires
-code-requires c κs =
-    let pre = c .before .before .before .before .before .before .before .before .before .before .before .before .before .before .before .before .before .before .before .before .before .before .before .before .before .pre in
-    let key : length (c .before .before .before .before .before .before .before .before .before .before .before .unseal .result .key) ≡ 32 = search needs in
-    (omega arith, pre .5, pre .0, pre .6, pre .7, pre .8, pre .9, pre .10)
-
-add-end : tie.Need-add-end
-add-end c = omega (arith, c .before .before .before .before .before .before .before .before .before .before .before .before .before .before .before .before .before .before .before .before .before .before .before .before .before .before .before .pre .3)
-
-part-same-code-end : tie.Need-part-same-code-end
-part-same-code-end c = let pre = c .before .before .before .before .before .before .before .before .before .before .before .before .before .before .before .before .before .before .before .before .before .before .before .before .before .before .before .pre in omega (arith, pre .3, pre .4)
 
 returns : tie.Need-returns
 returns c value reply h lies named =
@@ -59,20 +41,19 @@ returns-2 c value reply h lies named =
 
 returns-3 : tie.Need-returns-3
 returns-3 c value reply h lies named =
-    let u = c .before .before .before .before .before .before .before .before .before .before .before .before .before .before .before .before .unseal in
-    let good = not-false (u .result .good) (c .before .before .before .before .before .before .before .before .before .before .before .before .before .before .if1 .left) in
-    unsigned _ _ _ h lies (u .result) (u .ensures) good (c .before .before .before .before .before .before .before .before .before .before .if2 .left) _ named _ refl _ (c .before .before .before .before .code .ensures)
-    (sym (c .before .same-code .ensures) ∙ not-true (c .before .same-code .result) (c .if3 .taken))
+    let u = c .before .before .before .before .before .before .before .before .before .before .unseal in
+    let good = not-false (u .result .good) (c .before .before .before .before .before .before .before .before .if1 .left) in
+    unsigned _ _ _ h lies (u .result) (u .ensures) good (c .before .before .before .before .if2 .left)
+    (sym (c .before .signs .ensures _ _ value reply h lies named) ∙ not-true (c .before .signs .result) (c .if3 .taken))
 
 returns-4 : tie.Need-returns-4
 returns-4 c value reply h lies named =
-    let u = c .before .before .before .before .before .before .before .before .before .before .before .before .before .before .before .before .unseal in
-    let good = not-false (u .result .good) (c .before .before .before .before .before .before .before .before .before .before .before .before .before .before .if1 .left) in
-    vouched _ _ _ h lies (u .result) (u .ensures) good (c .before .before .before .before .before .before .before .before .before .before .if2 .left) _ named _ refl _ (c .before .before .before .before .code .ensures)
-    (sym (c .before .same-code .ensures) ∙ not-false (c .before .same-code .result) (c .if3 .left))
+    let u = c .before .before .before .before .before .before .before .before .before .before .unseal in
+    let good = not-false (u .result .good) (c .before .before .before .before .before .before .before .before .if1 .left) in
+    vouched _ _ _ h lies (u .result) (u .ensures) good (c .before .before .before .before .if2 .left)
+    (sym (c .before .signs .ensures _ _ value reply h lies named) ∙ not-false (c .before .signs .result) (c .if3 .left))
 
 pub vouch-spec : {M : Type 1} → statement M
 vouch-spec =
-    tie.close (tie.spec (λ c. search needs) (λ c. search needs) part-unseal-end slice-aggregate-unseal (λ c. search needs) (λ c. search needs)
-    part-unseal-end-2 unseal-requires returns returns-2 (λ c. search needs) code-requires add-end (λ c. search needs) (λ c. search needs)
-    part-same-code-end (λ c κs. search needs) returns-3 returns-4)
+    tie.close (tie.spec (λ c. search needs) (λ c. search needs) (λ c. search needs) slice-aggregate-unseal (λ c. search needs) (λ c. search needs)
+    (λ c. search needs) unseal-requires returns returns-2 (λ c. search needs) (λ c κs. search needs) returns-3 returns-4)
