@@ -10,7 +10,7 @@ import subprocess
 import sys
 
 WORD = 8
-CALLS = ["gate_setup", "gate_judge", "gate_judge_one", "gate_end", "gate_index"]
+CALLS = ["gate_setup", "gate_judge", "gate_judge_one", "gate_fits", "gate_end", "gate_index"]
 
 
 def number(text):

@@ -20,6 +20,7 @@ use orders::Numbers;
 use stages::reading;
 use stages::settling;
 use stages::settling::Decision;
+use stages::vouching;
 use table::session;
 use window::time::Time;
 
@@ -81,16 +82,15 @@ pub fn decide<'a>(
     }
     let request = read.request;
     let covered = read.covered;
+    let opened = vouching::unseal(clock, server_key, request, &fields);
     let place = lookup::find(table, index, &fields[182..194]);
     let held = session::held_at(table, place);
-    settling::settle(
+    let vouched = vouching::vouch(
         numbers,
         extra,
-        clock,
-        server_key,
+        opened,
         request,
         &fields,
-        entry.limits,
         method,
         head,
         aside,
@@ -98,9 +98,10 @@ pub fn decide<'a>(
         &in_aside[..covered],
         path,
         body,
-        place,
-        held,
-    )
+    );
+    let token = opened.token;
+    let limits = entry.limits;
+    settling::settle(numbers, clock, vouched, token, request, limits, place, held)
 }
 
 // Whether a number frees the session's record and tells the client.

@@ -19,6 +19,7 @@ use orders::Numbers;
 use stages::reading;
 use stages::settling;
 use stages::settling::Decision;
+use stages::vouching;
 use table::place::Place;
 use table::rule;
 use table::session;
@@ -127,15 +128,14 @@ fn decide<'a>(
     }
     let request = read.request;
     let covered = read.covered;
+    let opened = vouching::unseal(clock, server_key, request, &fields);
     let place = place_of(record, &fields[182..194]);
-    settling::settle(
+    let vouched = vouching::vouch(
         numbers,
         extra,
-        clock,
-        server_key,
+        opened,
         request,
         &fields,
-        entry.limits,
         method,
         head,
         aside,
@@ -143,6 +143,16 @@ fn decide<'a>(
         &in_aside[..covered],
         path,
         body,
+    );
+    let token = opened.token;
+    let limits = entry.limits;
+    settling::settle(
+        numbers,
+        clock,
+        vouched,
+        token,
+        request,
+        limits,
         place,
         record,
     )

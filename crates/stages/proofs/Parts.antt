@@ -21,6 +21,10 @@ pub reading-thirteen : (q : Request) → lacks 13 (readingPart q) ≡ true
 unfolding readingPart coveringPart
 reading-thirteen q = refl
 
+pub token-numbered : (q : Request) → numbered (tokenPart q) ≡ true
+unfolding tokenPart
+token-numbered q = refl
+
 pub vouching-numbered : (q : Request) → numbered (vouchingPart q) ≡ true
 unfolding tokenPart signaturePart
 vouching-numbered q = refl

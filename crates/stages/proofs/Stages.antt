@@ -11,7 +11,7 @@ use lib.Dec.{eqb}
 use lib.ListN.{take}
 use Rattle.cells.specs.Runs.{part, cut, same}
 use Rattle.hashes.specs.declared.Hash.{Hash}
-use Rattle.hashes.specs.Hashes.{hashMask}
+use Rattle.hashes.specs.Hashes.{hashMask, named}
 use Rattle.hmac.specs.Hmac.{hmacOf}
 use Rattle.armor.specs.declared.Answer.{Answer}
 use Rattle.armor.specs.declared.Request.{Request as ArmorRequest}
@@ -32,16 +32,16 @@ use Rattle.window.specs.declared.Verdict.{Verdict}
 use Rattle.window.specs.declared.Verdict.the-variants.{Accepted, TooOld, Seen}
 use Rattle.window.specs.Time.{exceeds, mostAhead}
 use Rattle.window.specs.Window.{numberOf, stepOf}
-use Rattle.stages.specs.declared.vouching.Vouched.{Vouched}
+use Rattle.stages.specs.declared.vouching.Opened.{Opened}
 use Rattle.stages.specs.declared.admitting.Admitted.{Admitted}
 use Rattle.stages.specs.declared.settling.Decision.{Decision}
 use Rattle.stages.specs.Request.{Request}
 use Rattle.stages.specs.Checks.{first, missing, nowhere}
 use Rattle.table.specs.Session.{placeOf, heldAt}
 use Rattle.stages.specs.Parts.{fieldsOf, ivOf, hashOf, nonceOf, timeOf, lastTimeOf, signatureOf, openedOf, tokenOf, limits, textOf, codeUnder, codeOf, ordered, keepsHash, stepped, nextOf, tokenPart, signaturePart, vouchingPart, sessionPart, noncePart, admittingPart}
-use Rattle.stages.specs.InnerStages.{tells, decisionOf, About, Vouches, StandsAt, Admits, Settles}
+use Rattle.stages.specs.InnerStages.{tells, decisionOf, About, Opens, StandsAt, Admits, Settles}
 use Rattle.stages.proofs.Checks.{passed-by, stopped-by}
-use Rattle.stages.proofs.Parts.{vouching-numbered}
+use Rattle.stages.proofs.Parts.{token-numbered, vouching-numbered}
 
 -- what reading a value says of its grammar and its fields
 pub grammar-broken : (v : List ℕ) → requestAnswer v ≡ Answer.Grammar → missing (grammar v) ≡ true
@@ -86,14 +86,14 @@ fields-told v right e = record { grammar = there (grammar v) right e; fields = r
     rightly none b z = absurd (clash b (sym (ap answerNumber z)))
     rightly (some fs) b z = same-side (requestFields fs) b (ap answerNumber z)
 
--- what the token and the signature come to, of a request that was read and whose token was unsealed
+-- what the token comes to, of a request that was read and whose token was unsealed
 module _ (q : Request) (r : ArmorRequest) (run : List ℕ) (h : Holds (q .value) (carried (q .value)) r) (lies : Lies (carried (q .value)) r run) (u : Unsealed)
     (told : Unseals (openedToken (q .server-key) (part run 182 12) (take (r .«s_len») run) (part run 194 16)) u) where
   opens : Unseals (openedOf q) u
   unfolding openedOf ivOf fieldsOf
   opens = rw (← (lies .token), ← (lies .vector), ← (lies .tag)) told
 
-  pub unopened : u .good ≡ false → Vouches q (record { number = 9; token = u })
+  pub unopened : u .good ≡ false → Opens q (record { number = 9; token = u })
   unfolding tokenPart
   unopened z = record { is = simp (sym (opens .is) ∙ z); holds = λ n. absurd (n refl) }
 
@@ -102,21 +102,20 @@ module _ (q : Request) (r : ArmorRequest) (run : List ℕ) (h : Holds (q .value)
     unfolding tokenOf
     held = opens .holds good
 
-    pub lapsed : u .expiry .0 ≤ q .clock → Vouches q (record { number = 10; token = u })
+    pub lapsed : u .expiry .0 ≤ q .clock → Opens q (record { number = 10; token = u })
     unfolding tokenPart
     lapsed late =
         record { is = simp (sym (opens .is) ∙ good, ← (held .expiry), le-leb (u .expiry .0) (q .clock) late); holds = λ z. held }
 
-    module _ (lasts : q .clock < u .expiry .0) where
-      compared : first (vouchingPart q) ≡ cond (not (same (signatureOf q) (codeUnder (u .key) q))) 11 0
-      unfolding tokenPart signaturePart codeOf
-      compared = simp (sym (opens .is) ∙ good, ← (held .expiry), lt-leb (u .expiry .0) (q .clock) lasts, ← (held .key))
+    pub lasting : q .clock < u .expiry .0 → Opens q (record { number = 0; token = u })
+    unfolding tokenPart
+    lasting early =
+        record { is = simp (sym (opens .is) ∙ good, ← (held .expiry), lt-leb (u .expiry .0) (q .clock) early); holds = λ z. held }
 
-      pub unsigned : same (signatureOf q) (codeUnder (u .key) q) ≡ false → Vouches q (record { number = 11; token = u })
-      unsigned z = record { is = sym (compared ∙ simp z); holds = λ n. held }
-
-      pub vouched : same (signatureOf q) (codeUnder (u .key) q) ≡ true → Vouches q (record { number = 0; token = u })
-      vouched z = record { is = sym (compared ∙ simp z); holds = λ n. held }
+-- the hash that a request's h names
+pub read-hash : (q : Request) {r : ArmorRequest} {hash : Hash} → Holds (q .value) (carried (q .value)) r → hash ≡ named (r .h) → hashOf q ≡ hash
+unfolding hashOf fieldsOf
+read-hash q h e = rw (← (h .hash)) (sym e)
 
 -- the signature where it lies, held against the code that was made
 pub signed-by : (q : Request) (r : ArmorRequest) (run : List ℕ) → Holds (q .value) (carried (q .value)) r → Lies (carried (q .value)) r run
@@ -177,23 +176,41 @@ about-token : (token : Token) (u : Unsealed) (number : ℕ) (place : Place) (has
 about-token token u number place hash nonces next h =
     record { key = h .key; id = h .id; id-size = h .id-size; id-fits = h .id-fits; hash = refl }
 
-module _ (q : Request) (table : List ℕ) (place : Place) (held : Record) (s : StandsAt q table place held) (v : Vouched) (h : Vouches q v) (d : Decision) where
+-- what the token and the signature come to, of a token that was opened
+module _ (q : Request) (o : Opened) (h : Opens q o) where
+  pub opened-away : (o .number ≡ 0 → ⊥) → o .number ≡ first (vouchingPart q)
+  opened-away z = h .is ∙ sym (stopped-by (tokenPart q) (signaturePart q) (token-numbered q) (λ p. z (h .is ∙ p)))
+
+  pub vouched-by : (signed : Bool) → o .number ≡ 0 → signed ≡ same (signatureOf q) (codeUnder (o .token .key) q)
+      → cond (not signed) 11 0 ≡ first (vouchingPart q)
+  unfolding signaturePart codeOf
+  vouched-by signed z is =
+      let token = h .holds (λ n. omega arith) in
+      sym (passed-by (tokenPart q) (signaturePart q) (token-numbered q) (sym (h .is) ∙ z) ∙ simp (← (token .key), ← is))
+
+  -- the token is there unless the number is 9
+  pub token-there : (v : ℕ) → v ≡ first (vouchingPart q) → (v ≡ 9 → ⊥) → IsToken (tokenOf q) (o .token)
+  token-there v is other =
+      h .holds (λ nine. other (is ∙ stopped-by (tokenPart q) (signaturePart q) (token-numbered q) (λ z. omega (arith, h .is)) ∙ sym (h .is) ∙ nine))
+
+module _ (q : Request) (table : List ℕ) (place : Place) (held : Record) (s : StandsAt q table place held) (v : ℕ) (token : Unsealed)
+    (is : v ≡ first (vouchingPart q)) (holds : (v ≡ 9 → ⊥) → IsToken (tokenOf q) token) (d : Decision) where
   -- a request that the token or the signature does not vouch for
-  pub settled-away : (v .number ≡ 0 → ⊥) → d ≡ decisionOf (v .number) place (v .token) (hashOf q) false held → Settles q table d
+  pub settled-away : (v ≡ 0 → ⊥) → d ≡ decisionOf v place token (hashOf q) false held → Settles q table d
   settled-away z e = subst (Settles q table) (sym e) (record {
-    is = h .is ∙ sym (stopped-by (vouchingPart q) (admittingPart q table) (vouching-numbered q) (λ o. z (h .is ∙ o)));
-    knows = λ t. about-token _ (v .token) (v .number) place (hashOf q) false held (h .holds (tells-nine (v .number) t));
+    is = is ∙ sym (stopped-by (vouchingPart q) (admittingPart q table) (vouching-numbered q) (λ o. z (is ∙ o)));
+    knows = λ t. about-token _ token v place (hashOf q) false held (holds (tells-nine v t));
     at = sym (s .at);
     orders = λ n. absurd (z n);
     next = λ n o. absurd (z n);
   })
 
   -- one that they vouch for is as its session admits it
-  pub settled-here : (a : Admitted) → v .number ≡ 0 → Admits q table a → d ≡ decisionOf (a .number) place (v .token) (hashOf q) (ordered q) (a .next)
+  pub settled-here : (a : Admitted) → v ≡ 0 → Admits q table a → d ≡ decisionOf (a .number) place token (hashOf q) (ordered q) (a .next)
       → Settles q table d
   settled-here a z g e = subst (Settles q table) (sym e) (record {
-    is = g .is ∙ sym (passed-by (vouchingPart q) (admittingPart q table) (vouching-numbered q) (sym (h .is) ∙ z));
-    knows = λ t. about-token _ (v .token) (a .number) place (hashOf q) (ordered q) (a .next) (h .holds (λ n. omega arith));
+    is = g .is ∙ sym (passed-by (vouchingPart q) (admittingPart q table) (vouching-numbered q) (sym is ∙ z));
+    knows = λ t. about-token _ token (a .number) place (hashOf q) (ordered q) (a .next) (holds (λ n. omega arith));
     at = sym (s .at);
     orders = λ n. refl;
     next = g .next;

@@ -14,7 +14,8 @@ use Rattle.armor.specs.InnerAnswers.{Holds, Lies}
 use Rattle.armor.specs.declared.Request.{Request as ArmorRequest}
 use Rattle.names.specs.Covered.{coveredNames}
 use Rattle.lines.specs.InnerNotes.{NotesOn}
-use Rattle.orders.specs.Orders.{Orders, limitsOf}
+use Rattle.orders.specs.Orders.{Orders, orders}
+use Rattle.orders.specs.declared.Numbers.{Numbers}
 use Rattle.orders.specs.declared.Limits.{Limits}
 use Rattle.token.specs.Token.{Token}
 use Rattle.token.specs.InnerHeld.{IsToken}
@@ -23,13 +24,13 @@ use Rattle.table.specs.declared.session.Record.{Record}
 use Rattle.table.specs.declared.place.Place.{Place}
 use Rattle.stages.specs.declared.reading.Compared.{Compared}
 use Rattle.stages.specs.declared.reading.Reading.{Reading}
-use Rattle.stages.specs.declared.vouching.Vouched.{Vouched}
+use Rattle.stages.specs.declared.vouching.Opened.{Opened}
 use Rattle.stages.specs.declared.admitting.Admitted.{Admitted}
 use Rattle.stages.specs.declared.settling.Decision.{Decision}
 use Rattle.stages.specs.Request.{Request, requestOf}
 use Rattle.stages.specs.Checks.{first, nowhere}
 use Rattle.table.specs.Session.{placeOf, heldAt}
-use Rattle.stages.specs.Parts.{ivOf, hashOf, nonceOf, timeOf, lastTimeOf, signatureOf, codeUnder, tokenOf, limits, ordered, nextOf, coveringPart, readingPart, vouchingPart, admittingPart, invalidates}
+use Rattle.stages.specs.Parts.{ivOf, hashOf, nonceOf, timeOf, lastTimeOf, signatureOf, codeUnder, tokenOf, limits, ordered, nextOf, coveringPart, readingPart, tokenPart, vouchingPart, admittingPart, invalidates}
 
 -- notes on the covered names, as many as there are names
 pub record CoveredNotes (o : Orders) (head aside in-head in-aside : List ℕ) (count : ℕ) : Type 0 where
@@ -56,6 +57,17 @@ abbrev pub ReadIs : Orders → List ℕ → List ℕ → List ℕ → List ℕ �
 ReadIs o value method head aside run in-head in-aside r =
     (clock : ℕ) (server-key path body reply : List ℕ) → Reads (requestOf o clock server-key value method head aside path body reply) run in-head in-aside r
 
+-- 9 and 10: the number, and the token unless it is 9
+pub record Opens (q : Request) (r : Opened) : Type 0 where
+  pub is : r .number ≡ first (tokenPart q)
+  pub holds : (r .number ≡ 9 → ⊥) → IsToken (tokenOf q) (r .token)
+
+abbrev pub UnsealIs : ℕ → List ℕ → ArmorRequest → List ℕ → Opened → Type 0
+UnsealIs clock server-key request run r =
+    (o : Orders) (value method head aside path body reply : List ℕ)
+    → let q = requestOf o clock server-key value method head aside path body reply in
+    Holds value (carried value) request → Lies (carried value) request run → Opens q r
+
 -- 11: whether a session key has signed it
 abbrev pub SignIs : Orders → List ℕ → ArmorRequest → List ℕ → Hash → List ℕ → List ℕ → List ℕ → List ℕ → List ℕ → Bool → Type 0
 SignIs o key request run hash method head aside path body r =
@@ -63,16 +75,12 @@ SignIs o key request run hash method head aside path body r =
     → let q = requestOf o clock server-key value method head aside path body reply in
     Holds value (carried value) request → Lies (carried value) request run → hashOf q ≡ hash → r ≡ same (signatureOf q) (codeUnder key q)
 
--- 9 to 11: the number, and the token unless it is 9
-pub record Vouches (q : Request) (r : Vouched) : Type 0 where
-  pub is : r .number ≡ first (vouchingPart q)
-  pub holds : (r .number ≡ 9 → ⊥) → IsToken (tokenOf q) (r .token)
-
-abbrev pub VouchIs : Orders → ℕ → List ℕ → ArmorRequest → List ℕ → Hash → List ℕ → List ℕ → List ℕ → List ℕ → List ℕ → Vouched → Type 0
-VouchIs o clock server-key request run hash method head aside path body r =
-    (value reply : List ℕ)
+-- 9 to 11, of a token that was opened
+abbrev pub VouchIs : Orders → Opened → ArmorRequest → List ℕ → List ℕ → List ℕ → List ℕ → List ℕ → List ℕ → ℕ → Type 0
+VouchIs o opened request run method head aside path body r =
+    (clock : ℕ) (server-key value reply : List ℕ)
     → let q = requestOf o clock server-key value method head aside path body reply in
-    Holds value (carried value) request → Lies (carried value) request run → hashOf q ≡ hash → Vouches q r
+    Holds value (carried value) request → Lies (carried value) request run → Opens q opened → r ≡ first (vouchingPart q)
 
 -- from 12 on: the number, and where it is 0 and nonces are ordered the next record
 pub record Admits (q : Request) (table : List ℕ) (r : Admitted) : Type 0 where
@@ -130,8 +138,10 @@ pub record Settles (q : Request) (table : List ℕ) (d : Decision) : Type 0 wher
   pub orders : d .number ≡ 0 → d .nonces ≡ ordered q
   pub next : d .number ≡ 0 → ordered q ≡ true → d .next ≡ nextOf q table
 
-abbrev pub SettleIs : Orders → ℕ → List ℕ → ArmorRequest → List ℕ → Limits → List ℕ → List ℕ → List ℕ → List ℕ → List ℕ → Place → Record → Decision → Type 0
-SettleIs o clock server-key request run within method head aside path body place held d =
-    (value reply table : List ℕ)
-    → let q = requestOf o clock server-key value method head aside path body reply in
-    Holds value (carried value) request → Lies (carried value) request run → within ≡ limitsOf o → StandsAt q table place held → Settles q table d
+-- of any request that was vouched for by this number and has this token
+abbrev pub SettleIs : Numbers → ℕ → ℕ → Unsealed → ArmorRequest → Limits → Place → Record → Decision → Type 0
+SettleIs numbers clock vouched token request within place held d =
+    (extra server-key value method head aside path body reply table : List ℕ)
+    → let q = requestOf (orders numbers extra) clock server-key value method head aside path body reply in
+    Holds value (carried value) request → vouched ≡ first (vouchingPart q) → ((vouched ≡ 9 → ⊥) → IsToken (tokenOf q) token)
+    → within ≡ limits q → StandsAt q table place held → Settles q table d

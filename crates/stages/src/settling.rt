@@ -1,16 +1,8 @@
-// What becomes of a request that was read, over the record of its session: the checks from 9 on.
+// What becomes of a request that was read and vouched for, over the record of its session.
 ghost use mathlib.Core.Path.{_≡_};
-ghost use mathlib.Core.Bool.{true};
-ghost use Prim.Native.Nat.{_≤_};
-ghost use lib.ListN.{length};
-ghost use Rattle.names.specs.Extra.{goodExtra};
-ghost use Rattle.names.specs.Covered.{coveredNames};
-ghost use Rattle.lines.specs.InnerNotes.{NotesOn};
-ghost use Rattle.orders.specs.Orders.{orders};
 ghost use Rattle.table.specs.declared.place.Place.the-variants.{Nowhere};
 ghost use Rattle.stages.specs.InnerStages.{SettleIs, decisionOf};
 use super::admitting;
-use super::vouching;
 use armor::Request;
 use hashes::Hash;
 use orders::Limits;
@@ -33,47 +25,21 @@ pub struct Decision {
     pub next: Record,
 }
 
-pub fn settle<'a>(
+pub fn settle(
     numbers: Numbers,
-    extra: &[u8],
     clock: Time,
-    server_key: &[u8],
+    vouched: u32,
+    token: Unsealed,
     request: Request,
-    fields: &[u8],
     limits: Limits,
-    method: &[u8],
-    head: &'a [u8],
-    aside: &'a [u8],
-    in_head: &[u16],
-    in_aside: &[u16],
-    path: &[u8],
-    body: &[u8],
     place: Place,
     held: Record,
 ) -> Decision
-    requires { ⌜ (goodExtra (now extra) ≡ true) × (length (now «server_key») ≡ 32) × (request .«s_len» ≤ 118) × (request .«c_len» ≤ 64) × (length (now fields) ≡ 210) × (length (now method) ≤ 16) × (length (now head) ≤ 16384) × (length (now aside) ≤ 16384) × (length (now path) ≤ 2048) × (length (now body) ≤ 65536) × NotesOn (coveredNames (numbers .mask) (now extra)) (now head) (now aside) (now «in_head») (now «in_aside») ⌝ }
-    ensures { λ r. ⌜ SettleIs (orders numbers (now (extra .entry))) (clock .0) (now («server_key» .entry)) request (now (fields .entry)) limits (now (method .entry)) (now (head .entry)) (now (aside .entry)) (now (path .entry)) (now (body .entry)) place held r ⌝ }
+    ensures { λ r. ⌜ SettleIs numbers (clock .0) vouched token request limits place held r ⌝ }
 {
     let hash = hashes::named(request.h);
-    let vouched = vouching::vouch(
-        numbers,
-        extra,
-        clock,
-        server_key,
-        request,
-        fields,
-        hash,
-        method,
-        head,
-        aside,
-        in_head,
-        in_aside,
-        path,
-        body,
-    );
-    let token = vouched.token;
-    if vouched.number != 0 {
-        return decided(vouched.number, place, token, hash, false, held);
+    if vouched != 0 {
+        return decided(vouched, place, token, hash, false, held);
     }
     let t = request.t;
     let lt = request.lt;
