@@ -7,6 +7,7 @@ import base64
 import pathlib
 import re
 
+import agreement
 import calls
 import client
 import hashing
@@ -23,6 +24,7 @@ SIZES = (
     ("IV", model.IV, model.IV),
     ("session id", 1, model.MOST_SESSION_ID),
     ("X-S-Armor value", 0, model.MOST_VALUE),
+    ("setup reply, to try a client by", 0, model.MOST_SETUP_REPLY),
     ("method", 1, model.MOST_METHOD),
     ("head, set-aside lines, each", 0, model.MOST_LINES),
     ("path", 1, model.MOST_PATH),
@@ -52,6 +54,9 @@ LIMITS = (
     ("idle", model.DEFAULT_IDLE),
     ("session life", model.DEFAULT_SESSION_LIFE),
 )
+
+# As check-client's own help has them
+STATUSES = "Exit status: 0 for fit, 1 for a rule broken, 2 for files that cannot be read or are no request."
 
 
 # The page
@@ -163,10 +168,17 @@ def phrases():
     yield "`00 02 00 00 FF FF FF FF`", rec.fitting_index([OTHER, rec.FREE, OWN, rec.FREE]).hex(" ") == "00 02 00 00 ff ff ff ff"
     yield "10 and 13 leave the index that fits", [left.index for left in freeing] == [rec.index_for(left.table) for left in freeing]
     yield "where the answer was 10 or 13", all(left.table == bytes(rec.SIZE) for left in freeing)
+    yield f"a session key of {model.KEY} bytes", True
+    yield "At 0 the request fits", outcome(DEALER.trial).number == 0
+    yield "past 11 and past 8 against the session's record", not {8, 11} & {*agreement.CARRIED_PAST}
+    yield "but for 8 where", at_edge("the same, wrongly signed, tried") == 8 and at_edge("the same, wrongly signed") == 11
+    yield "may still get 10, 12, 13, 14, 15, 16 or 21", {10, 12, *agreement.CARRIED_PAST} == {0, 10, 12, 13, 14, 15, 16, 21}
+    yield "0 for fit, 1 for a rule broken, 2 for files that cannot be read or are no request", STATUSES in (ROOT / "tools/check-client/main.c").read_text()
     yield "for 1, 2, 3, 22, 4 to 12, then for 8 against the session's record, then for 13, 14, 21, 15 and 16", "1, 2, 3, 22, 4 to 12, 8 against the record, 13, 14, 21, 15, 16" in model.judge.__doc__
     yield "for 1, 2, 3, 22, 4, 5, 19, 20, 17 and 18 in this order", "Checks 1, 2, 3, 22, 4, 5, 19, 20, 17, 18" in model.setup.__doc__
     yield "an ending for 1, 3, 22 and 12", "1, 3, 22, 12" in model.end.__doc__
     yield "the making of an index for 1 and 3", "Checks 1, 3;" in model.make_index.__doc__
+    yield "tried for 1, 23, 4 to 8 and 11", "Checks 1, 23, 4 to 8, 11, in this order" in model.fits.__doc__
     yield "the bytes 00 to 1f", setup["server_key"] == bytes(range(0x20))
     yield "the session key 20 to 3f", setup["session_key"] == bytes(range(0x20, 0x40))
     yield "the IV 40 to 4b", setup["iv"] == bytes(range(0x40, 0x4C))

@@ -15,7 +15,7 @@ use Rattle.orders.proofs.Orders.{life-default, life-named}
 use Rattle.window.specs.Time.{exceeds, mostAhead}
 use Rattle.window.proofs.Times.{exceeds-sum, within, ahead}
 use Rattle.gate.specs.State.{State}
-use Rattle.gate.specs.Sizes.{lentFits, requestFits}
+use Rattle.gate.specs.Sizes.{broughtFits, lentFits, requestFits}
 use Rattle.stages.specs.Request.{Request}
 use Rattle.stages.specs.Checks.{Check, first}
 use Rattle.stages.specs.Parts.{hashOf, keepsHash, fieldsOf, ivOf, nonceOf, timeOf, lastTimeOf, signatureOf, openedOf, tokenOf, limits, textOf, codeOf, twice, readingPart, coveringPart, tokenPart, signaturePart, vouchingPart, sessionPart, noncePart, admittingPart}
@@ -39,7 +39,7 @@ module _ (q : Request) (state : State) (others : PassesOthers q state) (clock : 
       rw (past 9, lt-leb (tokenOf q .expiry) clock lasts, past 11) refl
 
   decided : (rest : List Check) → first (entryPart later state ++ (readingPart later ++ (vouchingPart later ++ rest))) ≡ first rest
-  unfolding entryPart requestFits lentFits readingPart coveringPart twice fieldsOf
+  unfolding entryPart requestFits lentFits broughtFits readingPart coveringPart twice fieldsOf
   decided rest = vouched-decides later state rest (parts q state others .entry) (parts q state others .reading) vouched
 
   -- what the session says, by whether the request is too old and whether it is too far ahead

@@ -26,7 +26,7 @@ use Rattle.gcm.specs.Gcm.{sealed}
 use Rattle.gcm.proofs.Opening.{length-crypted, length-tag}
 use Rattle.gcm.proofs.SealedBytes.{bytes-crypted, bytes-tag}
 use Rattle.armor.specs.Numerals.{numberBytes, maskBytes, maskOf}
-use Rattle.armor.specs.Keys.{obeys, keys, rankOf, keyNumber, ruleAt, ruleOf, keyC, keyT, keyLt, keyN, keyH, keyIv}
+use Rattle.armor.specs.Keys.{obeys, keys, rankOf, keyNumber, ruleAt, ruleOf, keyS, keyC, keyT, keyLt, keyN, keyH, keyIv, keyTag}
 use Rattle.armor.specs.Value.{Field, field, joined, textsOf, grammar}
 use Rattle.armor.specs.Fields.{contents, times, the, rightTimes, nonceBit, requestFields}
 use Rattle.armor.proofs.Numerals.{number-numberBytes, maskOf-maskBytes}
@@ -64,7 +64,7 @@ use Rattle.stages.proofs.Checks.{passed-by}
 use Rattle.stages.proofs.Parts.{session-numbered}
 use Rattle.gate.specs.Calls.{Setup}
 use Rattle.gate.specs.State.{State}
-use Rattle.gate.specs.Sizes.{exactly, setupFits, tableFits, stateFits, lentFits, requestFits}
+use Rattle.gate.specs.Sizes.{exactly, setupFits, tableFits, stateFits, broughtFits, lentFits, requestFits}
 use Rattle.gate.specs.Entry.{stateChecks, entryChecks}
 use Rattle.gate.specs.Setup.{offered, chosenOf, expiryOf, setupChecks, newToken, sealedOf, replyOf, setUp}
 use Rattle.gate.specs.Judge.{entryPart, requestChecks, judged}
@@ -218,6 +218,14 @@ module _ (s : Setup) (state : State) (done : first (setupChecks s state) ≡ 0) 
     unfolding ivOf clientFields the contents keyNumber rankOf keys codes same
     iv-is = ap (the keyIv) fields-are
 
+    cipher-is : the keyS (fieldsOf q) ≡ sealedOf s .cipher
+    unfolding clientFields the contents keyNumber rankOf keys codes same
+    cipher-is = ap (the keyS) fields-are
+
+    tag-is : the keyTag (fieldsOf q) ≡ sealedOf s .tag
+    unfolding clientFields the contents keyNumber rankOf keys codes same
+    tag-is = ap (the keyTag) fields-are
+
     opens : openedOf q ≡ some (newToken s)
     unfolding openedOf clientRequest clientFields sealedOf the contents keyNumber rankOf keys codes same
     opens = rw (iv-is, fields-are) (opened-token (s .server-key) (s .iv) (newToken s) (fits-so (newToken s) token-size))
@@ -309,7 +317,7 @@ module _ (s : Setup) (state : State) (done : first (setupChecks s state) ≡ 0) 
     method-some = ltb-true 0 (length (m .method)) (both (ltb 0 (length (m .method))) _ (fair .method-good) .0)
 
     fits : requestFits q after ≡ true
-    unfolding requestFits lentFits clientRequest
+    unfolding requestFits lentFits broughtFits clientRequest
     fits =
         rw (
           eq-eqb (length (s .server-key)) 32 (size .server-key),
@@ -411,9 +419,11 @@ pub client-nonce : (s : Setup) (state : State) (m : Message) (clock : ℕ) (repl
     → Fair s m clock reply → ordersNonce (s .orders .numbers .mask) ≡ true → nonceOf (clientRequest s m clock reply) ≡ m .nonce
 client-nonce s state m clock reply lent-bytes e fair = nonce-is s state (sym (setUp-number s state) ∙ e) lent-bytes m clock reply fair
 
--- it has its session's hash, and the session that the setup left keeps it
+-- it has the reply's token and its session's hash, and the session that the setup left keeps it
 pub record Bears (s : Setup) (q : Request) (after : State) : Type 0 where
+  pub token : the keyS (fieldsOf q) ≡ sealedOf s .cipher
   pub iv : ivOf q ≡ s .iv
+  pub tag : the keyTag (fieldsOf q) ≡ sealedOf s .tag
   pub hash : hashOf q ≡ chosenOf s
   pub place : ℕ
   pub at : placeOf (after .table) (s .iv) ≡ At place
@@ -425,7 +435,9 @@ client-bears s state m clock reply lent-bytes e fair =
     let done = sym (setUp-number s state) ∙ e in
     let iv = iv-is s state done lent-bytes m clock reply fair in
     record {
+      token = cipher-is s state done lent-bytes m clock reply fair;
       iv = iv;
+      tag = tag-is s state done lent-bytes m clock reply fair;
       hash = hash-is s state done lent-bytes m clock reply fair;
       place = takes s state done lent-bytes .place;
       at = ap (placeOf (setUp s state .state .table)) (sym iv) ∙ found-new s state done lent-bytes m clock reply fair;

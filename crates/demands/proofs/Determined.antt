@@ -1,6 +1,6 @@
 -- Document 01, 'How far each contract reaches': 'Every public function has a contract that determines result, reply buffer and table for all
 -- inputs, refusals too; that any two results allowed by it are equal is proved'. Here for the calls that are exported to C, gate_setup,
--- gate_judge, gate_end, gate_index and gate_judge_one, and for the primitives: over everything that can be lent to a call, two results that its contract
+-- gate_judge, gate_end, gate_index, gate_judge_one and gate_fits, and for the primitives: over everything that can be lent to a call, two results that its contract
 -- allows are one; the state is the table and its index (document 02, K7). docs/CONTRACTS.md goes through the functions that are not exported: most have an equation for a contract, which leaves no choice.
 -- Assumes nothing.
 use mathlib.Core.Path.{_≡_, sym, ap, _∙_}
@@ -18,6 +18,7 @@ use Rattle.gate.specs.Setup.{setUp}
 use Rattle.gate.specs.Judge.{judged}
 use Rattle.gate.specs.End.{ended}
 use Rattle.gate.specs.Remake.{remade}
+use Rattle.gate.specs.Trial.{Trial, tried}
 use Rattle.primitives.specs.Answer.{Answer, answer}
 use Rattle.primitives.specs.Digests.{digestCall, hmacCall}
 use Rattle.primitives.specs.Sealing.{SealAnswer, sealAnswer, sealCall, openCall}
@@ -93,6 +94,10 @@ judge-one-determined request before a b f g p q =
     read : (r : OneResult) → Fits (r .session) → r ≡ one (whole r)
     read r f =
         ap (λ (s : Record). record { answer = r .answer; reply = r .reply; session = s }) (sym (recordOf-bytes (r .session) f))
+
+-- gate_fits is lent nothing that it could write to
+pub fits-determined : (t : Trial) (a b : ℕ) → a ≡ tried t → b ≡ tried t → a ≡ b
+fits-determined t a b p q = p ∙ sym q
 
 -- what a primitive leaves, its number and its buffer, is an answer; sealing leaves two buffers
 pub digest-determined : (h : Hash) (text out : List ℕ) (a b : Answer)

@@ -50,7 +50,7 @@ use Rattle.gate.specs.Calls.{Setup, setupOf}
 use Rattle.stages.specs.Request.{Request, requestOf}
 use Rattle.stages.specs.Checks.{first}
 use Rattle.gate.specs.State.{State, holding, indexed}
-use Rattle.gate.specs.Sizes.{tableFits, stateFits, setupFits, lentFits, requestFits, endFits}
+use Rattle.gate.specs.Sizes.{tableFits, stateFits, setupFits, broughtFits, lentFits, requestFits, endFits}
 use Rattle.gate.specs.Entry.{stateChecks, entryChecks}
 use Rattle.gate.specs.Setup as S
 use Rattle.gate.specs.Setup.{offered, chosenOf, expiryOf, offerPart, lastingPart, roomPart, setupChecks, setUp}
@@ -219,7 +219,7 @@ pub record RequestWitnesses : Type 0 where
   pub nine : judged (sending 2 fields []) (empty 1) .number ≡ 9
 
 pub request-witnesses : RequestWitnesses
-unfolding judged answered requestChecks entryPart readingPart coveringPart tokenPart signaturePart sessionPart noncePart entryChecks stateChecks requestFits lentFits stateFits tableFits Index.indexOf Index.rankedTo Index.among Index.precedes Index.coded ordersGood goodExtra extraNames goodNames wellFormed fitting sound same records recordOf recordBytes number codes Value.grammar Value.fieldsIn Value.fieldOf Value.pieceGood Value.textObeys Value.carried Pieces.pieces Pieces.upTo Pieces.after decoded full two one ending coded sixBits placeIn alphabet counted obeys ruleOf ruleAt keyNumber rankOf keys isMask isNumeral isNumber plain requestFields rightTimes times contents nonceBit the maskOf fieldsOf goodBlock linesIn linesUpTo startsLine frontLine lineText textOf goodLine valueByte isToken tokenByte hasByte all leading twice repeated valuesIn isList listNames hasName sameName lower coveredNames chosen headerNames asOrdered allowedOne named maskBytes numberBytes shortest bytesOf openedOf ivOf
+unfolding judged answered requestChecks entryPart readingPart coveringPart tokenPart signaturePart sessionPart noncePart entryChecks stateChecks requestFits lentFits broughtFits stateFits tableFits Index.indexOf Index.rankedTo Index.among Index.precedes Index.coded ordersGood goodExtra extraNames goodNames wellFormed fitting sound same records recordOf recordBytes number codes Value.grammar Value.fieldsIn Value.fieldOf Value.pieceGood Value.textObeys Value.carried Pieces.pieces Pieces.upTo Pieces.after decoded full two one ending coded sixBits placeIn alphabet counted obeys ruleOf ruleAt keyNumber rankOf keys isMask isNumeral isNumber plain requestFields rightTimes times contents nonceBit the maskOf fieldsOf goodBlock linesIn linesUpTo startsLine frontLine lineText textOf goodLine valueByte isToken tokenByte hasByte all leading twice repeated valuesIn isList listNames hasName sameName lower coveredNames chosen headerNames asOrdered allowedOne named maskBytes numberBytes shortest bytesOf openedOf ivOf
 request-witnesses = record {
   one = refl;
   no-method = refl;

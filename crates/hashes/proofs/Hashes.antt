@@ -44,6 +44,26 @@ unfolding allowedOne
 allowed-mask Sha256 hashes e = rw e
 allowed-mask Sha512 hashes e = e
 
+-- where a hash is allowed, orders that allow it alone allow its mask and no other of theirs
+pub allowed-alone : (h : Hash) (hashes m : ℕ) → has h hashes ≡ true → allowedOne (hashMask h) m ≡ (allowedOne hashes m && eqb m (hashMask h))
+unfolding allowedOne
+allowed-alone Sha256 hashes m e = rw e (by (eqb m 1) (eqb m 4) (has Sha512 hashes))
+  where
+    by : (a b y : Bool) → ((a && true) || (b && false)) ≡ (((a && true) || (b && y)) && a)
+    by true b y = refl
+    by false true true = refl
+    by false true false = refl
+    by false false y = refl
+allowed-alone Sha512 hashes m e = rw e (by (eqb m 1) (eqb m 4) (has Sha256 hashes))
+  where
+    by : (a b x : Bool) → ((a && false) || (b && true)) ≡ (((a && x) || (b && true)) && b)
+    by true true true = refl
+    by true true false = refl
+    by true false true = refl
+    by true false false = refl
+    by false true x = refl
+    by false false x = refl
+
 -- the chosen hash is one that both sides have, and no longer one is
 pub chosen-common : (offered hashes : ℕ) → inCommon offered hashes ≡ true
     → (has (chosen offered hashes) offered ≡ true) × (has (chosen offered hashes) hashes ≡ true)

@@ -25,6 +25,10 @@ pub token-numbered : (q : Request) → numbered (tokenPart q) ≡ true
 unfolding tokenPart
 token-numbered q = refl
 
+pub signature-numbered : (q : Request) → numbered (signaturePart q) ≡ true
+unfolding signaturePart
+signature-numbered q = refl
+
 pub vouching-numbered : (q : Request) → numbered (vouchingPart q) ≡ true
 unfolding tokenPart signaturePart
 vouching-numbered q = refl

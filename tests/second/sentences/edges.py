@@ -10,7 +10,22 @@ import hashing
 import model
 import record as rec
 from sentences.lists import lines
-from sentences.placing import CLOCK, HIGHEST, IV, ORDERS, at, covering, lent, ordered, replaced, request_call, setup_call, signing
+from sentences.placing import (
+    CLOCK,
+    HIGHEST,
+    IV,
+    ORDERS,
+    at,
+    covering,
+    lent,
+    ordered,
+    replaced,
+    replied,
+    request_call,
+    setup_call,
+    signing,
+    telling,
+)
 
 
 def cases():
@@ -61,9 +76,14 @@ def with_code(size):
     return request_call(at("signed", lambda draft: draft.set_field(b"c", bytes(size))))
 
 
-def talked_down(*alterations):
+def talked_down(*alterations, **planned):
     """Rightly signed under SHA-256, in a session of SHA-512."""
-    return request_call(replaced("plan", "hash", hashing.SHA_256), *alterations)
+    return request_call(replaced("plan", "hash", hashing.SHA_256), *alterations, **planned)
+
+
+def tried(*alterations, **planned):
+    """Held to the setup reply of its session."""
+    return request_call(*alterations, kind="fits", **planned)
 
 
 def changed(method):
@@ -96,6 +116,8 @@ ONLY_512 = ordered(3, hashes=hashing.SHA_512)
 
 OWN, OTHER = (rec.fresh(iv, HIGHEST) for iv in (IV, IV[::-1]))
 
+FORGED = replaced("lent", "body", b"belts=12")
+
 HOST = b"Host:a\r\n"
 TWO = lines(b"a", b"b")
 THREE = lines(b"a", b"", b"b")
@@ -118,6 +140,7 @@ EDGES = (
     ("a request under SHA-256 in a session of SHA-256", request_call(hash=hashing.SHA_256), 0),
     ("a request under SHA-256 in a session of SHA-512", talked_down(), 8),
     ("the same at the token's expiry", talked_down(replaced("plan", "expiry", CLOCK)), 10),
+    ("the same, wrongly signed", talked_down(FORGED), 11),
     ("a request in a session of SHA-256 where the orders allow SHA-512 alone", request_call(hash=hashing.SHA_256, orders=ONLY_512), 8),
     ("a code of 32 bytes under SHA-512", with_code(32), 8),
     ("a code of 48 bytes", with_code(48), 4),
@@ -161,7 +184,7 @@ EDGES = (
     ("a method with a space in it", request_call(method=b"GE T"), 6),
     ("a `POST` that was changed to `DELETE` on the way", changed(b"DELETE"), 11),
     ("a `POST` that was changed to `post` on the way", changed(b"post"), 11),
-    ("a body that was altered on the way", request_call(replaced("lent", "body", b"belts=12"), body=b"belts=11"), 11),
+    ("a body that was altered on the way", request_call(FORGED, body=b"belts=11"), 11),
     ("a setup with `r:AQQ=`, SHA-512", setup_call(value=b"r:AQQ="), 0),
     ("a setup with `r:AQQ=;`", setup_call(value=b"r:AQQ=;"), 0),
     ("a setup with `r:AQE=`, SHA-256", setup_call(value=b"r:AQE="), 0),
@@ -177,6 +200,19 @@ EDGES = (
     ("an index of `FF` alone, and a used record", lent(request_call(), [OWN], b"\xff\xff"), 22),
     ("such an index at the token's expiry", lent(lasting(CLOCK), [OWN], b"\xff\xff"), 22),
     ("two used records with one IV, and any index", lent(request_call(), [OWN, OWN], b"\xff\xff\xff\xff"), 3),
+    ("a request made a year ago, tried", tried(t=CLOCK - 31_536_000), 0),
+    ("a request whose token has expired, tried", tried(replaced("plan", "expiry", CLOCK)), 0),
+    ("a request whose nonce was taken, tried", tried(at("plan", lambda draft: draft.window(100, 1)), n=100), 0),
+    ("a request signed with `/stock` for the path `/stock?part=belt`, tried", tried(replaced("lent", "path", b"/stock?part=belt"), path=b"/stock"), 11),
+    ("a request under SHA-256, tried by a reply with SHA-512", talked_down(kind="fits"), 8),
+    ("the same, wrongly signed, tried", talked_down(FORGED, kind="fits"), 8),
+    ("a request tried by a reply with another `iv`", tried(telling(b"iv", IV[::-1])), 8),
+    ("by a reply with another `kh`", tried(telling(b"kh", bytes(model.KEY))), 11),
+    ("by a reply with `h:AQU=`, both hashes", tried(telling(b"h", client.encoded_mask(hashing.BOTH))), 23),
+    ("by a reply whose fields stand in another order", tried(replied(lambda reply: b";".join(reversed(reply.split(b";"))))), 23),
+    ("by a reply with one closing `;`", tried(replied(lambda reply: reply + b";")), 23),
+    ("by an empty reply", tried(replied(lambda reply: b"")), 23),
+    ("by one of 460 bytes", tried(replied(lambda reply: reply.ljust(460))), 1),
 )
 
 

@@ -220,6 +220,16 @@ def freed_apart(note, freeing, number):
 # Trials of clients
 
 
+def replied(change):
+    """Another reply than the session's."""
+    return at("setup reply", lambda draft: setattr(draft, "setup_reply", change(draft.setup_reply)))
+
+
+def telling(key, contents):
+    """A reply that has other contents under a key."""
+    return at("told", lambda draft: draft.tell(key, contents))
+
+
 def judged_and_tried(note, number, tried_as, call):
     """A request of the one session by gate_judge and by gate_fits, and whether the two agree (document 02, K11)."""
     judged = calls.answered(call, bytes([REPLY[1]]) * REPLY[0])

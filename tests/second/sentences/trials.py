@@ -25,8 +25,10 @@ from sentences.placing import (
     judged_and_tried,
     ordered,
     replaced,
+    replied,
     request_call,
     signing,
+    telling,
 )
 
 KEYS = (b"s", b"iv", b"tag", b"kh", b"h", b"ah", b"eah")
@@ -41,19 +43,9 @@ def tried(note, number, *alterations, **planned):
     return given, note, request_call(*alterations, kind="fits", **planned), number
 
 
-def replied(change):
-    """Another reply than the session's."""
-    return at("setup reply", lambda draft: setattr(draft, "setup_reply", change(draft.setup_reply)))
-
-
 def told(change):
     """A reply of other pieces."""
     return at("told", lambda draft: setattr(draft, "told", change(draft.told)))
-
-
-def telling(key, contents):
-    """A reply that has other contents under a key."""
-    return at("told", lambda draft: draft.tell(key, contents))
 
 
 def with_text(key, text):
