@@ -15,7 +15,9 @@ ghost use Rattle.gate.specs.Remake.{remade};
 ghost use Rattle.gate.specs.Trial.{trialOf, tried};
 use index::change;
 use index::lookup;
+use orders::Checked;
 use orders::Numbers;
+use reply::reading;
 use setup::Start;
 use table::place::Place;
 use table::rule;
@@ -236,5 +238,37 @@ pub extern "C" fn gate_fits<'a>(
 ) -> u32
     ensures { λ r. ⌜ r ≡ tried (trialOf (now («setup_reply» .entry)) (now (value .entry)) (now (method .entry)) (now (head .entry)) (now (aside .entry)) (now (path .entry)) (now (body .entry))) ⌝ }
 {
-    trying::number(setup_reply, value, method, head, aside, path, body)
+    if !sizes::trial_fits(setup_reply, value, method, head, aside, path, body) {
+        return 1;
+    }
+    let heard = reading::read(setup_reply);
+    if !heard.good {
+        return 23;
+    }
+    let reply = heard.reply;
+    let eah = reply.eah;
+    let eah_len = reply.eah_len;
+    let numbers = Numbers {
+        mask: reply.ah,
+        hashes: reply.h,
+        request_life: 0,
+        idle: 0,
+        session_life: 0,
+    };
+    let known = names::known();
+    let Checked::Good(_) = orders::check(&known, numbers, &eah[..eah_len]) else {
+        return 23;
+    };
+    trying::against(
+        &known,
+        numbers,
+        &eah[..eah_len],
+        reply,
+        value,
+        method,
+        head,
+        aside,
+        path,
+        body,
+    )
 }

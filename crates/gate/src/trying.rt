@@ -1,4 +1,4 @@
-// Trying a client: a request held against the reply to its setup, by the stages that judge a request.
+// A request held against the reply to a setup, by the stages that judge a request.
 ghost use mathlib.Core.Path.{_≡_};
 ghost use mathlib.Core.Bool.{true};
 ghost use Prim.Native.Nat.{_≤_};
@@ -6,64 +6,15 @@ ghost use lib.ListN.{length};
 ghost use Rattle.names.specs.Extra.{goodExtra};
 ghost use Rattle.names.specs.InnerWalk.{Known};
 ghost use Rattle.orders.specs.Orders.{orders};
-ghost use Rattle.gate.specs.Trial.{trialOf, tried};
 ghost use Rattle.gate.specs.InnerTrials.{SameTokenIs, AgainstIs};
-use super::sizes;
 use armor::Reply;
 use armor::Request;
-use orders::Checked;
 use orders::Numbers;
 use stages::reading;
 use stages::vouching;
 
-pub fn number<'a>(
-    setup_reply: &[u8],
-    value: &[u8],
-    method: &[u8],
-    head: &'a [u8],
-    aside: &'a [u8],
-    path: &[u8],
-    body: &[u8],
-) -> u32
-    ensures { λ r. ⌜ r ≡ tried (trialOf (now («setup_reply» .entry)) (now (value .entry)) (now (method .entry)) (now (head .entry)) (now (aside .entry)) (now (path .entry)) (now (body .entry))) ⌝ }
-{
-    if !sizes::trial_fits(setup_reply, value, method, head, aside, path, body) {
-        return 1;
-    }
-    let heard = reply::reading::read(setup_reply);
-    if !heard.good {
-        return 23;
-    }
-    let reply = heard.reply;
-    let eah = reply.eah;
-    let eah_len = reply.eah_len;
-    let numbers = Numbers {
-        mask: reply.ah,
-        hashes: reply.h,
-        request_life: 0,
-        idle: 0,
-        session_life: 0,
-    };
-    let known = names::known();
-    let Checked::Good(_) = orders::check(&known, numbers, &eah[..eah_len]) else {
-        return 23;
-    };
-    against(
-        &known,
-        numbers,
-        &eah[..eah_len],
-        reply,
-        value,
-        method,
-        head,
-        aside,
-        path,
-        body,
-    )
-}
-
 // Checks 4 to 8 and 11, by the orders and the key of a reply.
-fn against<'a>(
+pub fn against<'a>(
     known: &[u8],
     numbers: Numbers,
     extra: &[u8],

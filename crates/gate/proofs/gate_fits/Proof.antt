@@ -1,4 +1,4 @@
--- `trying::number` meets its contract: sizes, the reply, the orders that it tells, and the request against them.
+-- `gate_fits` meets its contract: sizes, the reply, the orders that it tells, and the request against them.
 -- Assumes nothing.
 use mathlib.Core.Path.{_≡_, sym, _∙_}
 use mathlib.Core.Bool.{true}
@@ -15,8 +15,8 @@ use Rattle.orders.proofs.Orders.{checked-good, checked-bad, good-extra}
 use Rattle.reply.specs.LaidOut.{laidOut}
 use Rattle.gate.specs.Trial.{Trial, trialOf, granted, ordersIn, requestIn, trialFits, replyPart, trialChecks, tried}
 use Rattle.gate.proofs.Trials.{tried-sizes}
-use Rattle.gate.proofs.trying.number.Statement.{statement}
-use Rattle.gate.proofs.trying.number.Tie as tie
+use Rattle.gate.proofs.gate_fits.Statement.{statement}
+use Rattle.gate.proofs.gate_fits.Tie as tie
 
 abbrev asked : tie.Start → Trial
 asked c =
@@ -71,8 +71,8 @@ returns-4 c =
     let read = c .before .before .before .before .before .before .before .before .before .before .before in
     sym (simp (fits (read .before .before .before), laid read, orders-told read, good (c .before .before .before)) (sym (c .against .ensures _ (holds read) (orders-told read))))
 
-pub number-spec : {M : Type 1} → statement M
-number-spec =
+pub gate-fits-spec : {M : Type 1} → statement M
+gate-fits-spec =
     tie.close (tie.spec (λ c κs. search needs) returns read-requires returns-2 (λ c κs. search needs) (λ c. search needs)
     (λ c. extra-room (holds (c .before .before .before .before))) (λ c. sym (length-take-le _ _ (extra-room (holds (c .before .before .before .before .before))))) (λ c κs. search needs) (λ c. search needs) (λ c. search needs)
     returns-3 (λ c. search needs) (λ c. extra-room (holds (c .before .before .before .before .before .before .before .before .before))) (λ c. sym (length-take-le _ _ (extra-room (holds (c .before .before .before .before .before .before .before .before .before .before))))) against-requires returns-4)
