@@ -2,6 +2,7 @@
 -- a request can be met after every setup that is answered 0, with no cipher computed.
 -- Assumes nothing.
 pub mod Fields
+pub mod Replies
 use mathlib.Core.Path.{_≡_, refl, sym, ap, _∙_}
 use mathlib.Core.Bool.{Bool, true, false, cond, and-false}
 use mathlib.Core.List.{List, [], _∷_, _++_}
@@ -22,19 +23,15 @@ use Rattle.hashes.specs.declared.Hash.{Hash}
 use Rattle.hashes.specs.Hashes.{hashMask, digestSize, named}
 use Rattle.hashes.proofs.Hashes.{mask-named, mask-small, allowed-mask, chosen-common}
 use Rattle.hmac.proofs.Output.{length-hmac, bytes-hmac}
-use Rattle.gcm.specs.Gcm.{sealed}
-use Rattle.gcm.proofs.Opening.{length-crypted, length-tag}
-use Rattle.gcm.proofs.SealedBytes.{bytes-crypted, bytes-tag}
 use Rattle.armor.specs.Numerals.{numberBytes, maskBytes, maskOf}
-use Rattle.armor.specs.Keys.{obeys, keys, rankOf, keyNumber, ruleAt, ruleOf, keyS, keyC, keyT, keyLt, keyN, keyH, keyIv, keyTag}
-use Rattle.armor.specs.Value.{Field, field, joined, textsOf, grammar}
+use Rattle.armor.specs.Keys.{keys, rankOf, keyNumber, ruleAt, ruleOf, keyS, keyC, keyT, keyLt, keyN, keyH, keyIv, keyTag}
+use Rattle.armor.specs.Value.{Field, joined, textsOf, grammar}
 use Rattle.armor.specs.Fields.{contents, times, the, rightTimes, nonceBit, requestFields}
 use Rattle.armor.proofs.Numerals.{number-numberBytes, maskOf-maskBytes}
 use Rattle.armor.proofs.Scan.{carried-is}
 use Rattle.coverage.specs.Coverage.{extraAsOrdered, asOrdered}
 use Rattle.names.specs.Names.{isToken}
-use Rattle.names.proofs.Sizes.{short-extra}
-use Rattle.orders.proofs.Orders.{good-mask, good-extra}
+use Rattle.orders.proofs.Orders.{good-mask}
 use Rattle.window.specs.declared.Verdict.the-variants.{Accepted}
 use Rattle.window.specs.Time.{exceeds, mostAhead}
 use Rattle.window.specs.Window.{stepOf}
@@ -53,10 +50,10 @@ use Rattle.table.proofs.Stored.{stored-here, stored-well, alone-new}
 use Rattle.table.proofs.Sessions.{begun-sound, begun-fits}
 use Rattle.signed.specs.SignedText as Signed
 use Rattle.signed.specs.SignedText.{ordersNonce, signedOf, requestText}
-use Rattle.token.specs.Token.{Token, tokenText, sealedToken, theToken}
-use Rattle.token.proofs.Text.{Sized, length-text, bytes-text}
+use Rattle.token.specs.Token.{Token, theToken}
+use Rattle.token.proofs.Text.{Sized}
 use Rattle.token.proofs.Exactly.{fits-so, opened-token}
-use Rattle.reply.specs.Replies.{orderFields, replyFields, setupReply}
+use Rattle.reply.specs.Replies.{orderFields, replyFields}
 use Rattle.stages.specs.Request.{Request}
 use Rattle.stages.specs.Checks.{first}
 use Rattle.stages.specs.Parts.{fieldsOf, ivOf, hashOf, keepsHash, nonceOf, timeOf, lastTimeOf, signatureOf, openedOf, tokenOf, limits, textOf, codeOf, twice, ordered, stepped, readingPart, coveringPart, tokenPart, signaturePart, vouchingPart, sessionPart, noncePart, admittingPart}
@@ -80,7 +77,8 @@ use Rattle.index.proofs.Held.{length-indexOf}
 use Rattle.demands.proofs.Shared.Answers.{setUp-number, setUp-table, setUp-index, begun-table, judged-number}
 use Rattle.demands.proofs.Shared.Passed.{Takes, setup-takes}
 use Rattle.demands.proofs.Untouched.Setups.{token-sized}
-use Rattle.demands.proofs.Client.Fields.{plain, Good, AllGood, read-back, joined-short, numeral-good, sized-good, exact-good, code-good, nonce-good, both-good, orders-good}
+use Rattle.demands.proofs.Client.Fields.{plain, AllGood, read-back, joined-short, numeral-good, code-good, nonce-good, both-good}
+use Rattle.demands.proofs.Client.Replies.{reply-good, text-read, setup-writes}
 
 -- what its fields hold, with n or without and with eah or without
 record Reads (o : Bool) (n : ℕ) (run : List ℕ) (fs : List Field) : Type 0 where
@@ -110,39 +108,18 @@ module _ (s : Setup) (state : State) (done : first (setupChecks s state) ≡ 0) 
   token-size : Sized (newToken s .key) (newToken s .id) (newToken s .expiry)
   token-size = token-sized s state size (takes .small)
 
-  token-good : Good (field (codes "s") (sealedOf s .cipher))
-  unfolding sealedOf newToken sealedToken sealed plain codes all ruleOf ruleAt keyNumber rankOf keys same
-  token-good =
-      let text = length-text (newToken s) token-size in
-      let long = length-crypted (s .server-key) (s .iv) (tokenText (newToken s)) in
-      sized-good (codes "s") _ 1 118 refl refl (omega arith) (omega arith) (omega (arith, long, text .0)) (omega (arith, long, text .1))
-      (bytes-crypted (s .server-key) (s .iv) (tokenText (newToken s)) (lent-bytes .server-key)
-      (bytes-text (newToken s) (lent-bytes .session-key) (lent-bytes .session-id)))
-
-  iv-good : Good (field (codes "iv") (s .iv))
-  unfolding plain codes all ruleOf ruleAt keyNumber rankOf keys same
-  iv-good = exact-good (codes "iv") (s .iv) 12 refl refl (omega arith) (omega arith) (size .iv) (lent-bytes .iv)
-
-  tag-good : Good (field (codes "tag") (sealedOf s .tag))
-  unfolding sealedOf sealedToken sealed plain codes all ruleOf ruleAt keyNumber rankOf keys same
-  tag-good =
-      exact-good (codes "tag") _ 16 refl refl (omega arith) (omega arith) (length-tag (s .server-key) (s .iv) [] (sealedOf s .cipher))
-      (bytes-tag (s .server-key) (s .iv) [] (sealedOf s .cipher) (lent-bytes .server-key))
-
   abbrev hash : Hash
   hash = chosenOf s
 
-  ordering : AllGood (orderFields hash mask extra)
-  ordering =
-      orders-good hash mask extra (good-mask (s .orders) (entered .orders)) (short-extra extra (good-extra (s .orders) (entered .orders))) (lent-bytes .extra)
+  -- the reply's fields keep their keys' rules
+  good : AllGood (replyFields (sealedOf s .cipher) (s .iv) (sealedOf s .tag) (s .session-key) hash mask extra)
+  unfolding setup-writes
+  good = reply-good (replyOf s) (setup-writes s state done lent-bytes (replyOf s) refl)
 
-  -- the reply is read back
+  -- and are read back
   reply-fields : grammar (replyOf s) ≡ some (replyFields (sealedOf s .cipher) (s .iv) (sealedOf s .tag) (s .session-key) hash mask extra)
-  unfolding replyOf setupReply replyFields plain codes all ruleOf ruleAt keyNumber rankOf keys same obeys
-  reply-fields =
-      let key-good : Good (field (codes "kh") (s .session-key)) =
-      record { named = refl; held = omega (arith, size .session-key); short = omega (arith, size .session-key); of-bytes = lent-bytes .session-key; keeps = refl } in
-      read-back _ _ (token-good, (iv-good, (tag-good, (key-good, ordering))))
+  unfolding setup-writes
+  reply-fields = text-read (replyOf s) (setup-writes s state done lent-bytes (replyOf s) refl)
 
   -- a message from it
   module _ (m : Message) (clock : ℕ) (reply : List ℕ) (fair : Fair s m clock reply) where
@@ -150,13 +127,13 @@ module _ (s : Setup) (state : State) (done : first (setupChecks s state) ≡ 0) 
     q = clientRequest s m clock reply
 
     fields-good : AllGood (clientFields s m)
-    unfolding clientFields clientCode plain codes all ruleOf ruleAt keyNumber rankOf keys same
+    unfolding clientFields clientCode replyFields plain codes all ruleOf ruleAt keyNumber rankOf keys same
     fields-good =
         let code = code-good hash (clientCode s m) (length-hmac hash (s .session-key) (clientText s m)) (bytes-hmac hash (s .session-key) (clientText s m)) in
         let time = numeral-good (codes "t") (m .time) refl refl (fair .time-fits) in
         let last = numeral-good (codes "lt") (m .last-time) refl refl (fair .last-time-fits) in
-        let later = both-good (orderFields hash mask extra) _ ordering (nonce-good (ordersNonce mask) (m .nonce) (fair .nonce-fits)) in
-        (token-good, (code, (time, (last, (iv-good, (tag-good, later))))))
+        let later = both-good (orderFields hash mask extra) _ (good .1 .1 .1 .1) (nonce-good (ordersNonce mask) (m .nonce) (fair .nonce-fits)) in
+        (good .0, (code, (time, (last, (good .1 .0, (good .1 .1 .0, later))))))
 
     -- its value is read back
     kept : grammar (q .value) ≡ some (clientFields s m)

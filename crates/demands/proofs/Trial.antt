@@ -18,9 +18,6 @@ use Rattle.cells.proofs.Tests.{tested, both}
 use Rattle.hashes.specs.declared.Hash.{Hash}
 use Rattle.hashes.specs.Hashes.{hashMask, digestSize, has, named, allowedOne}
 use Rattle.hashes.proofs.Hashes.{mask-named, named-mask, allowed-names, allowed-alone, chosen-common}
-use Rattle.gcm.specs.Gcm.{sealed}
-use Rattle.gcm.proofs.Opening.{length-crypted, length-tag}
-use Rattle.gcm.proofs.SealedBytes.{bytes-crypted, bytes-tag}
 use Rattle.armor.specs.Numerals.{maskBytes, maskOf}
 use Rattle.armor.specs.Keys.{keyH, keyAh, keyC, keyS, keyIv}
 use Rattle.armor.specs.Value.{grammar, carried}
@@ -31,8 +28,8 @@ use Rattle.names.specs.Covered.{coveredNames}
 use Rattle.lines.specs.Lines.{linesIn, goodBlock}
 use Rattle.lines.specs.Values.{repeated}
 use Rattle.orders.specs.Orders.{Orders, ordersOf, ordersGood}
-use Rattle.token.specs.Token.{tokenText, sealedToken, theToken}
-use Rattle.token.proofs.Text.{Sized, length-text, bytes-text}
+use Rattle.token.specs.Token.{theToken}
+use Rattle.token.proofs.Text.{Sized}
 use Rattle.token.proofs.Exactly.{fits-so, opened-token}
 use Rattle.reply.specs.LaidOut.{laidOut}
 use Rattle.table.specs.declared.session.Record.{Record}
@@ -57,6 +54,7 @@ use Rattle.demands.proofs.Shared.Passed.{Takes, setup-takes}
 use Rattle.demands.proofs.Shared.Others.{parts}
 use Rattle.demands.proofs.Untouched.Setups.{token-sized}
 use Rattle.demands.proofs.Client.{client-passes, client-bears}
+use Rattle.demands.proofs.Client.Replies.{setup-writes}
 use Rattle.demands.proofs.Trial.Replies.{Holds, holds, orders-told, orders-pass, laid, some-setup, reply-short}
 
 -- a trial whose reply some setup writes is decided by the request
@@ -138,37 +136,10 @@ module _ (s : Setup) (before : State) (t : Trial) (clock : ℕ) (reply : List �
 
   -- the reply is one that a setup writes
   written : SetupReply (t .setup-reply)
-  unfolding replyOf sealedOf newToken sealedToken sealed
-  written =
-      let text = length-text (newToken s) token-size in
-      let long = length-crypted (s .server-key) (s .iv) (tokenText (newToken s)) in
-      record {
-        s = sealedOf s .cipher;
-        iv = s .iv;
-        tag = sealedOf s .tag;
-        key = s .session-key;
-        hash = hash;
-        orders = s .orders;
-        is = g .wrote;
-        good = entered .orders;
-        allowed = allowed;
-        s-some = omega (arith, long, text .0);
-        s-fits = omega (arith, long, text .1);
-        iv-fits = size .iv;
-        tag-fits = length-tag (s .server-key) (s .iv) [] (sealedOf s .cipher);
-        key-fits = size .session-key;
-        of-bytes = (
-          bytes-crypted (s .server-key) (s .iv) (tokenText (newToken s)) (g .lent-bytes .server-key)
-              (bytes-text (newToken s) (g .lent-bytes .session-key) (g .lent-bytes .session-id)),
-          g .lent-bytes .iv,
-          bytes-tag (s .server-key) (s .iv) [] (sealedOf s .cipher) (g .lent-bytes .server-key),
-          g .lent-bytes .session-key,
-          g .lent-bytes .extra,
-        );
-      }
+  written = setup-writes s before done (g .lent-bytes) (t .setup-reply) (g .wrote)
 
   told : Holds (granted t) (sealedOf s .cipher) (s .iv) (sealedOf s .tag) (s .session-key) hash mask extra
-  unfolding written sealedOf chosenOf
+  unfolding written setup-writes
   told = holds t written
 
   -- the sizes fit
@@ -184,7 +155,7 @@ module _ (s : Setup) (before : State) (t : Trial) (clock : ℕ) (reply : List �
   q' = requestOf (ordersOf mask (hashMask hash) extra 0 0 0) 0 [] (t .value) (t .method) (t .head) (t .aside) (t .path) (t .body) []
 
   request-is : requestIn t ≡ q'
-  unfolding requestIn written chosenOf
+  unfolding requestIn written setup-writes
   request-is = ap (λ (o : Orders). requestOf o 0 [] (t .value) (t .method) (t .head) (t .aside) (t .path) (t .body) []) (orders-told t written)
 
   -- the token that it brought opens

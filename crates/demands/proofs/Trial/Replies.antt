@@ -4,13 +4,12 @@ use mathlib.Core.Path.{_≡_, refl, sym, ap, subst, _∙_}
 use mathlib.Core.Bool.{true, false, true≢false}
 use mathlib.Core.List.{List, [], _∷_}
 use mathlib.Core.Option.{Option, none, some, Option·getD}
-use Prim.Native.Nat.{ℕ, _<_, _≤_, _^_}
+use Prim.Native.Nat.{ℕ, _≤_, _^_}
 use native.Mathlib.Omega.{arith}
 use borrow.Author.Tests.{eqb-true, eq-eqb, le-leb, lt-ltb}
 use lib.Dec.{eqb}
 use lib.ListN.{length}
 use Rattle.cells.specs.Runs.{Bytes, same}
-use Rattle.cells.specs.Spans.{all}
 use Rattle.cells.specs.Text.{codes}
 use Rattle.cells.proofs.Equality.{same-self, same-equal}
 use Rattle.cells.proofs.Tests.{tested, both}
@@ -19,8 +18,8 @@ use Rattle.hashes.specs.declared.Hash.the-variants.{Sha256, Sha512}
 use Rattle.hashes.specs.Hashes.{hashMask, has, named, goodAllowed}
 use Rattle.hashes.proofs.Hashes.{mask-named, mask-small}
 use Rattle.armor.specs.Numerals.{maskBytes, maskOf}
-use Rattle.armor.specs.Keys.{keys, rankOf, keyNumber, ruleAt, ruleOf, obeys, keyH, keyAh, keyS, keyIv, keyTag, keyEah, otherKey}
-use Rattle.armor.specs.Value.{Field, field, grammar, carried}
+use Rattle.armor.specs.Keys.{keys, rankOf, keyNumber, keyH, keyAh, keyS, keyIv, keyTag, keyEah, otherKey}
+use Rattle.armor.specs.Value.{Field, grammar, carried}
 use Rattle.armor.specs.Fields.{contents, times, the, replyTimes, replyHolds}
 use Rattle.armor.specs.InnerScan.{ReplySizes}
 use Rattle.armor.proofs.Numerals.{maskOf-maskBytes}
@@ -31,12 +30,12 @@ use Rattle.armor.proofs.Replies.{held, sizes}
 use Rattle.names.proofs.Sizes.{short-extra}
 use Rattle.orders.specs.Orders.{ordersOf, ordersGood}
 use Rattle.orders.proofs.Orders.{good-mask, good-hashes, good-extra}
-use Rattle.reply.specs.Replies.{replyFields, setupReply}
+use Rattle.reply.specs.Replies.{replyFields}
 use Rattle.reply.specs.LaidOut.{replyWith, laidOut}
 use Rattle.reply.proofs.Lengths.{setup-short}
 use Rattle.gate.specs.Trial.{Trial, granted, ordersIn}
 use Rattle.demands.specs.Trial.{SetupReply}
-use Rattle.demands.proofs.Client.Fields.{plain, Good, AllGood, read-back, sized-good, exact-good, orders-good}
+use Rattle.demands.proofs.Client.Replies.{text-read}
 
 -- what the fields of a reply hold, with eah or without
 pub record Holds (fs : List Field) (s iv tag key : List ℕ) (hash : Hash) (mask : ℕ) (extra : List ℕ) : Type 0 where
@@ -64,31 +63,10 @@ module _ (t : Trial) (r : SetupReply (t .setup-reply)) where
   abbrev extra : List ℕ
   extra = r .orders .extra
 
-  small : mask < 2 ^ 56
-  small = good-mask (r .orders) (r .good)
-
-  short : length extra ≤ 128
-  short = short-extra extra (good-extra (r .orders) (r .good))
-
-  all-good : AllGood (replyFields (r .s) (r .iv) (r .tag) (r .key) (r .hash) mask extra)
-  unfolding replyFields plain codes all ruleOf ruleAt keyNumber rankOf keys same obeys
-  all-good =
-      let key-good : Good (field (codes "kh") (r .key)) =
-      record { named = refl; held = omega (arith, r .key-fits); short = omega (arith, r .key-fits); of-bytes = r .of-bytes .3; keeps = refl } in (
-        sized-good (codes "s") (r .s) 1 118 refl refl (omega arith) (omega arith) (r .s-some) (r .s-fits) (r .of-bytes .0),
-        (
-          exact-good (codes "iv") (r .iv) 12 refl refl (omega arith) (omega arith) (r .iv-fits) (r .of-bytes .1),
-          (
-            exact-good (codes "tag") (r .tag) 16 refl refl (omega arith) (omega arith) (r .tag-fits) (r .of-bytes .2),
-            (key-good, orders-good (r .hash) mask extra small short (r .of-bytes .4)),
-          ),
-        ),
-      )
-
   -- is read back
   fields-are : granted t ≡ replyFields (r .s) (r .iv) (r .tag) (r .key) (r .hash) mask extra
-  unfolding granted setupReply replyFields
-  fields-are = carried-is (t .setup-reply) _ (ap grammar (r .is) ∙ read-back _ _ all-good)
+  unfolding granted
+  fields-are = carried-is (t .setup-reply) _ (text-read (t .setup-reply) r)
 
   pub holds : Holds (granted t) (r .s) (r .iv) (r .tag) (r .key) (r .hash) mask extra
   holds =
@@ -99,7 +77,7 @@ module _ (t : Trial) (r : SetupReply (t .setup-reply)) where
   hash-read = maskOf-maskBytes (hashMask (r .hash)) (omega (arith, mask-small (r .hash)))
 
   mask-read : maskOf (maskBytes mask) ≡ mask
-  mask-read = maskOf-maskBytes mask (omega (arith, small))
+  mask-read = maskOf-maskBytes mask (omega (arith, good-mask (r .orders) (r .good)))
 
   -- tells its orders
   pub orders-told : ordersIn t ≡ ordersOf mask (hashMask (r .hash)) extra 0 0 0
@@ -112,7 +90,7 @@ module _ (t : Trial) (r : SetupReply (t .setup-reply)) where
 
   pub orders-pass : ordersGood (ordersIn t) ≡ true
   unfolding ordersGood
-  orders-pass = rw (orders-told, lt-ltb mask (2 ^ 56) small, alone (r .hash), good-extra (r .orders) (r .good)) refl
+  orders-pass = rw (orders-told, lt-ltb mask (2 ^ 56) (good-mask (r .orders) (r .good)), alone (r .hash), good-extra (r .orders) (r .good)) refl
 
   -- and is laid out so
   pub laid : laidOut (t .setup-reply) ≡ true
@@ -131,7 +109,7 @@ module _ (t : Trial) (r : SetupReply (t .setup-reply)) where
         mask-read,
         mask-named (r .hash),
         eq-eqb (length (r .key)) 32 (r .key-fits),
-        le-leb (length extra) 128 short,
+        le-leb (length extra) 128 (short-extra extra (good-extra (r .orders) (r .good))),
       ) (ap (same (t .setup-reply)) (sym (r .is)) ∙ same-self (t .setup-reply))
 
 -- a text that is laid out so carries something
