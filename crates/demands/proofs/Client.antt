@@ -51,8 +51,6 @@ use Rattle.table.proofs.Sessions.{begun-sound, begun-fits}
 use Rattle.signed.specs.SignedText as Signed
 use Rattle.signed.specs.SignedText.{ordersNonce, signedOf, requestText}
 use Rattle.token.specs.Token.{Token, theToken}
-use Rattle.token.proofs.Text.{Sized}
-use Rattle.token.proofs.Exactly.{fits-so, opened-token}
 use Rattle.reply.specs.Replies.{orderFields, replyFields}
 use Rattle.stages.specs.Request.{Request}
 use Rattle.stages.specs.Checks.{first}
@@ -76,9 +74,8 @@ use Rattle.index.specs.Index.{indexOf}
 use Rattle.index.proofs.Held.{length-indexOf}
 use Rattle.demands.proofs.Shared.Answers.{setUp-number, setUp-table, setUp-index, begun-table, judged-number}
 use Rattle.demands.proofs.Shared.Passed.{Takes, setup-takes}
-use Rattle.demands.proofs.Untouched.Setups.{token-sized}
 use Rattle.demands.proofs.Client.Fields.{plain, AllGood, read-back, joined-short, numeral-good, code-good, nonce-good, both-good}
-use Rattle.demands.proofs.Client.Replies.{reply-good, text-read, setup-writes}
+use Rattle.demands.proofs.Client.Replies.{reply-good, text-read, setup-writes, setup-opens}
 
 -- what its fields hold, with n or without and with eah or without
 record Reads (o : Bool) (n : ℕ) (run : List ℕ) (fs : List Field) : Type 0 where
@@ -104,9 +101,6 @@ module _ (s : Setup) (state : State) (done : first (setupChecks s state) ≡ 0) 
 
   takes : Takes s state
   takes = setup-takes s state done
-
-  token-size : Sized (newToken s .key) (newToken s .id) (newToken s .expiry)
-  token-size = token-sized s state size (takes .small)
 
   abbrev hash : Hash
   hash = chosenOf s
@@ -204,8 +198,8 @@ module _ (s : Setup) (state : State) (done : first (setupChecks s state) ≡ 0) 
     tag-is = ap (the keyTag) fields-are
 
     opens : openedOf q ≡ some (newToken s)
-    unfolding openedOf clientRequest clientFields sealedOf the contents keyNumber rankOf keys codes same
-    opens = rw (iv-is, fields-are) (opened-token (s .server-key) (s .iv) (newToken s) (fits-so (newToken s) token-size))
+    unfolding openedOf clientRequest
+    opens = rw (iv-is, cipher-is, tag-is) (setup-opens s state done)
 
     token-is : tokenOf q ≡ newToken s
     unfolding tokenOf

@@ -17,7 +17,7 @@ use Rattle.cells.proofs.Equality.{same-self, same-equal}
 use Rattle.cells.proofs.Tests.{tested, both}
 use Rattle.hashes.specs.declared.Hash.{Hash}
 use Rattle.hashes.specs.Hashes.{hashMask, digestSize, has, named, allowedOne}
-use Rattle.hashes.proofs.Hashes.{mask-named, named-mask, allowed-names, allowed-alone, chosen-common}
+use Rattle.hashes.proofs.Hashes.{mask-named, named-mask, allowed-names, allowed-alone}
 use Rattle.armor.specs.Numerals.{maskBytes, maskOf}
 use Rattle.armor.specs.Keys.{keyH, keyAh, keyC, keyS, keyIv}
 use Rattle.armor.specs.Value.{grammar, carried}
@@ -29,8 +29,6 @@ use Rattle.lines.specs.Lines.{linesIn, goodBlock}
 use Rattle.lines.specs.Values.{repeated}
 use Rattle.orders.specs.Orders.{Orders, ordersOf, ordersGood}
 use Rattle.token.specs.Token.{theToken}
-use Rattle.token.proofs.Text.{Sized}
-use Rattle.token.proofs.Exactly.{fits-so, opened-token}
 use Rattle.reply.specs.LaidOut.{laidOut}
 use Rattle.table.specs.declared.session.Record.{Record}
 use Rattle.table.specs.Session.{placeOf, heldAt}
@@ -41,20 +39,17 @@ use Rattle.stages.proofs.Checks.{passed-by, stopped-by, none-holds, passed-at, 
 use Rattle.stages.proofs.Parts.{reading-numbered, token-numbered, signature-numbered}
 use Rattle.gate.specs.Calls.{Setup}
 use Rattle.gate.specs.State.{State}
-use Rattle.gate.specs.Sizes.{exactly, setupFits, broughtFits, lentFits, requestFits, stateFits}
-use Rattle.gate.specs.Setup.{offered, chosenOf, expiryOf, setupChecks, newToken, sealedOf, replyOf, setUp}
+use Rattle.gate.specs.Sizes.{exactly, broughtFits, lentFits, requestFits, stateFits}
+use Rattle.gate.specs.Setup.{chosenOf, expiryOf, setupChecks, newToken, sealedOf, replyOf, setUp}
 use Rattle.gate.specs.Judge.{entryPart, requestChecks, judged}
 use Rattle.gate.specs.Trial.{Trial, trialOf, granted, keyIn, ordersIn, requestIn, trialFits, replyPart, sameToken, grantPart, trialChecks, tried}
-use Rattle.gate.proofs.Numbers.{Entered, entry-passed, entry-numbered}
-use Rattle.gate.proofs.Starting.{Lent, lent, opened}
+use Rattle.gate.proofs.Numbers.{entry-passed, entry-numbered}
 use Rattle.demands.specs.Client.{Message, clientRequest, LentBytes, Fair}
 use Rattle.demands.specs.Trial.{atGate, Given, SameToken, CarriedPast, asReplied, SetupReply}
 use Rattle.demands.proofs.Shared.Answers.{setUp-number, judged-number}
-use Rattle.demands.proofs.Shared.Passed.{Takes, setup-takes}
 use Rattle.demands.proofs.Shared.Others.{parts}
-use Rattle.demands.proofs.Untouched.Setups.{token-sized}
 use Rattle.demands.proofs.Client.{client-passes, client-bears}
-use Rattle.demands.proofs.Client.Replies.{setup-writes}
+use Rattle.demands.proofs.Client.Replies.{setup-writes, setup-opens}
 use Rattle.demands.proofs.Trial.Replies.{Holds, holds, orders-told, orders-pass, laid, some-setup, reply-short}
 
 -- a trial whose reply some setup writes is decided by the request
@@ -118,25 +113,13 @@ module _ (s : Setup) (before : State) (t : Trial) (clock : ℕ) (reply : List �
   done : first (setupChecks s before) ≡ 0
   done = sym (setUp-number s before) ∙ g .done
 
-  entered : Entered (setupFits s before) (s .orders) before
-  entered = opened s before done
-
-  size : Lent s before
-  size = lent s before (entered .sizes)
-
-  takes : Takes s before
-  takes = setup-takes s before done
-
-  token-size : Sized (newToken s .key) (newToken s .id) (newToken s .expiry)
-  token-size = token-sized s before size (takes .small)
-
-  allowed : has hash hashes ≡ true
-  unfolding chosenOf
-  allowed = chosen-common (offered s) hashes (takes .common) .1
-
   -- the reply is one that a setup writes
   written : SetupReply (t .setup-reply)
   written = setup-writes s before done (g .lent-bytes) (t .setup-reply) (g .wrote)
+
+  allowed : has hash hashes ≡ true
+  unfolding written setup-writes
+  allowed = written .allowed
 
   told : Holds (granted t) (sealedOf s .cipher) (s .iv) (sealedOf s .tag) (s .session-key) hash mask extra
   unfolding written setup-writes
@@ -176,8 +159,8 @@ module _ (s : Setup) (before : State) (t : Trial) (clock : ℕ) (reply : List �
       rw (o .token, told .s-is, same-self (sealedOf s .cipher), o .iv, told .iv-is, same-self (s .iv), o .tag, told .tag-is) (same-self (sealedOf s .tag))
 
   opens : SameToken s q → openedOf q ≡ some (newToken s)
-  unfolding openedOf sealedOf
-  opens o = rw (o .iv, o .token, o .tag) (opened-token (s .server-key) (s .iv) (newToken s) (fits-so (newToken s) token-size))
+  unfolding openedOf
+  opens o = rw (o .iv, o .token, o .tag) (setup-opens s before done)
 
   token-is : SameToken s q → tokenOf q ≡ newToken s
   unfolding tokenOf

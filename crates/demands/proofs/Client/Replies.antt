@@ -1,4 +1,4 @@
--- A reply that some setup writes is read back, and what a setup that is done writes is one.
+-- A reply that some setup writes is read back; what a setup that is done writes is one, and its token opens.
 -- Assumes nothing.
 use mathlib.Core.Path.{_≡_, refl, ap, _∙_}
 use mathlib.Core.List.{List, []}
@@ -16,8 +16,9 @@ use Rattle.armor.specs.Keys.{keys, rankOf, keyNumber, ruleAt, ruleOf, obeys}
 use Rattle.armor.specs.Value.{field, grammar}
 use Rattle.names.proofs.Sizes.{short-extra}
 use Rattle.orders.proofs.Orders.{good-mask, good-extra}
-use Rattle.token.specs.Token.{tokenText, sealedToken}
+use Rattle.token.specs.Token.{tokenText, sealedToken, openedToken}
 use Rattle.token.proofs.Text.{length-text, bytes-text}
+use Rattle.token.proofs.Exactly.{fits-so, opened-token}
 use Rattle.reply.specs.Replies.{replyFields, setupReply}
 use Rattle.stages.specs.Checks.{first}
 use Rattle.gate.specs.Calls.{Setup}
@@ -86,3 +87,11 @@ setup-writes s state done lent-bytes text wrote =
         lent-bytes .extra,
       );
     }
+
+-- and its token opens
+pub setup-opens : (s : Setup) (state : State) → first (setupChecks s state) ≡ 0
+    → openedToken (s .server-key) (s .iv) (sealedOf s .cipher) (sealedOf s .tag) ≡ some (newToken s)
+unfolding sealedOf
+setup-opens s state done =
+    let size = lent s state (opened s state done .sizes) in
+    opened-token (s .server-key) (s .iv) (newToken s) (fits-so (newToken s) (token-sized s state size (setup-takes s state done .small)))
