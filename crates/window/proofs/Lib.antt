@@ -4,3 +4,4 @@ pub mod Bits
 pub mod Steps
 pub mod Tracks
 pub mod Exactly
+pub mod Arrival

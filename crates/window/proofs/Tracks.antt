@@ -26,7 +26,7 @@ pub record Tracks (window : Window) (before : List ℕ) : Type 0 where
   pub highest : window .highest .0 ≡ highestOf before
   pub bits : (d : ℕ) → d < 64 → bit (window .bits) d ≡ acceptedBelow before d
 
-no-bit : (d : ℕ) → bit 0 d ≡ false
+pub no-bit : (d : ℕ) → bit 0 d ≡ false
 unfolding bit
 no-bit d = ap (λ (q : ℕ). eqb (q % 2) 1) (zero-div (2 ^ d))
 

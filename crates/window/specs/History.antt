@@ -1,6 +1,7 @@
 -- A session's nonces in order of arrival, and the rule that its window stands for: demand 2, and rows 15 and 16 of document 01.
 -- Assumes nothing.
-use Prim.Native.Nat.{ℕ, _+_, _-_, max}
+use Prim.Native.Nat.{ℕ, _+_, _-_, _<_, _^_, max}
+use mathlib.Core.Path.{_≡_}
 use mathlib.Core.List.{List, [], _∷_}
 use mathlib.Core.Bool.{Bool, true, false, not, cond, _&&_, _||_}
 use lib.Dec.{ltb, leb, eqb}
@@ -8,6 +9,11 @@ use Rattle.window.specs.declared.Window.{Window}
 use Rattle.window.specs.declared.Verdict.{Verdict}
 use Rattle.window.specs.declared.Verdict.the-variants.{Accepted, TooOld, Seen}
 use Rattle.window.specs.Window.{fresh, stepOf}
+
+-- a window that a record may hold: any highest nonce and bits, or none yet
+pub record Holdable (window : Window) : Type 0 where
+  pub new : window .any ≡ false → window ≡ fresh
+  pub bits : window .bits < 2 ^ 64
 
 abbrev pub isAccepted : Verdict → Bool
 isAccepted Accepted = true
@@ -18,6 +24,11 @@ isAccepted Seen = false
 unfoldable pub run : Window → List ℕ → Window
 run window [] = window
 run window (n ∷ ns) = run (stepOf window n .window) ns
+
+-- each of some nonces is accepted by the window that those before it left
+unfoldable pub allAccepted : Window → List ℕ → Bool
+allAccepted window [] = true
+allAccepted window (n ∷ ns) = isAccepted (stepOf window n .verdict) && allAccepted (stepOf window n .window) ns
 
 abbrev pub keep : Bool → ℕ → List ℕ → List ℕ
 keep true n before = n ∷ before
