@@ -22,7 +22,7 @@ use Rattle.table.specs.WellFormed.{WellFormed}
 use Rattle.table.proofs.Records.{length-records, records-at, records-spliced, records-stored, freed-fits}
 use Rattle.table.proofs.Found.{found-at}
 use Rattle.table.proofs.Sessions.{begun-sound, begun-fits}
-use Rattle.table.proofs.Stored.{equal-or-not, stored-here, stored-other, stored-well, alone-new}
+use Rattle.table.proofs.Stored.{equal-or-not, stored-here, stored-other, alone-new}
 use Rattle.index.specs.Index.{indexOf}
 use Rattle.index.proofs.Held.{fits-one, fits-only, length-indexOf}
 use Rattle.index.proofs.Kept.{freed-well}
@@ -31,7 +31,7 @@ use Rattle.gate.specs.Calls.{Setup}
 use Rattle.gate.specs.State.{State, holding, indexed}
 use Rattle.gate.specs.Setup.{chosenOf, expiryOf, withSession}
 use Rattle.demands.specs.Effects.{Right}
-use Rattle.demands.proofs.Shared.Stored.{taken-within}
+use Rattle.demands.proofs.Shared.Stored.{laid-well, taken-within}
 use Rattle.demands.proofs.Shared.Answers.{begun-table}
 use Rattle.demands.proofs.Shared.Passed.{Takes}
 
@@ -62,12 +62,13 @@ pub without-right : (table iv : List ℕ) → WellFormed (records table) → Rig
 without-right table iv w = fits-one (records (without table iv)) (without-well table iv w)
 
 -- a session set up
-begun-well : (s : Setup) (state : State) → Takes s state → WellFormed (records (state .table)) → WellFormed (records (withSession s (state .table)))
+pub begun-well : (s : Setup) (state : State) → Takes s state → WellFormed (records (state .table)) → WellFormed (records (withSession s (state .table)))
 begun-well s state t w =
     let new = begun (s .iv) (expiryOf s) (hashMask (chosenOf s)) in
     let within = taken-within (state .table) (s .clock) (t .place) (t .takes) in
-    rw (begun-table s (state .table) (t .place) (t .takes), records-stored (state .table) (t .place) new within (begun-fits (s .iv) (expiryOf s) (chosenOf s) (t .long) (t .small)))
-    (stored-well (records (state .table)) (t .place) new (omega (arith, within, length-records (state .table))) w (begun-sound (s .iv) (expiryOf s) (chosenOf s)) (alone-new (records (state .table)) (t .place) new (t .unused)))
+    rw (begun-table s (state .table) (t .place) (t .takes))
+    (laid-well (state .table) (t .place) new within (begun-fits (s .iv) (expiryOf s) (chosenOf s) (t .long) (t .small)) w
+    (begun-sound (s .iv) (expiryOf s) (chosenOf s)) (alone-new (records (state .table)) (t .place) new (t .unused)))
 
 pub begun-right : (s : Setup) (state : State) → Takes s state → WellFormed (records (state .table)) → Right (indexed (withSession s (state .table)))
 begun-right s state t w = fits-one (records (withSession s (state .table))) (begun-well s state t w)

@@ -1,6 +1,6 @@
 -- A table's bytes, and those with one record laid over a place: that record stands there, and every other byte and record is as before.
 -- Assumes nothing.
-use mathlib.Core.Path.{_≡_, refl, sym, ap, _∙_}
+use mathlib.Core.Path.{_≡_, refl, sym, ap, subst, _∙_}
 use mathlib.Core.List.{List, [], _∷_, _++_}
 use mathlib.Core.Bool.{true}
 use mathlib.Core.Logic.{_⊎_, inl, inr, ⊎-elim}
@@ -14,10 +14,10 @@ use Rattle.table.specs.declared.session.Record.{Record}
 use Rattle.table.specs.Record.{size, recordBytes, Fits, freed}
 use Rattle.table.specs.declared.place.Place.the-variants.{At}
 use Rattle.table.specs.Table.{places, recordAt, records, holds, found, taken}
-use Rattle.table.specs.WellFormed.{WellFormed}
+use Rattle.table.specs.WellFormed.{Sound, WellFormed}
 use Rattle.table.proofs.Records.{length-recordBytes, length-records, records-at, records-stored}
 use Rattle.table.proofs.Found.{found-at, at-found, taken-at}
-use Rattle.table.proofs.Stored.{equal-or-not, stored-here, stored-other}
+use Rattle.table.proofs.Stored.{equal-or-not, Alone, stored-here, stored-other, stored-well}
 use Rattle.demands.specs.Tables.{Replaced}
 
 -- the records of a table hold what their bytes can
@@ -58,6 +58,18 @@ replaced table place r h f =
       bytes = λ i o. spliced-outside table (recordBytes r) (size * place) i (omega arith) (rw long o);
       as-long = same;
     }
+
+-- the table stays whole and well formed
+pub replaced-whole : {table after : List ℕ} {place : ℕ} {r : Record} → Replaced table after place r → Fits r → Whole table → Whole after
+replaced-whole {table} {after} {place} {r} laid f fit i l =
+    ⊎-elim (λ e. subst (λ (x : Record). Fits x) (sym (ap (recordAt after) e ∙ laid .here)) f)
+    (λ n. let h : i < places table = omega (arith, laid .as-long) in subst (λ (x : Record). Fits x) (sym (laid .others i h n)) (fit i h))
+    (equal-or-not i place)
+
+pub laid-well : (table : List ℕ) (place : ℕ) (r : Record) → place < places table → Fits r → WellFormed (records table) → Sound r → Alone (records table) place r
+    → WellFormed (records (spliced table (size * place) (recordBytes r)))
+laid-well table place r h f w sound alone =
+    rw (records-stored table place r h f) (stored-well (records table) place r (rw length-records h) w sound alone)
 
 -- what is found is the new record, or was found there before
 pub found-either : (rs : List Record) (i : ℕ) (r : Record) → i < length rs → (iv : List ℕ) (j : ℕ) → WellFormed rs → found (set rs i r) iv ≡ At j

@@ -122,7 +122,7 @@ alike-after to iv a b a' b' f g ta tb alike e = record {
     by p false = (λ z. absurd (nowhere-at p z), λ z. absurd (nowhere-at (to p) z))
 
 -- the IV that a request bears is that of its field
-carries : (q : Request) (iv : List ℕ) → passes (λ other. same other iv) (cond (legible q) (some (ivOf q)) none) ≡ true → ivOf q ≡ iv
+pub carries : (q : Request) (iv : List ℕ) → passes (λ other. same other iv) (cond (legible q) (some (ivOf q)) none) ≡ true → ivOf q ≡ iv
 carries q iv = by (legible q)
   where
     by : (t : Bool) → passes (λ other. same other iv) (cond t (some (ivOf q)) none) ≡ true → ivOf q ≡ iv

@@ -1,4 +1,4 @@
--- Every call but a setup leaves a table and an index that the next can be lent, and disturbs no session whose IV it does not bear.
+-- Every call leaves a table and an index that the next can be lent; and every call but a setup disturbs no session whose IV it does not bear.
 -- Assumes nothing.
 use mathlib.Core.Path.{_≡_, refl, sym, ap, _∙_}
 use mathlib.Core.Bool.{Bool, true, false, true≢false, cond}
@@ -15,14 +15,16 @@ use Rattle.table.specs.declared.session.Record.{Record}
 use Rattle.table.specs.Table.{places, records}
 use Rattle.table.specs.Session.{placeOf}
 use Rattle.table.specs.WellFormed.{WellFormed}
-use Rattle.table.proofs.Sessions.{recordAt-fits}
+use Rattle.table.proofs.Sessions.{begun-fits, recordAt-fits}
 use Rattle.armor.specs.Fields.{requestFields}
 use Rattle.stages.specs.Request.{Request}
 use Rattle.stages.specs.Checks.{first}
 use Rattle.stages.specs.Parts.{fieldsOf, ivOf, readingPart, coveringPart}
 use Rattle.stages.proofs.Checks.{passed-at}
 use Rattle.stages.proofs.Parts.{reading-numbered}
+use Rattle.gate.specs.Calls.{Setup}
 use Rattle.gate.specs.State.{State}
+use Rattle.gate.specs.Setup.{chosenOf, expiryOf, setUp}
 use Rattle.gate.specs.Sizes.{exactly, tableFits, stateFits}
 use Rattle.gate.specs.Entry.{stateChecks, entryChecks}
 use Rattle.gate.specs.Judge.{entryPart, judged}
@@ -30,11 +32,12 @@ use Rattle.demands.specs.Effects.{Right, TenOrThirteen}
 use Rattle.demands.specs.History.{Call, setting-up, judging, judging-one, ending, making-index, takenOut, answer}
 use Rattle.demands.specs.Struck.{Lendable, legible, passes, bears, sessionIn}
 use Rattle.demands.proofs.Shared.Checks.{accepted-passes, read-through}
-use Rattle.demands.proofs.Shared.Answers.{zero-or-not, judged-number, remade-table}
+use Rattle.demands.proofs.Shared.Answers.{zero-or-not, setUp-number, setUp-table, judged-number, remade-table}
+use Rattle.demands.proofs.Shared.Passed.{setup-takes}
 use Rattle.demands.proofs.Shared.Others.{parts}
-use Rattle.demands.proofs.Shared.Indexes.{right-sized}
-use Rattle.demands.proofs.Untouched.{untouched-else}
-use Rattle.demands.proofs.Shared.Stored.{Whole}
+use Rattle.demands.proofs.Shared.Indexes.{right-sized, begun-well}
+use Rattle.demands.proofs.Untouched as Untouched
+use Rattle.demands.proofs.Shared.Stored.{Whole, replaced-whole}
 use Rattle.demands.proofs.Index.Calls.{call-right}
 use Rattle.demands.proofs.Struck.Turned.{Undisturbed, Turns}
 use Rattle.demands.proofs.Struck.Calls.{judge-turns, one-turns, end-turns}
@@ -104,16 +107,31 @@ module _ (state : State) (ready : Ready state) where
   turned-left : {iv after : List ℕ} {turn : Record → Record} → Turns iv turn (state .table) after → Left after
   turned-left t = record { long = t .long; well = t .well; whole = t .whole }
 
-  left : (call : Call) → NoSetup call → Left (answer call state .state .table)
-  left (setting-up s) later = absurd later
-  left (judging q) later = turned-left (judge-turns q state (ready .well) (ready .whole))
-  left (judging-one place q) later = turned-left (one-turns place q state (ready .well) (ready .whole))
-  left (ending iv) later = turned-left (end-turns iv state (ready .well) (ready .whole))
-  left making-index later = rw (remade-table state) (record { long = refl; well = ready .well; whole = ready .whole })
+  left-so : {after : List ℕ} → after ≡ state .table → Left after
+  left-so e = rw e (record { long = refl; well = ready .well; whole = ready .whole })
 
-  pub ready-left : (call : Call) → NoSetup call → Ready (answer call state .state)
-  ready-left call later =
-      let l = left call later in
+  set-up-left : (s : Setup) → setUp s state .number ≡ 0 → Left (setUp s state .state .table)
+  set-up-left s z =
+      let e = sym (setUp-number s state) ∙ z in
+      let t = setup-takes s state e in
+      let begun = Untouched.setup s state .passed z in
+      record {
+        long = begun .session .as-long;
+        well = rw (setUp-table s state, e) (begun-well s state t (ready .well));
+        whole = replaced-whole (begun .session) (begun-fits (s .iv) (expiryOf s) (chosenOf s) (t .long) (t .small)) (ready .whole);
+      }
+
+  left : (call : Call) → Left (answer call state .state .table)
+  left (setting-up s) =
+      ⊎-elim (set-up-left s) (λ o. left-so (ap (λ (after : State). after .table) (Untouched.setup s state .refused o .state))) (zero-or-not (setUp s state .number))
+  left (judging q) = turned-left (judge-turns q state (ready .well) (ready .whole))
+  left (judging-one place q) = turned-left (one-turns place q state (ready .well) (ready .whole))
+  left (ending iv) = turned-left (end-turns iv state (ready .well) (ready .whole))
+  left making-index = left-so (remade-table state)
+
+  pub ready-left : (call : Call) → Ready (answer call state .state)
+  ready-left call =
+      let l = left call in
       let right = call-right state (ready .sizes) (ready .whole) (ready .well) (ready .index) call in
       record { sizes = sizes-left state (answer call state .state) (l .long) right (ready .sizes); whole = l .whole; well = l .well; index = right }
 
@@ -124,10 +142,10 @@ module _ (state : State) (ready : Ready state) where
   undisturbed iv (setting-up s) later e = absurd later
   undisturbed iv (judging q) later e =
       ⊎-elim (λ apart. judge-turns q state (ready .well) (ready .whole) .others iv (λ is. apart (sym is)))
-      (λ t. let refused = illegible q state t in untouched-so (untouched-else (judging q) state (refused .0) (refused .1) .state)) (unborne q iv e)
+      (λ t. let refused = illegible q state t in untouched-so (Untouched.untouched-else (judging q) state (refused .0) (refused .1) .state)) (unborne q iv e)
   undisturbed iv (judging-one place q) later e =
       ⊎-elim (λ apart. one-turns place q state (ready .well) (ready .whole) .others iv (λ is. apart (sym is)))
-      (λ t. let refused = illegible q (takenOut place state) t in untouched-so (untouched-else (judging-one place q) state (refused .0) (refused .1) .state)) (unborne q iv e)
+      (λ t. let refused = illegible q (takenOut place state) t in untouched-so (Untouched.untouched-else (judging-one place q) state (refused .0) (refused .1) .state)) (unborne q iv e)
   undisturbed iv (ending other) later e =
       end-turns other state (ready .well) (ready .whole) .others iv (λ is. true≢false (sym (rw is (same-self other)) ∙ e))
   undisturbed iv making-index later e = rw (remade-table state) (record { long = refl; place = refl; session = refl })

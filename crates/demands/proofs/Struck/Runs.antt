@@ -38,24 +38,24 @@ elsewhere-no-setup to (ending iv) later = tt
 elsewhere-no-setup to making-index later = tt
 
 -- on its own table every call is as it was
+pub one-here : (call : Call) → elsewhere here call ≡ call
+one-here (setting-up s) = refl
+one-here (judging q) = refl
+one-here (judging-one place q) = refl
+one-here (ending iv) = refl
+one-here making-index = refl
+
 pub all-here : (calls : List Call) → allElsewhere here calls ≡ calls
 unfolding allElsewhere
 all-here [] = refl
-all-here (call ∷ earlier) = ap₂ _∷_ (same call) (all-here earlier)
-  where
-    same : (c : Call) → elsewhere here c ≡ c
-    same (setting-up s) = refl
-    same (judging q) = refl
-    same (judging-one place q) = refl
-    same (ending iv) = refl
-    same making-index = refl
+all-here (call ∷ earlier) = ap₂ _∷_ (one-here call) (all-here earlier)
 
 -- a session that is not disturbed stands alike still
 module _ (to : ℕ → ℕ) (iv one other : List ℕ) (alike : StandsAlike to iv one other) where
-  one-kept : (after : List ℕ) → Undisturbed iv one after → StandsAlike to iv after other
+  pub one-kept : (after : List ℕ) → Undisturbed iv one after → StandsAlike to iv after other
   one-kept after u = record { session = u .session ∙ alike .session; place = λ p. rw (u .place) (alike .place p); within = λ p. rw (u .long) (alike .within p) }
 
-  other-kept : (after : List ℕ) → Undisturbed iv other after → StandsAlike to iv one after
+  pub other-kept : (after : List ℕ) → Undisturbed iv other after → StandsAlike to iv one after
   other-kept after u = record { session = alike .session ∙ sym (u .session); place = λ p. rw (u .place) (alike .place p); within = λ p. rw (u .long) (alike .within p) }
 
 -- after some calls on one table and some on another
@@ -67,13 +67,13 @@ pub record Ran (to : ℕ → ℕ) (iv : List ℕ) (one : State) (calls : List Ca
 -- a call more: struck out, or on both
 module _ (to : ℕ → ℕ) (iv : List ℕ) (one other : State) (call : Call) (later : NoSetup call) (calls others : List Call) (r : Ran to iv one calls other others) where
   more-one : Ready (answer call (after one calls) .state)
-  more-one = ready-left (after one calls) (r .ready-one) call later
+  more-one = ready-left (after one calls) (r .ready-one) call
 
   later-there : NoSetup (elsewhere to call)
   later-there = elsewhere-no-setup to call later
 
   more-other : Ready (answer (elsewhere to call) (after other others) .state)
-  more-other = ready-left (after other others) (r .ready-other) (elsewhere to call) later-there
+  more-other = ready-left (after other others) (r .ready-other) (elsewhere to call)
 
   passed-over : bears iv call ≡ false → StandsAlike to iv (answer call (after one calls) .state .table) (after other others .table)
   passed-over e = one-kept to iv _ _ (r .same .stands) _ (undisturbed (after one calls) (r .ready-one) iv call later e)

@@ -172,7 +172,7 @@ module _ {iv other : List ℕ} (party : Party iv other) (n : ℕ) (small : n < 2
     asks own others k t e =
         let turns = judge-turns q state (t .ready .well) (t .ready .whole) in
         record {
-          ready = ready-left state (t .ready) (judging q) tt;
+          ready = ready-left state (t .ready) (judging q);
           session = ap (λ (v : List ℕ). sessionIn v (judged q state .state .table)) (sym own-iv) ∙ turns .session ∙ ap₂ (turned q) e (ap (λ (v : List ℕ). sessionIn v (state .table)) own-iv ∙ t .session);
           beside = turns .others other (λ is. party .apart (is ∙ own-iv)) .session ∙ t .beside;
         }
@@ -194,7 +194,7 @@ module _ {iv other : List ℕ} (party : Party iv other) (n : ℕ) (small : n < 2
       asks-one e =
           let turns = one-turns place q state (t .ready .well) (t .ready .whole) in
           record {
-            ready = ready-left state (t .ready) (judging-one place q) tt;
+            ready = ready-left state (t .ready) (judging-one place q);
             session =
                 ap (λ (v : List ℕ). sessionIn v (judgedAt place q state .state .table)) (sym own-iv) ∙ turns .session
                 ∙ ap₂ (turnedAt place q state) e (ap (λ (v : List ℕ). sessionIn v (state .table)) own-iv ∙ t .session)
@@ -221,7 +221,7 @@ module _ {iv other : List ℕ} (party : Party iv other) (long : length iv ≡ 12
   ended-two =
       let turns = end-turns iv state (t .ready .well) (t .ready .whole) in
       record {
-        ready = ready-left state (t .ready) (ending iv) tt;
+        ready = ready-left state (t .ready) (ending iv);
         session = turns .session ∙ rw ends refl;
         beside = turns .others other (party .apart) .session ∙ t .beside;
       }

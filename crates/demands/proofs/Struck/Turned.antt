@@ -17,11 +17,11 @@ use Rattle.table.specs.Session.{placeOf, heldAt, with-record}
 use Rattle.table.specs.WellFormed.{Sound, WellFormed}
 use Rattle.table.proofs.Records.{length-records, records-at, records-stored}
 use Rattle.table.proofs.Tests.{refuted, holds-used}
-use Rattle.table.proofs.Stored.{equal-or-not, Alone, stored-well, found-kept, alone-same}
+use Rattle.table.proofs.Stored.{Alone, found-kept, alone-same}
 use Rattle.demands.specs.Tables.{Replaced, SessionAt}
 use Rattle.demands.specs.Struck.{sessionIn}
 use Rattle.demands.proofs.Shared.Named.{found-session, session-found}
-use Rattle.demands.proofs.Shared.Stored.{Whole, replaced, found-either}
+use Rattle.demands.proofs.Shared.Stored.{Whole, replaced, replaced-whole, laid-well, found-either}
 
 -- a session is where it was, with the record that it had
 pub record Undisturbed (iv before after : List ℕ) : Type 0 where
@@ -85,13 +85,7 @@ module _ (iv table : List ℕ) (w : WellFormed (records table)) (fit : Whole tab
   alone (inr k) = alone-same (records table) place r w inside (ap (λ (x : Record). x .used) old ∙ there .used) (ap (λ (x : Record). x .iv) old ∙ there .iv ∙ sym (k .1))
 
   well : WellFormed (records after)
-  well = rw records-are (stored-well (records table) place r inside w sound (alone own))
-
-  whole : Whole after
-  whole i l =
-      ⊎-elim (λ e. subst (λ (x : Record). Fits x) (sym (ap (recordAt after) e ∙ laid .here)) f)
-      (λ n. let h : i < places table = omega (arith, laid .as-long) in subst (λ (x : Record). Fits x) (sym (laid .others i h n)) (fit i h))
-      (equal-or-not i place)
+  well = laid-well table place r (there .within) f w sound (alone own)
 
   -- the session keeps its place, or is gone
   stays : r .used ≡ 1 → r .iv ≡ iv → placeOf after iv ≡ At place
@@ -146,7 +140,7 @@ module _ (iv table : List ℕ) (w : WellFormed (records table)) (fit : Whole tab
       record {
         long = laid .as-long;
         well = well;
-        whole = whole;
+        whole = replaced-whole laid f fit;
         session = session-is own ∙ sym is;
         place = placed own ∙ ap (λ (x : Record). cond (isUsed x) (placeOf table iv) Nowhere) (sym is);
         others = undisturbed;
