@@ -6,6 +6,7 @@ pub mod Alike
 pub mod Setups
 pub mod Requests
 pub mod Others
+pub mod Witnesses
 use mathlib.Core.Path.{_≡_, refl, sym, ap, ap₂, subst, _∙_}
 use mathlib.Core.Bool.{Bool, true, false, true≢false, cond, not}
 use mathlib.Core.List.{List, [], _∷_, List·Permᴰ, List·Permᴰ·trans, Permᴰ·symm, Permᴰ·reverse, Permᴰ·filterMap, reverse, reverseAux, filterMap}
