@@ -275,6 +275,7 @@ uint32_t gate_setup(uint64_t mask, uint64_t hashes, const uint8_t *extra, size_t
  * TE, Trailer, Upgrade and Via.
  * At GATE_ACCEPTED the reply is the session id. At GATE_EXPIRED and GATE_IDLE it is the invalidation, an X-S-Armor value
  * for the client under the request's hash: of GATE_INVALIDATION_SHA_256_BYTES or GATE_INVALIDATION_SHA_512_BYTES.
+ * A session's requests may be judged in any order: two orders in which all are accepted leave the same record.
  */
 uint32_t gate_judge(uint64_t mask, uint64_t hashes, const uint8_t *extra, size_t extra_len, uint32_t request_life,
                     uint32_t idle, uint32_t session_life, uint32_t clock, const uint8_t *server_key,

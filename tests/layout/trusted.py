@@ -9,7 +9,7 @@ import sys
 
 CRATES = pathlib.Path("crates")
 EXPORTS = ["crates/gate/src/lib.rt", "crates/primitives/src/lib.rt"]
-DEMANDS = ["Untouched", "History", "Agreement", "Cases", "Determined", "Client", "Age", "Chosen", "Index", "Struck", "Trial", "Struck/Steps", "Struck/Witnesses", "Witnesses"]
+DEMANDS = ["Untouched", "History", "Agreement", "Cases", "Determined", "Client", "Age", "Chosen", "Index", "Struck", "Arrival", "Trial", "Struck/Steps", "Struck/Witnesses", "Arrival/Witnesses", "Witnesses"]
 THEOREMS = [*(f"crates/demands/proofs/{name}.antt" for name in DEMANDS), "crates/logs/proofs/Theorems.antt"]
 USE = re.compile(r"^(?:ghost )?use Rattle·(\w+)(?:·specs)?\.specs\.([\w.-]+?)(?: as (\w+))?(?:\.\{([^}]*)\})?;?$", re.M)
 

@@ -1,75 +1,40 @@
--- Document 02, K12, carried to the gate: two histories that differ only in the order of one session's requests, all of them accepted in both, leave
--- the same record; and they leave every other session the same record, too. The other calls may be any, setups of other sessions among them, and the session's requests may
--- come anywhere between them. The window's part is crates/window/proofs/Arrival.antt.
+-- Document 02, K12, whose window's part is crates/window/proofs/Arrival.antt, carried to the gate: two histories that differ only in the order of one
+-- session's requests, all of them accepted in both, leave the same record, and every other record and the index the same, too. The other calls may
+-- be any, setups of other sessions among them, and the session's requests may come anywhere between them.
 -- Assumes nothing.
 pub mod Alike
 pub mod Setups
 pub mod Requests
 pub mod Others
+pub mod Windows
 pub mod Witnesses
 use mathlib.Core.Path.{_≡_, refl, sym, ap, ap₂, subst, _∙_}
-use mathlib.Core.Bool.{Bool, true, false, true≢false, cond, not}
-use mathlib.Core.List.{List, [], _∷_, List·Permᴰ, List·Permᴰ·trans, Permᴰ·symm, Permᴰ·reverse, Permᴰ·filterMap, reverse, reverseAux, filterMap}
-use mathlib.Core.Logic.{⊎-elim}
-use mathlib.Core.Option.{Option, none, some, Option·elim}
+use mathlib.Core.Bool.{Bool, true, false, cond, not}
+use mathlib.Core.List.{List, [], _∷_, Permᴰ·filterMap, filterMap}
 use Prim.Native.Nat.{ℕ}
-use borrow.Author.Tests.{eq-eqb}
-use lib.Dec.{eqb}
 use Rattle.cells.specs.Runs.{same}
 use Rattle.window.specs.declared.Window.{Window}
-use Rattle.window.specs.Window.{fresh, stepOf}
-use Rattle.window.specs.History.{Holdable, run}
-use Rattle.window.proofs.Arrival.{any-order}
-use Rattle.table.specs.declared.session.Record.{Record}
 use Rattle.table.specs.declared.place.Place.{Place}
 use Rattle.table.specs.declared.place.Place.the-variants.{At, Nowhere}
-use Rattle.table.specs.Record.{Fits, freed, windowOf, withWindow}
-use Rattle.table.specs.Table.{records, recordAt}
+use Rattle.table.specs.Record.{Fits, windowOf, withWindow}
 use Rattle.table.specs.Session.{placeOf, heldAt}
-use Rattle.table.specs.WellFormed.{Sound, WellFormed}
+use Rattle.table.specs.WellFormed.{Sound}
 use Rattle.table.proofs.Records.{freed-fits}
 use Rattle.table.proofs.Meaning.{freed-sound}
 use Rattle.index.specs.Index.{indexOf}
 use Rattle.index.proofs.Held.{fits-only}
 use Rattle.gate.specs.State.{State}
 use Rattle.demands.specs.History.{Call, answer, after}
-use Rattle.demands.specs.Struck.{Lendable, bears, unstruck, sessionIn, StandsAlike, here}
+use Rattle.demands.specs.Struck.{Lendable, bears, unstruck, sessionIn}
 use Rattle.demands.specs.Arrival.{isRequest, AllAccepted, ownOf, othersOf, Reordered, SameRecords}
+use Rattle.demands.proofs.Shared.Stored.{sound-at}
 use Rattle.demands.proofs.Shared.Named.{found-session}
 use Rattle.demands.proofs.Struck.Kept.{Ready, ready, ready-left}
 use Rattle.demands.proofs.Arrival.Alike as Alike
-use Rattle.demands.proofs.Arrival.Alike.{LikeBut, bare, like-self, like-back, like-through, sound-at}
+use Rattle.demands.proofs.Arrival.Alike.{LikeBut, like-self, like-back, like-through}
 use Rattle.demands.proofs.Arrival.Requests.{nonceIn, with-nonce, serves}
+use Rattle.demands.proofs.Arrival.Windows.{arrived, any-arrival, noncesOf, arrives, sound-holds, rejoined}
 use Rattle.demands.proofs.Arrival.Others.{others-alike, stood}
-
--- the window after some nonces, the latest first
-abbrev arrived : Window → List ℕ → Window
-arrived w [] = w
-arrived w (n ∷ earlier) = stepOf (arrived w earlier) n .window
-
-arrived-run : (w : Window) (ns later : List ℕ) → run w (reverseAux ns later) ≡ run (arrived w ns) later
-unfolding run
-arrived-run w [] later = refl
-arrived-run w (n ∷ ns) later = arrived-run w ns (n ∷ later)
-
-any-arrival : (w : Window) → Holdable w → (ns ms : List ℕ) → List·Permᴰ ns ms → arrived w ns ≡ arrived w ms
-unfolding run
-any-arrival w holds ns ms p =
-    sym (arrived-run w ns [])
-    ∙ any-order w holds (List·Permᴰ·trans (Permᴰ·reverse ns) (List·Permᴰ·trans p (Permᴰ·symm (Permᴰ·reverse ms))))
-    ∙ arrived-run w ms []
-
--- the nonces of some calls
-abbrev noncesOf : List Call → List ℕ
-noncesOf = filterMap nonceIn
-
-arrives : (w : Window) (call : Call) (own : List Call) → with-nonce (nonceIn call) (arrived w (noncesOf own)) ≡ arrived w (noncesOf (call ∷ own))
-unfolding filterMap Option·elim
-arrives w call own = by (nonceIn call)
-  where
-    by : (n : Option ℕ) → with-nonce n (arrived w (noncesOf own)) ≡ arrived w (Option·elim n (noncesOf own) (λ (k : ℕ). k ∷ noncesOf own))
-    by none = refl
-    by (some k) = refl
 
 module _ (iv : List ℕ) (state : State) where
   abbrev begins : Window
@@ -113,20 +78,6 @@ module _ (iv : List ℕ) (state : State) where
       by true e b = own-more call earlier _ _ b e (all .0 e .0) (all .0 e .1)
       by false e b = other-more call earlier _ _ b e
 
--- a sound record holds such a window, and is the rest of it and that window
-sound-holds : (r : Record) → Sound r → Fits r → Holdable (windowOf r)
-sound-holds r sound fits = record { new = λ e. ⊎-elim (none-yet e) (λ u. absurd (true≢false (sym (eq-eqb (r .any) 1 u) ∙ e))) (sound .any); bits = fits .bits }
-  where
-    none-yet : eqb (r .any) 1 ≡ false → r .any ≡ 0 → windowOf r ≡ fresh
-    none-yet e z =
-        ap₂ (λ (h bits : ℕ). record { any = eqb (r .any) 1; highest = record { 0 = h }; bits = bits }) (sound .new z .0) (sound .new z .1)
-        ∙ ap (λ (t : Bool). record { any = t; highest = record { 0 = 0 }; bits = 0 }) e
-
-rejoined : (r : Record) → Sound r → r ≡ withWindow (bare r) (windowOf r)
-rejoined r sound =
-    ap (λ (any : ℕ). record { used = r .used; iv = r .iv; expiry = r .expiry; any = any; highest = r .highest; bits = r .bits; hash = r .hash })
-    (⊎-elim (λ z. rw z) (λ u. rw u) (sound .any))
-
 session-sound : (iv : List ℕ) (state : State) → Ready state → Sound (sessionIn iv (state .table)) × Fits (sessionIn iv (state .table))
 session-sound iv state r = by (placeOf (state .table) iv) refl
   where
@@ -147,7 +98,7 @@ module _ (iv : List ℕ) (state : State) (calls calls' : List Call) (lendable : 
       like-through iv _ _ _ (one .like)
       (like-back iv _ _ (subst (λ (others : List Call). LikeBut iv (after state calls' .table) (after state others .table)) (sym (reordered .others)) (other .like)))
 
-  -- the customer's question: the session is left the same record
+  -- THE THEOREM: the session is left the same record
   pub same-record : sessionIn iv (after state calls .table) ≡ sessionIn iv (after state calls' .table)
   same-record = by (placeOf (after state calls .table) iv) refl
     where
@@ -157,12 +108,12 @@ module _ (iv : List ℕ) (state : State) (calls calls' : List Call) (lendable : 
           rejoined _ (session-sound iv (after state calls) (one .ready) .0)
           ∙ ap₂ withWindow (like .but)
           (one .window p e
-          ∙ any-arrival (windowOf (sessionIn iv (state .table))) (sound-holds _ (start .0) (start .1)) _ _ (Permᴰ·filterMap nonceIn (reordered .own))
+          ∙ any-arrival (windowOf (sessionIn iv (state .table))) (sound-holds _ (start .0) (start .1)) (Permᴰ·filterMap nonceIn (reordered .own))
           ∙ sym (other .window p (sym (like .place iv) ∙ e)))
           ∙ sym (rejoined _ (session-sound iv (after state calls') (other .ready) .0))
       by Nowhere e = ap (heldAt (after state calls .table)) e ∙ sym (ap (heldAt (after state calls' .table)) (sym (like .place iv) ∙ e))
 
-  -- THE THEOREM: and so is every other, and the index
+  -- and so is every other, and the index
   pub same-records : SameRecords (after state calls) (after state calls')
   same-records =
       let table = Alike.same-records iv _ _ like (one .ready .well) (other .ready .well) same-record in

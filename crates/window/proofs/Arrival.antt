@@ -6,41 +6,16 @@ use mathlib.Core.Path.{_≡_, refl, sym, ap, ap₂, subst, _∙_}
 use mathlib.Core.List.{List, [], _∷_, List·Permᴰ, List·Permᴰ·nil, List·Permᴰ·cons, List·Permᴰ·swap, List·Permᴰ·trans}
 use mathlib.Core.Logic.{⊎-elim}
 use mathlib.Core.Bool.{Bool, true, false, true≢false, cond, _&&_, _||_, and-false, or-comm, or-assoc, or-false}
-use Prim.Native.Nat.{ℕ, zero, suc, _+_, _-_, _*_, _/_, _%_, _<_, _≤_, _^_, max}
-use native.Mathlib.Nat.{mod-lt, div-one, pow-suc}
+use Prim.Native.Nat.{ℕ, _+_, _-_, _<_, _≤_, max}
 use native.Mathlib.Omega.{arith}
-use borrow.Author.Tests.{lt-ltb, le-ltb, le-leb, lt-leb, ne-eqb, eqb-true, eqb-false}
+use borrow.Author.Tests.{lt-ltb, le-ltb, le-leb, lt-leb, ne-eqb, eqb-true}
 use lib.Dec.{lit<, leb, eqb}
-use lib.Pow.{shr-shr, split}
 use Rattle.window.specs.declared.Window.{Window}
 use Rattle.window.specs.declared.Verdict.the-variants.{TooOld, Seen}
 use Rattle.window.specs.Window.{fresh, bit, moved, marked, accepted, refused, above, below, stepOf}
 use Rattle.window.specs.History.{Holdable, run, allAccepted}
-use Rattle.window.proofs.Bits.{order, alike, bit-power, bit-moved, bit-marked}
+use Rattle.window.proofs.Bits.{order, alike, same-bits, no-bit, bit-power, bit-moved, bit-marked}
 use Rattle.window.proofs.Steps.{bits-fit}
-use Rattle.window.proofs.Tracks.{no-bit}
-
-same-parity : (a b : ℕ) → eqb (a % 2) 1 ≡ eqb (b % 2) 1 → a % 2 ≡ b % 2
-same-parity a b e = by (eqb (a % 2) 1) refl
-  where
-    by : (t : Bool) → eqb (a % 2) 1 ≡ t → a % 2 ≡ b % 2
-    by true p = eqb-true (a % 2) 1 p ∙ sym (eqb-true (b % 2) 1 (sym e ∙ p))
-    by false p =
-        let x = eqb-false (a % 2) 1 p in
-        let y = eqb-false (b % 2) 1 (sym e ∙ p) in
-        omega (arith, mod-lt a {m = 2} (lit< tt), mod-lt b {m = 2} (lit< tt))
-
--- numbers of k bits are equal if those are
-same-bits : (k a b : ℕ) → a < 2 ^ k → b < 2 ^ k → ((d : ℕ) → d < k → bit a d ≡ bit b d) → a ≡ b
-unfolding bit
-same-bits zero a b f g same = omega arith
-same-bits (suc k) a b f g same =
-    let halves : a / 2 ≡ b / 2 =
-    same-bits k (a / 2) (b / 2) (omega (arith, pow-suc 2 k)) (omega (arith, pow-suc 2 k))
-    (λ d l. ap (λ (q : ℕ). eqb (q % 2) 1) (shr-shr a 1 d) ∙ same (1 + d) (omega arith) ∙ sym (ap (λ (q : ℕ). eqb (q % 2) 1) (shr-shr b 1 d)))
-    in
-    let lowest : a % 2 ≡ b % 2 = same-parity a b (ap (λ (q : ℕ). eqb (q % 2) 1) (sym (div-one a)) ∙ same 0 (omega arith) ∙ ap (λ (q : ℕ). eqb (q % 2) 1) (div-one b)) in
-    sym (split a 1) ∙ ap₂ (λ (q r : ℕ). q * 2 + r) halves lowest ∙ split b 1
 
 -- whether a window with highest nonce h has a bit set for e, where nonces are counted from 64 below zero: so each of its bits stands for one
 abbrev has : ℕ → ℕ → ℕ → Bool
@@ -98,6 +73,7 @@ module _ (h bits n : ℕ) where
   keeps : n ≤ h → ((e : ℕ) → h < e → has h bits e ≡ (has h bits e || eqb (n + 64) e)) → Next h bits n (window h bits)
   keeps down same = record { any = refl; highest = omega arith; set = λ e l. same e (omega arith) }
 
+  -- so one step is, from a window with a highest nonce
   up : h < n → Next h bits n (above (window h bits) n (n - h) .window)
   up l =
       let k = n - h in
@@ -119,6 +95,7 @@ module _ (h bits n : ℕ) where
   unfolding stepOf
   later = ⊎-elim (λ l. rw (lt-ltb h n l) (up l)) (λ l. rw (le-ltb h n l) (down l)) (order h n)
 
+-- and from a fresh one
 first : (n : ℕ) → Next 0 0 n (stepOf fresh n .window)
 unfolding stepOf
 first n = record { any = refl; highest = omega arith; set = λ e l. reach e }
@@ -219,6 +196,7 @@ no-order p = absurd (omega (arith, as-often 5 p))
 
 -- witnesses: two orders of one list, each accepted throughout, that leave one window; and docs/RULES.md's example of an order that refuses one
 pub record Witnesses : Type 0 where
+  pub holds : Holdable (window 100 1)
   pub one-order : allAccepted (window 100 1) (102 ∷ 105 ∷ 90 ∷ []) ≡ true
   pub another : allAccepted (window 100 1) (105 ∷ 90 ∷ 102 ∷ []) ≡ true
   pub orders : List·Permᴰ {A = ℕ} (102 ∷ 105 ∷ 90 ∷ []) (105 ∷ 90 ∷ 102 ∷ [])
@@ -229,6 +207,7 @@ pub record Witnesses : Type 0 where
 pub witnesses : Witnesses
 unfolding run allAccepted stepOf bit moved marked
 witnesses = record {
+  holds = record { new = λ e. absurd (true≢false e); bits = lit< tt };
   one-order = refl;
   another = refl;
   orders = List·Permᴰ·trans (List·Permᴰ·swap refl refl) (List·Permᴰ·cons refl (List·Permᴰ·swap refl refl));

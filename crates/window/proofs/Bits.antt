@@ -1,15 +1,15 @@
--- What each bit of a window's word is after a mark and after a move.
+-- What each bit of a window's word is after a mark and after a move; and that words with the same bits are equal.
 -- Assumes nothing.
-use mathlib.Core.Path.{_≡_, refl, sym, ap, _∙_}
+use mathlib.Core.Path.{_≡_, refl, sym, ap, ap₂, _∙_}
 use mathlib.Core.Logic.{_⊎_, inl, inr, ⊎-elim}
 use mathlib.Core.Bool.{Bool, true, false, _&&_, _||_}
 use Prim.Native.Nat.{ℕ, zero, suc, _+_, _-_, _*_, _/_, _%_, _^_, _<_, _≤_, max}
-use native.Mathlib.Nat.{one-mul, mod-lt, div-eq-of-lt, mul-add-mod-self-right, mul-assoc}
+use native.Mathlib.Nat.{one-mul, zero-div, div-one, pow-suc, mod-lt, div-eq-of-lt, mul-add-mod-self-right, mul-assoc}
 use native.Mathlib.Omega.{arith}
 use borrow.Author.Tests.{ltb-true, ltb-false, le-leb, lt-leb, eqb-true, eqb-false, eq-eqb, ne-eqb}
 use lib.Bits.{bitOr, or-shr, or-step, shifted-even}
 use lib.Dec.{lit<, ltb, eqb, leb}
-use lib.Pow.{shl-exact, pow-lt, pow-add, field, mod-mod-pow, shr-shr, shl-shr}
+use lib.Pow.{shl-exact, pow-lt, pow-add, field, mod-mod-pow, split, shr-shr, shl-shr}
 use Rattle.window.specs.Window.{bit, moved, marked}
 
 -- the two cases of an order
@@ -27,6 +27,28 @@ alike a b c d f g = by (eqb a b) refl
     by : (t : Bool) → eqb a b ≡ t → eqb a b ≡ eqb c d
     by true e = e ∙ sym (eq-eqb c d (f (eqb-true a b e)))
     by false e = e ∙ sym (ne-eqb c d (λ k. eqb-false a b e (g k)))
+
+same-parity : (a b : ℕ) → eqb (a % 2) 1 ≡ eqb (b % 2) 1 → a % 2 ≡ b % 2
+same-parity a b e = by (eqb (a % 2) 1) refl
+  where
+    by : (t : Bool) → eqb (a % 2) 1 ≡ t → a % 2 ≡ b % 2
+    by true p = eqb-true (a % 2) 1 p ∙ sym (eqb-true (b % 2) 1 (sym e ∙ p))
+    by false p =
+        let x = eqb-false (a % 2) 1 p in
+        let y = eqb-false (b % 2) 1 (sym e ∙ p) in
+        omega (arith, mod-lt a {m = 2} (lit< tt), mod-lt b {m = 2} (lit< tt))
+
+-- numbers of k bits are equal if those are
+pub same-bits : (k a b : ℕ) → a < 2 ^ k → b < 2 ^ k → ((d : ℕ) → d < k → bit a d ≡ bit b d) → a ≡ b
+unfolding bit
+same-bits zero a b f g same = omega arith
+same-bits (suc k) a b f g same =
+    let halves : a / 2 ≡ b / 2 =
+    same-bits k (a / 2) (b / 2) (omega (arith, pow-suc 2 k)) (omega (arith, pow-suc 2 k))
+    (λ d l. ap (λ (q : ℕ). eqb (q % 2) 1) (shr-shr a 1 d) ∙ same (1 + d) (omega arith) ∙ sym (ap (λ (q : ℕ). eqb (q % 2) 1) (shr-shr b 1 d)))
+    in
+    let lowest : a % 2 ≡ b % 2 = same-parity a b (ap (λ (q : ℕ). eqb (q % 2) 1) (sym (div-one a)) ∙ same 0 (omega arith) ∙ ap (λ (q : ℕ). eqb (q % 2) 1) (div-one b)) in
+    sym (split a 1) ∙ ap₂ (λ (q r : ℕ). q * 2 + r) halves lowest ∙ split b 1
 
 -- a one in a word of 64 bits, moved within it
 pub one-moved : (d : ℕ) → d < 64 → 1 * 2 ^ d % 2 ^ 64 ≡ 2 ^ d
@@ -50,7 +72,11 @@ raised n s d =
     rw (le-leb s d l, ← whole, place))
     (order d s)
 
--- the bits of one
+-- the bits of zero and of one
+pub no-bit : (d : ℕ) → bit 0 d ≡ false
+unfolding bit
+no-bit d = ap (λ (q : ℕ). eqb (q % 2) 1) (zero-div (2 ^ d))
+
 one-bit : (d : ℕ) → bit 1 d ≡ eqb 0 d
 unfolding bit
 one-bit zero = refl

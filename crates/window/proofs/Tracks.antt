@@ -1,11 +1,10 @@
 -- What a window knows of the nonces accepted so far, and that a step keeps it: the step form of the window's theorem.
 -- Assumes nothing.
-use mathlib.Core.Path.{_≡_, refl, sym, ap, _∙_}
+use mathlib.Core.Path.{_≡_, refl, sym, _∙_}
 use mathlib.Core.List.{List, [], _∷_}
 use mathlib.Core.Logic.{⊎-elim}
 use mathlib.Core.Bool.{Bool, true, false, not, cond, _&&_, _||_, and-false, or-comm, or-false}
-use Prim.Native.Nat.{ℕ, _+_, _-_, _<_, _≤_, _%_, _^_, max}
-use native.Mathlib.Nat.{zero-div}
+use Prim.Native.Nat.{ℕ, _+_, _-_, _<_, _≤_, max}
 use native.Mathlib.Omega.{arith}
 use borrow.Author.Tests.{lt-ltb, le-ltb, le-leb, lt-leb, ne-eqb}
 use lib.Dec.{ltb, leb, eqb}
@@ -14,7 +13,7 @@ use Rattle.window.specs.declared.Verdict.the-variants.{Accepted, Seen}
 use Rattle.window.specs.declared.Stepped.{Stepped}
 use Rattle.window.specs.Window.{fresh, bit, moved, marked, accepted, refused, above, below, stepOf}
 use Rattle.window.specs.History.{isAccepted, keep, among, highestOf, admits, verdictAfter, acceptedBelow}
-use Rattle.window.proofs.Bits.{order, alike, bit-power, bit-moved, bit-marked}
+use Rattle.window.proofs.Bits.{order, alike, no-bit, bit-power, bit-moved, bit-marked}
 
 abbrev pub some : List ℕ → Bool
 some [] = false
@@ -25,10 +24,6 @@ pub record Tracks (window : Window) (before : List ℕ) : Type 0 where
   pub any : window .any ≡ some before
   pub highest : window .highest .0 ≡ highestOf before
   pub bits : (d : ℕ) → d < 64 → bit (window .bits) d ≡ acceptedBelow before d
-
-pub no-bit : (d : ℕ) → bit 0 d ≡ false
-unfolding bit
-no-bit d = ap (λ (q : ℕ). eqb (q % 2) 1) (zero-div (2 ^ d))
 
 -- a fresh window stands for none
 pub tracks-fresh : Tracks fresh []

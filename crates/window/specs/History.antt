@@ -1,4 +1,5 @@
--- A session's nonces in order of arrival, and the rule that its window stands for: demand 2, and rows 15 and 16 of document 01.
+-- A session's nonces in order of arrival, and the rule that its window stands for: demand 2, and rows 15 and 16 of document 01; and, for document 02,
+-- K12, from which windows two orders are compared.
 -- Assumes nothing.
 use Prim.Native.Nat.{ℕ, _+_, _-_, _<_, _^_, max}
 use mathlib.Core.Path.{_≡_}

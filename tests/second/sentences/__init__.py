@@ -4,9 +4,9 @@ A string is a sentence. What follows it are its cases, each a function of placin
 """
 
 from histories import Disagreement
-from sentences import apart, codes, coverage, drawn, edges, index, lines, lists, methods, netstrings, numbers, orders, thin, trials, values
+from sentences import apart, arrival, codes, coverage, drawn, edges, index, lines, lists, methods, netstrings, numbers, orders, thin, trials, values
 
-SUBJECTS = (orders, values, methods, lines, lists, coverage, netstrings, codes, numbers, index, thin, apart, trials, edges, drawn)
+SUBJECTS = (orders, values, methods, lines, lists, coverage, netstrings, codes, numbers, index, thin, apart, arrival, trials, edges, drawn)
 
 
 def write(writer):

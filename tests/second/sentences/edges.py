@@ -151,6 +151,8 @@ EDGES = (
     ("nonce 37, new, after 100", nonce(37, 100), 0),
     ("nonce 36, new, after 100", nonce(36, 100), 15),
     ("nonce 100 again", nonce(100, 100), 16),
+    ("nonce 65 after 1", nonce(65, 1), 0),
+    ("nonce 1, new, after 65", nonce(1, 65), 15),
     ("a value with one closing `;`", with_value(lambda value: value + b";"), 0),
     ("a value with two closing `;`", with_value(lambda value: value + b";;"), 4),
     ("a value with a space before a key", with_value(lambda value: b" " + value), 5),

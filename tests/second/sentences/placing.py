@@ -43,12 +43,12 @@ ORDERS = ordered(3)  # nonces and Host; both hashes
 # Calls
 
 
-def setup_call(orders=ORDERS, value=OFFER, session_id=SESSION_ID):
+def setup_call(orders=ORDERS, value=OFFER, session_id=SESSION_ID, iv=IV):
     draft = drafts.Setup(
         kind="setup",
         table=rec.to_bytes(rec.FREE),
         index=rec.fitting_index([rec.FREE]),
-        iv=IV,
+        iv=iv,
         reply=REPLY,
         orders=orders,
         clock=CLOCK,
@@ -345,6 +345,65 @@ def in_turns():
         ours[2],
     ))
     yield from in_turn(records, ours)
+
+
+# Order of arrival
+
+
+def drawn_window(rng):
+    """A record with any window that one may hold, and new nonces that it accepts in any order, since none is 64 below another or below the highest."""
+    record = rec.fresh(IV, HIGHEST)
+    if rng.random() < 0.8:
+        record = record._replace(begun=1, highest=rng.choice((0, 1, 62, 63, 64, 1_000, HIGHEST - 70)), bits=rng.getrandbits(64) | 1)
+    top = record.highest + rng.randrange(71)
+    new = [n for n in range(max(0, top - 63), top + 1) if rec.take_nonce(record, n)[0] == 0]
+    return record, rng.sample(new, min(6, len(new)))
+
+
+def merged(rng, steps, others):
+    """Both lists in one, each in its order."""
+    places = {*rng.sample(range(len(steps) + len(others)), len(steps))}
+    own, rest = iter(steps), iter(others)
+    return [next(own if place in places else rest) for place in range(len(steps) + len(others))]
+
+
+def arriving(seed):
+    """A session's requests in two orders, each among the same calls of other sessions, setups with them: all are accepted, and the tables are the same."""
+    rng = random.Random(seed)
+    record, nonces = drawn_window(rng)
+    kinds = ("judge", "one") if rng.random() < 0.5 else ("judge",)
+    requests = [(f"nonce {n}", request_call(n=n)._replace(kind=rng.choice(kinds))) for n in nonces]
+    requests.append(("no nonce ordered", request_call(orders=ordered(2))))
+    theirs = (IV[::-1], IV[:-1] + b"\0")
+    others = [*drawn_day(rng, theirs, 12), *(("a setup", setup_call(iv=bytes([k]) * 12)) for k in range(1, 4))]
+    rng.shuffle(others)
+    rest = rng.sample([*(rec.fresh(iv, HIGHEST) for iv in theirs), rec.FREE, rec.FREE], 4)
+    days = [played([record, *rest], merged(rng, rng.sample(requests, len(requests)), others)) for _ in range(2)]
+    for day in days:
+        if any(outcome.number for _, call, outcome in day if borne(call) == IV):
+            raise Disagreement(f"a request of {IV.hex()} is refused: {day}")
+    one, other = (outcome for _, _, outcome in (day[-1] for day in days))
+    if (one.table, one.index) != (other.table, other.index):
+        raise Disagreement(f"two orders leave two tables: {days}")
+    for day, order in zip(days, ("in one order", "in another")):
+        yield from by_the_model(day, order)
+
+
+def around_another():
+    """The two orders of demands' witness, the sessions' places exchanged: the host takes the table's first record out for the thin entry."""
+    theirs = IV[::-1]
+    records = [rec.fresh(theirs, HIGHEST), rec.fresh(IV, HIGHEST)]
+    first, other = ("our nonce 1", request_call(n=1), 0), ("our nonce 3", request_call(n=3), 0)
+    between = ("their nonce by the thin entry", request_call(iv=theirs, n=1)._replace(kind="one"), 0)
+    yield from in_turn(records, (first, between, other))
+    yield from in_turn(records, (between, other, first))
+
+
+def fallen_out():
+    """Two orders, one of which refuses a nonce that fell out of the window: of them nothing is said."""
+    records = [rec.fresh(IV, HIGHEST)]
+    yield from in_turn(records, (("nonce 1 first", request_call(n=1), 0), ("then 65", request_call(n=65), 0)))
+    yield from in_turn(records, (("nonce 65 first", request_call(n=65), 0), ("then 1", request_call(n=1), 15)))
 
 
 # The hash

@@ -1,6 +1,6 @@
 -- Two tables that are alike but for the window of one session.
 -- Assumes nothing.
-use mathlib.Core.Path.{_≡_, refl, sym, ap, ap₂, subst, _∙_}
+use mathlib.Core.Path.{_≡_, refl, sym, ap, ap₂, _∙_}
 use mathlib.Core.Bool.{Bool, true, false, true≢false}
 use mathlib.Core.List.{List, [], _∷_}
 use mathlib.Core.Logic.{_⊎_, inl, inr, ⊎-elim}
@@ -14,15 +14,14 @@ use Rattle.cells.proofs.Tests.{tested}
 use Rattle.window.specs.Window.{fresh}
 use Rattle.table.specs.declared.session.Record.{Record}
 use Rattle.table.specs.declared.place.Place.{Place}
-use Rattle.table.specs.declared.place.Place.the-variants.{At, Nowhere}
 use Rattle.table.specs.Record.{size, freed, withWindow}
 use Rattle.table.specs.Table.{places, records, recordAt, firstFrom, taken, orElse, isFree, lapsed}
 use Rattle.table.specs.Session.{placeOf, heldAt}
-use Rattle.table.specs.WellFormed.{Sound, WellFormed}
+use Rattle.table.specs.WellFormed.{WellFormed}
 use Rattle.table.proofs.Records.{length-records, records-at}
-use Rattle.demands.specs.Tables.{SessionAt}
 use Rattle.demands.specs.Struck.{sessionIn, StandsAlike, here}
-use Rattle.demands.proofs.Shared.Named.{nowhere-at, found-session, session-found}
+use Rattle.demands.proofs.Shared.Stored.{sound-at}
+use Rattle.demands.proofs.Shared.Named.{session-found}
 
 -- a record but for its window
 abbrev pub bare : Record → Record
@@ -52,10 +51,6 @@ like-through iv one other third l m = record {
 -- an IV is this one or another
 pub own-or-other : (v iv : List ℕ) → (v ≡ iv) ⊎ (v ≡ iv → ⊥)
 own-or-other v iv = tested (same v iv) (λ t. inl (same-equal v iv t)) (λ t. inr (λ e. absurd (true≢false (sym (rw e (same-self iv)) ∙ t))))
-
--- what a place of a well-formed table holds
-pub sound-at : (table : List ℕ) → WellFormed (records table) → (p : ℕ) → p < places table → Sound (recordAt table p)
-sound-at table w p h = subst (λ (r : Record). Sound r) (records-at table p h) (w .each p (rw length-records h))
 
 -- the lowest place of two lists of records that a test tells alike
 same-first : (test : Record → Bool) (place : ℕ) (rs ts : List Record) → length rs ≡ length ts

@@ -13,8 +13,7 @@ use Rattle.table.specs.Session.{placeOf}
 use Rattle.gate.specs.Calls.{Setup}
 use Rattle.gate.specs.State.{State}
 use Rattle.demands.specs.History.{Call, setting-up, judging, judging-one, ending, making-index, answer}
-use Rattle.demands.specs.Struck.{bears, sessionIn, StandsAlike, here, elsewhere}
-use Rattle.demands.proofs.Shared.Named.{nowhere-at}
+use Rattle.demands.specs.Struck.{bears, sessionIn, StandsAlike, here}
 use Rattle.demands.proofs.Struck.Turned.{Undisturbed}
 use Rattle.demands.proofs.Struck.Kept.{Ready, NoSetup, undisturbed}
 use Rattle.demands.proofs.Struck.Compared.{goes-alike}
@@ -28,30 +27,28 @@ one-place (At i) q f = sym (f i .0 refl)
 one-place Nowhere (At i) f = f i .1 refl
 one-place Nowhere Nowhere f = refl
 
+module _ (iv : List ℕ) (a b : State) (ra : Ready a) (rb : Ready b) (l : LikeBut iv (a .table) (b .table)) (call : Call) (e : bears iv call ≡ false) (later : NoSetup call) where
+  alike : (v : List ℕ) → (v ≡ iv → ⊥) → StandsAlike here v (answer call a .state .table) (answer call b .state .table)
+  alike v n =
+      let before = stands iv (a .table) (b .table) l v (l .session v n) in
+      tested (bears v call)
+      (λ t. subst (λ (c : Call). StandsAlike here v (answer call a .state .table) (answer c b .state .table)) (one-here call) (goes-alike here a b ra rb v call later t before .stands))
+      (λ t. other-kept here v _ _ (one-kept here v _ _ before _ (undisturbed a ra v call later t)) _ (undisturbed b rb v call later t))
 
-module _ (iv : List ℕ) (a b : State) (ra : Ready a) (rb : Ready b) (l : LikeBut iv (a .table) (b .table)) (call : Call) (e : bears iv call ≡ false) where
-  module _ (later : NoSetup call) where
-    alike : (v : List ℕ) → (v ≡ iv → ⊥) → StandsAlike here v (answer call a .state .table) (answer call b .state .table)
-    alike v n =
-        let before = stands iv (a .table) (b .table) l v (l .session v n) in
-        tested (bears v call)
-        (λ t. subst (λ (c : Call). StandsAlike here v (answer call a .state .table) (answer c b .state .table)) (one-here call) (goes-alike here a b ra rb v call later t before .stands))
-        (λ t. other-kept here v _ _ (one-kept here v _ _ before _ (undisturbed a ra v call later t)) _ (undisturbed b rb v call later t))
+  in-a : Undisturbed iv (a .table) (answer call a .state .table)
+  in-a = undisturbed a ra iv call later e
 
-    in-a : Undisturbed iv (a .table) (answer call a .state .table)
-    in-a = undisturbed a ra iv call later e
+  in-b : Undisturbed iv (b .table) (answer call b .state .table)
+  in-b = undisturbed b rb iv call later e
 
-    in-b : Undisturbed iv (b .table) (answer call b .state .table)
-    in-b = undisturbed b rb iv call later e
-
-    like-after : LikeBut iv (answer call a .state .table) (answer call b .state .table)
-    like-after = record {
-      long = in-a .long ∙ l .long ∙ sym (in-b .long);
-      place = λ v.
-          ⊎-elim (λ is. rw is (in-a .place ∙ l .place iv ∙ sym (in-b .place))) (λ n. one-place _ _ (alike v n .place)) (own-or-other v iv);
-      session = λ v n. alike v n .session;
-      but = ap bare (in-a .session) ∙ l .but ∙ sym (ap bare (in-b .session));
-    }
+  like-after : LikeBut iv (answer call a .state .table) (answer call b .state .table)
+  like-after = record {
+    long = in-a .long ∙ l .long ∙ sym (in-b .long);
+    place = λ v.
+        ⊎-elim (λ is. rw is (in-a .place ∙ l .place iv ∙ sym (in-b .place))) (λ n. one-place _ _ (alike v n .place)) (own-or-other v iv);
+    session = λ v n. alike v n .session;
+    but = ap bare (in-a .session) ∙ l .but ∙ sym (ap bare (in-b .session));
+  }
 
 -- a setup of another session
 setup-apart : (iv : List ℕ) (s : Setup) → bears iv (setting-up s) ≡ false → iv ≡ s .iv → ⊥

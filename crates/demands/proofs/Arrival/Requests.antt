@@ -1,34 +1,33 @@
 -- A session's own request that is accepted: its window takes the nonce where nonces are ordered, and nothing else of the table moves.
 -- Assumes nothing.
 use mathlib.Core.Path.{_≡_, refl, sym, ap, subst, _∙_}
-use mathlib.Core.Bool.{Bool, true, false, true≢false, false≢true, cond}
+use mathlib.Core.Bool.{Bool, true, false, false≢true, cond}
 use mathlib.Core.List.{List}
 use mathlib.Core.Logic.{⊎-elim}
 use mathlib.Core.Option.{Option, none, some}
 use Prim.Native.Nat.{ℕ}
 use borrow.Author.Tests.{eq-eqb}
-use lib.Dec.{eqb}
 use Rattle.window.specs.declared.Window.{Window}
 use Rattle.window.specs.Window.{stepOf}
 use Rattle.table.specs.declared.session.Record.{Record}
 use Rattle.table.specs.declared.place.Place.{Place}
 use Rattle.table.specs.declared.place.Place.the-variants.{At, Nowhere}
 use Rattle.table.specs.Record.{windowOf}
-use Rattle.table.specs.Table.{recordAt, isUsed}
+use Rattle.table.specs.Table.{isUsed}
 use Rattle.table.specs.Session.{placeOf, heldAt}
 use Rattle.table.proofs.Sessions.{windowOf-with}
 use Rattle.stages.specs.Request.{Request}
-use Rattle.stages.specs.Checks.{first, nowhere}
+use Rattle.stages.specs.Checks.{nowhere}
 use Rattle.stages.specs.Parts.{ivOf, nonceOf, ordered}
 use Rattle.gate.specs.State.{State}
-use Rattle.gate.specs.Judge.{requestChecks, judged}
+use Rattle.gate.specs.Judge.{judged}
 use Rattle.demands.specs.History.{Call, setting-up, judging, judging-one, ending, making-index, takenOut, judgedAt, answer}
 use Rattle.demands.specs.Struck.{bears, sessionIn}
 use Rattle.demands.specs.Arrival.{isRequest}
 use Rattle.demands.proofs.Shared.Answers.{next, judged-number}
 use Rattle.demands.proofs.Shared.Checks.{accepted-passes}
 use Rattle.demands.proofs.Shared.Named.{found-session}
-use Rattle.demands.proofs.Shared.Others.{Finds, passes-finds}
+use Rattle.demands.proofs.Shared.Others.{passes-finds}
 use Rattle.demands.proofs.Shared.TakenOut.{own}
 use Rattle.demands.proofs.Struck.Turned.{Turns}
 use Rattle.demands.proofs.Struck.Calls.{turned, turnedAt, judge-turns, one-turns}

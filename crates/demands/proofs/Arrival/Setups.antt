@@ -1,12 +1,12 @@
 -- A setup that is done, on two tables that are alike but for the window of one session: it leaves two such tables.
 -- Assumes nothing.
 use mathlib.Core.Path.{_≡_, refl, sym, ap, subst, _∙_}
-use mathlib.Core.Bool.{Bool, true, false, cond}
-use mathlib.Core.List.{List, _++_}
+use mathlib.Core.Bool.{cond}
+use mathlib.Core.List.{List}
 use mathlib.Core.Logic.{⊎-elim}
 use Prim.Native.Nat.{ℕ, _≤_, _<_}
 use native.Mathlib.Omega.{arith}
-use borrow.Author.Tests.{eqb-true, eqb-false, eq-eqb, ne-eqb}
+use borrow.Author.Tests.{eqb-false, ne-eqb}
 use lib.Dec.{eqb}
 use Rattle.cells.proofs.Tests.{tested}
 use Rattle.hashes.specs.Hashes.{hashMask}
@@ -17,20 +17,19 @@ use Rattle.table.specs.Record.{begun}
 use Rattle.table.specs.Table.{places, records, recordAt}
 use Rattle.table.specs.Session.{placeOf, heldAt}
 use Rattle.table.specs.WellFormed.{WellFormed}
-use Rattle.table.proofs.Stored.{equal-or-not}
 use Rattle.table.proofs.Meaning.{is-wellFormed}
-use Rattle.stages.specs.Checks.{Check, first, nowhere}
+use Rattle.stages.specs.Checks.{first}
 use Rattle.gate.specs.Calls.{Setup}
 use Rattle.gate.specs.State.{State}
-use Rattle.gate.specs.Sizes.{stateFits, setupFits}
+use Rattle.gate.specs.Sizes.{setupFits}
 use Rattle.gate.specs.Entry.{stateChecks, entryChecks}
-use Rattle.gate.specs.Setup.{chosenOf, expiryOf, entryPart, offerPart, roomPart, setupChecks, setUp}
-use Rattle.demands.specs.Tables.{Replaced, SessionAt}
+use Rattle.gate.specs.Setup.{chosenOf, expiryOf, entryPart, roomPart, setupChecks, setUp}
+use Rattle.demands.specs.Tables.{Replaced}
 use Rattle.demands.specs.History.{setting-up}
 use Rattle.demands.specs.Struck.{sessionIn}
 use Rattle.demands.proofs.Shared.Answers.{zero-or-not, setUp-number}
 use Rattle.demands.proofs.Shared.Indexes.{right-same}
-use Rattle.demands.proofs.Shared.Named.{nowhere-at, found-session, session-found}
+use Rattle.demands.proofs.Shared.Named.{nowhere-at, found-session, stands-so, session-found}
 use Rattle.demands.proofs.Untouched as Untouched
 use Rattle.demands.proofs.Struck.Kept.{Ready, ready-left}
 use Rattle.demands.proofs.Arrival.Alike.{LikeBut, bare, own-or-other, taken-alike}
@@ -44,30 +43,17 @@ vacated place Nowhere = Nowhere
 module _ (table after : List ℕ) (w : WellFormed (records table)) (w' : WellFormed (records after)) (place : ℕ) (r : Record) (laid : Replaced table after place r) where
   -- another session was there before
   there-before : (v : List ℕ) → (v ≡ r .iv → ⊥) → (p : ℕ) → placeOf after v ≡ At p → (p ≡ place → ⊥) × (placeOf table v ≡ At p)
-  there-before v apart p e = (
-    elsewhere,
-    session-found table v p w (record { within = h; used = ap (λ (x : Record). x .used) (sym is) ∙ s .used; iv = ap (λ (x : Record). x .iv) (sym is) ∙ s .iv }),
-  )
-    where
-      s : SessionAt after v p
-      s = found-session after v p e
-
-      elsewhere : p ≡ place → ⊥
-      elsewhere k = apart (sym (s .iv) ∙ ap (λ (i : ℕ). recordAt after i .iv) k ∙ ap (λ (x : Record). x .iv) (laid .here))
-
-      h : p < places table
-      h = omega (arith, laid .as-long, s .within)
-
-      is : recordAt after p ≡ recordAt table p
-      is = laid .others p h elsewhere
+  there-before v apart p e =
+      let s = found-session after v p e in
+      let elsewhere : p ≡ place → ⊥ = λ k. apart (sym (s .iv) ∙ ap (λ (i : ℕ). recordAt after i .iv) k ∙ ap (λ (x : Record). x .iv) (laid .here)) in
+      let h : p < places table = omega (arith, laid .as-long, s .within) in
+      (elsewhere, session-found table v p w (stands-so (sym (laid .others p h elsewhere)) h s))
 
   -- and is there still, if its place was not taken
   there-still : (v : List ℕ) (p : ℕ) → placeOf table v ≡ At p → (p ≡ place → ⊥) → placeOf after v ≡ At p
   there-still v p e n =
       let s = found-session table v p e in
-      let is = laid .others p (s .within) n in
-      session-found after v p w'
-      (record { within = omega (arith, laid .as-long, s .within); used = ap (λ (x : Record). x .used) is ∙ s .used; iv = ap (λ (x : Record). x .iv) is ∙ s .iv })
+      session-found after v p w' (stands-so (laid .others p (s .within) n) (omega (arith, laid .as-long, s .within)) s)
 
   spared : (p : ℕ) → (p ≡ place → ⊥) → vacated place (At p) ≡ At p
   spared p n = rw (ne-eqb p place n)

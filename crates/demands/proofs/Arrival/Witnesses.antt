@@ -1,16 +1,15 @@
 -- What Arrival asks of two histories can be met: a session's requests in two orders, around another session's, each accepted.
 -- Assumes nothing.
-use mathlib.Core.Path.{_≡_, refl, sym, ap, _∙_}
+use mathlib.Core.Path.{_≡_, refl, sym, _∙_}
 use mathlib.Core.Bool.{true, false, true≢false}
 use mathlib.Core.List.{List, [], _∷_, List·Permᴰ·swap}
-use Prim.Native.Nat.{ℕ}
 use lib.Dec.{lit<}
 use Rattle.cells.specs.Runs.{same}
 use Rattle.window.specs.Window.{bit, moved, marked, stepOf}
 use Rattle.table.specs.declared.session.Record.{Record}
-use Rattle.demands.specs.History.{Call, judging, judging-one, answer, after}
+use Rattle.demands.specs.History.{Call, judging, judging-one, after}
 use Rattle.demands.specs.Struck.{bears, unstruck, sessionIn}
-use Rattle.demands.specs.Arrival.{isRequest, AllAccepted, Reordered}
+use Rattle.demands.specs.Arrival.{AllAccepted, Reordered}
 use Rattle.demands.proofs.Shared.Answers.{next}
 use Rattle.demands.proofs.Struck.Kept.{undisturbed}
 use Rattle.demands.proofs.Struck.Steps.{ours, theirs, new, both-sessions, sent, turn-about, us, them, bears-own, one-decided, asks-one, at-first, we-ask}

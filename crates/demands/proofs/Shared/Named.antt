@@ -4,6 +4,7 @@ use mathlib.Core.Path.{_≡_, refl, sym, ap, subst, _∙_}
 use mathlib.Core.Bool.{true≢false, false}
 use mathlib.Core.List.{List}
 use Prim.Native.Nat.{ℕ, _<_}
+use Rattle.table.specs.declared.session.Record.{Record}
 use Rattle.table.specs.declared.place.Place.{Place}
 use Rattle.table.specs.declared.place.Place.the-variants.{At, Nowhere}
 use Rattle.table.specs.Record.{freed}
@@ -33,6 +34,10 @@ found-session table iv place e =
     let inside : place < places table = rw length-records at (f .0) in
     let held = holds-used iv (recordAt table place) (ap (holds iv) (sym (records-at table place inside)) ∙ f .1) in
     record { within = inside; used = held .0; iv = held .1 }
+
+-- a session stands wherever its record does
+pub stands-so : {one other iv : List ℕ} {i j : ℕ} → recordAt other j ≡ recordAt one i → j < places other → SessionAt one iv i → SessionAt other iv j
+stands-so e h s = record { within = h; used = ap (λ (r : Record). r .used) e ∙ s .used; iv = ap (λ (r : Record). r .iv) e ∙ s .iv }
 
 -- in a well-formed table it is the only one
 pub session-found : (table iv : List ℕ) (place : ℕ) → WellFormed (records table) → SessionAt table iv place → placeOf table iv ≡ At place

@@ -24,6 +24,10 @@ use Rattle.demands.specs.Tables.{Replaced}
 abbrev pub Whole : List ℕ → Type 0
 Whole table = (i : ℕ) → i < places table → Fits (recordAt table i)
 
+-- and those of a well-formed one are sound
+pub sound-at : (table : List ℕ) → WellFormed (records table) → (place : ℕ) → place < places table → Sound (recordAt table place)
+sound-at table w place h = subst (λ (r : Record). Sound r) (records-at table place h) (w .each place (rw length-records h))
+
 spliced-outside : (xs ys : List ℕ) (at i : ℕ) → at + length ys ≤ length xs → (i < at) ⊎ (at + length ys ≤ i)
     → getD (spliced xs at ys) i 0 ≡ getD xs i 0
 unfolding spliced

@@ -21,7 +21,8 @@ use Rattle.gate.specs.State.{State}
 use Rattle.gate.specs.Remake.{remade}
 use Rattle.demands.specs.History.{takenOut, caughtUp}
 use Rattle.demands.proofs.Shared.Answers.{remade-table}
-use Rattle.demands.proofs.Shared.Named.{found-session, session-found}
+use Rattle.demands.proofs.Shared.Stored.{sound-at}
+use Rattle.demands.proofs.Shared.Named.{found-session, stands-so, session-found}
 
 -- making the index anew leaves the table alone
 pub caught-table : (number : ℕ) (state : State) → caughtUp number state .table ≡ state .table
@@ -59,8 +60,7 @@ module _ (state : State) (w : WellFormed (records (state .table))) (place : ℕ)
       only i h =
           let here = one-place i h in
           subst (λ (r : Record). Sound r)
-          (sym (records-at one i h ∙ ap (recordAt one) (here .1) ∙ one-record (here .0) ∙ sym (records-at (state .table) place (here .0))))
-          (w .each place (rw length-records (here .0)))
+          (sym (records-at one i h ∙ ap (recordAt one) (here .1) ∙ one-record (here .0))) (sound-at (state .table) w place (here .0))
 
   -- a session that is found in it is the table's own
   pub record Own (iv : List ℕ) : Type 0 where
@@ -77,20 +77,13 @@ module _ (state : State) (w : WellFormed (records (state .table))) (place : ℕ)
   own iv j e =
       let within = one-place j (found-session one iv j e .within) in
       let here : placeOf one iv ≡ At 0 = e ∙ ap At (within .1) in
-      let s = found-session one iv 0 here in
-      let is = sym (one-record (within .0)) in
-      owned iv (within .0) here
-      (session-found (state .table) iv place w
-      (record { within = within .0; used = ap (λ (r : Record). r .used) is ∙ s .used; iv = ap (λ (r : Record). r .iv) is ∙ s .iv }))
+      owned iv (within .0) here (session-found (state .table) iv place w (stands-so (sym (one-record (within .0))) (within .0) (found-session one iv 0 here)))
 
   -- and a session of the table is found in its record
   pub lent : (iv : List ℕ) → placeOf (state .table) iv ≡ At place → Own iv
   lent iv e =
       let s = found-session (state .table) iv place e in
-      let is = one-record (s .within) in
-      owned iv (s .within)
-      (session-found one iv 0 one-well
-      (record { within = omega (arith, one-long (s .within)); used = ap (λ (r : Record). r .used) is ∙ s .used; iv = ap (λ (r : Record). r .iv) is ∙ s .iv })) e
+      owned iv (s .within) (session-found one iv 0 one-well (stands-so (one-record (s .within)) (omega (arith, one-long (s .within))) s)) e
 
   -- another record laid over it, put back, is that record laid over its place
   pub put-back : (r : Record) → length one ≡ size → length (r .iv) ≡ 12

@@ -16,8 +16,8 @@ use Rattle.table.specs.declared.place.Place.the-variants.{At, Nowhere}
 use Rattle.table.specs.Record.{size, freed, windowOf}
 use Rattle.table.specs.Table.{records, recordAt}
 use Rattle.table.specs.Session.{placeOf, heldAt, with-record, without}
-use Rattle.table.specs.WellFormed.{Sound, WellFormed}
-use Rattle.table.proofs.Records.{length-records, records-at, freed-fits}
+use Rattle.table.specs.WellFormed.{WellFormed}
+use Rattle.table.proofs.Records.{freed-fits}
 use Rattle.table.proofs.Meaning.{freed-sound}
 use Rattle.table.proofs.Sessions.{stepped-sound, stepped-fits}
 use Rattle.stages.specs.Request.{Request}
@@ -30,7 +30,7 @@ use Rattle.demands.specs.Tables.{SessionAt}
 use Rattle.demands.specs.History.{takenOut, judgedAt}
 use Rattle.demands.proofs.Shared.Checks.{accepted-passes}
 use Rattle.demands.proofs.Shared.Answers.{next, ended-number, ended-table, judged-number, judged-table, found-step}
-use Rattle.demands.proofs.Shared.Stored.{Whole, respliced}
+use Rattle.demands.proofs.Shared.Stored.{Whole, sound-at, respliced}
 use Rattle.demands.proofs.Shared.Named.{nowhere-at, placed, found-session}
 use Rattle.demands.proofs.Shared.TakenOut.{caught-table, own, put-back}
 use Rattle.demands.proofs.Shared.Passed.{session-passed}
@@ -68,9 +68,6 @@ module _ (table : List ℕ) (w : WellFormed (records table)) (fit : Whole table)
     there : SessionAt table (ivOf q) place
     there = found-session table (ivOf q) place at
 
-    old-sound : Sound old
-    old-sound = subst (λ (r : Record). Sound r) (records-at table place (there .within)) (w .each place (rw length-records (there .within)))
-
     acts : (t u o : Bool)
         → (t ≡ true → o ≡ true → Accepts q old)
         → Turns (ivOf q) (λ r. cond t (cond o (next (nonceOf q) r) r) (cond u freed r)) table
@@ -78,7 +75,7 @@ module _ (table : List ℕ) (w : WellFormed (records table)) (fit : Whole table)
     acts true u true accepts =
         let a = accepts refl refl in
         turned-into (ivOf q) table w fit place there (next (nonceOf q) old) (stepped-fits old (nonceOf q) (fit place (there .within)) (a .1))
-        (stepped-sound old (nonceOf q) old-sound (there .used) (a .0)) (inr (there .used, there .iv)) _ refl
+        (stepped-sound old (nonceOf q) (sound-at table w place (there .within)) (there .used) (a .0)) (inr (there .used, there .iv)) _ refl
     acts true u false accepts = unturned (ivOf q) _ table table w fit refl refl
     acts false true o accepts = freed-turns (ivOf q) _ (λ r. refl) place at
     acts false false o accepts = unturned (ivOf q) _ table table w fit refl refl

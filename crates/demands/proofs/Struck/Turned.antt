@@ -12,7 +12,7 @@ use Rattle.table.specs.declared.session.Record.{Record}
 use Rattle.table.specs.declared.place.Place.{Place}
 use Rattle.table.specs.declared.place.Place.the-variants.{At, Nowhere}
 use Rattle.table.specs.Record.{Fits, freed}
-use Rattle.table.specs.Table.{places, records, recordAt, isUsed, holds, found}
+use Rattle.table.specs.Table.{records, recordAt, isUsed, holds, found}
 use Rattle.table.specs.Session.{placeOf, heldAt, with-record}
 use Rattle.table.specs.WellFormed.{Sound, WellFormed}
 use Rattle.table.proofs.Records.{length-records, records-at, records-stored}
