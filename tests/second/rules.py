@@ -161,8 +161,8 @@ def phrases():
     yield "the 63 below it", at_edge("nonce 37, new, after 100") == 0
     yield "less than 64 below", at_edge("nonce 36, new, after 100") == 15
     yield "at most 64 requests at a time never meets 15 or 16", in_any_order()
-    yield "of the new nonces 1 and 65 both are accepted if 1 comes first", at_edge("nonce 65 after 1") == 0
-    yield "after 65 the nonce 1 has", at_edge("nonce 1, new, after 65") == 15
+    yield "of a session's first nonces 1 and 65 both are accepted if 1 comes first", at_edge("nonce 65 after 1") == 0
+    yield "after 65 the nonce 1 has fallen out", at_edge("nonce 1, new, after 65") == 15
     yield "At 0 the reply", True
     yield "At 10 and 13", True
     yield "At 10 the record is freed whatever hash it holds", outcome(talked_down(replaced("plan", "expiry", CLOCK))).table == bytes(rec.SIZE)
