@@ -12,7 +12,6 @@ use mathlib.Core.Path.{_≡_, refl, sym, ap, ap₂, subst, _∙_}
 use mathlib.Core.Bool.{Bool, true, false, cond, not}
 use mathlib.Core.List.{List, [], _∷_, Permᴰ·filterMap, filterMap}
 use Prim.Native.Nat.{ℕ}
-use Rattle.cells.specs.Runs.{same}
 use Rattle.window.specs.declared.Window.{Window}
 use Rattle.table.specs.declared.place.Place.{Place}
 use Rattle.table.specs.declared.place.Place.the-variants.{At, Nowhere}

@@ -2,6 +2,7 @@
 pub mod Times
 pub mod Bits
 pub mod Steps
+pub mod Next
 pub mod Tracks
 pub mod Exactly
 pub mod Arrival

@@ -1,9 +1,9 @@
 -- What a window knows of the nonces accepted so far, and that a step keeps it: the step form of the window's theorem.
 -- Assumes nothing.
-use mathlib.Core.Path.{_≡_, refl, sym, _∙_}
+use mathlib.Core.Path.{_≡_, refl, sym, ap, subst, _∙_}
 use mathlib.Core.List.{List, [], _∷_}
 use mathlib.Core.Logic.{⊎-elim}
-use mathlib.Core.Bool.{Bool, true, false, not, cond, _&&_, _||_, and-false, or-comm, or-false}
+use mathlib.Core.Bool.{Bool, true, false, not, cond, _&&_, _||_, and-false, or-comm}
 use Prim.Native.Nat.{ℕ, _+_, _-_, _<_, _≤_, max}
 use native.Mathlib.Omega.{arith}
 use borrow.Author.Tests.{lt-ltb, le-ltb, le-leb, lt-leb, ne-eqb}
@@ -12,128 +12,100 @@ use Rattle.window.specs.declared.Window.{Window}
 use Rattle.window.specs.declared.Verdict.the-variants.{Accepted, Seen}
 use Rattle.window.specs.declared.Stepped.{Stepped}
 use Rattle.window.specs.Window.{fresh, bit, moved, marked, accepted, refused, above, below, stepOf}
-use Rattle.window.specs.History.{isAccepted, keep, among, highestOf, admits, verdictAfter, acceptedBelow}
-use Rattle.window.proofs.Bits.{order, alike, no-bit, bit-power, bit-moved, bit-marked}
+use Rattle.window.specs.History.{isAccepted, keep, among, highestOf, admits, verdictAfter}
+use Rattle.window.proofs.Bits.{order, alike, no-bit}
+use Rattle.window.proofs.Next.{has, Next, later-from, first}
+use Rattle.window.proofs.Steps.{unmoved}
 
 abbrev pub some : List ℕ → Bool
 some [] = false
 some (a ∷ before) = true
 
--- the window stands for the nonces accepted so far
+-- the window stands for the nonces accepted so far, which are counted as in Next
 pub record Tracks (window : Window) (before : List ℕ) : Type 0 where
   pub any : window .any ≡ some before
   pub highest : window .highest .0 ≡ highestOf before
-  pub bits : (d : ℕ) → d < 64 → bit (window .bits) d ≡ acceptedBelow before d
+  pub set : (e : ℕ) → highestOf before < e → has (highestOf before) (window .bits) e ≡ (leb 64 e && among before (e - 64))
 
 -- a fresh window stands for none
 pub tracks-fresh : Tracks fresh []
-tracks-fresh = record { any = refl; highest = refl; bits = λ d h. no-bit d ∙ sym (and-false (leb d 0)) }
+tracks-fresh = record { any = refl; highest = refl; set = λ e l. rw (no-bit (0 + 64 - e)) (and-false (leb e (0 + 64)) ∙ sym (and-false (leb 64 e))) }
 
 -- none above the highest was accepted
 none-above : (before : List ℕ) (n : ℕ) → highestOf before < n → among before n ≡ false
 none-above [] n h = refl
 none-above (a ∷ before) n h = rw (ne-eqb a n (λ e. omega arith), none-above before n (omega arith))
 
--- the nonce itself is the one 0 below it
-itself : (n d : ℕ) → eqb 0 d ≡ (leb d n && (eqb n (n - d) || false))
-itself n d =
-    ⊎-elim (λ m. rw (lt-leb d n m) (ne-eqb 0 d (λ e. omega arith)))
-    (λ m. rw (le-leb d n m) (alike 0 d n (n - d) (λ e. omega arith) (λ e. omega arith) ∙ sym (or-false (eqb n (n - d)))))
-    (order n d)
-
--- the nonces accepted below a new highest one
-raised : (before : List ℕ) (n d : ℕ) → highestOf before < n
-    → ((leb (n - highestOf before) d && acceptedBelow before (d - (n - highestOf before))) || eqb 0 d) ≡ acceptedBelow (n ∷ before) d
-raised before n d h =
-    let top : max n (highestOf before) ≡ n = omega arith in
-    let k = n - highestOf before in
-    rw top
-    (⊎-elim (λ l. rw (lt-leb k d l, none-above before (n - d) (omega arith)) (itself n d))
-    (λ l. rw (le-leb k d l, ne-eqb 0 d (λ e. omega arith))
-    (⊎-elim (λ m. rw (lt-leb (d - k) (highestOf before) (omega arith), lt-leb d n m))
-    (λ m.
-    let same : highestOf before - (d - k) ≡ n - d = omega arith in
-    rw (le-leb (d - k) (highestOf before) (omega arith), le-leb d n m, same, ne-eqb n (n - d) (λ e. omega arith)) (or-false (among before (n - d))))
-    (order n d)))
-    (order d k))
-
--- a nonce above all: the new word holds each old bit where it moved to, and the lowest
-up : (window : Window) (before : List ℕ) → Tracks window before → (n word : ℕ) → highestOf before < n
-    → ((d : ℕ) → d < 64 → bit word d ≡ ((leb (n - highestOf before) d && bit (window .bits) (d - (n - highestOf before))) || eqb 0 d))
-    → Tracks (accepted n word .window) (n ∷ before)
-up window before t n word h p = record {
-  any = refl;
-  highest = omega arith;
-  bits = λ d l.
-      p d l
-      ∙ rw (t .bits (d - (n - highestOf before)) (omega arith)) (raised before n d h);
+-- the window after a nonce stands for that one, too
+tracks-more : (window : Window) (before : List ℕ) → Tracks window before → (n : ℕ) (next : Window) → Next (highestOf before) (window .bits) n next → Tracks next (n ∷ before)
+tracks-more window before t n next x = record {
+  any = x .any;
+  highest = top;
+  set = λ e l. ap (λ (h : ℕ). has h (next .bits) e) (sym top) ∙ x .set e (omega arith) ∙ ap (λ (u : Bool). u || eqb (n + 64) e) (t .set e (omega arith)) ∙ more e;
 }
+  where
+    top : next .highest .0 ≡ max n (highestOf before)
+    top = x .highest ∙ omega arith
 
--- a nonce below the highest
-down : (window : Window) (before : List ℕ) → Tracks window before → (n : ℕ) → n ≤ highestOf before
-    → (d : ℕ) → d < 64 → bit (marked (window .bits) (highestOf before - n)) d ≡ acceptedBelow (n ∷ before) d
-down window before t n h d l =
-    let top : max n (highestOf before) ≡ highestOf before = omega arith in
-    bit-marked (window .bits) (highestOf before - n) d
-    ∙ rw (top, t .bits d l)
-    (⊎-elim (λ m. rw (lt-leb d (highestOf before) m) (ne-eqb (highestOf before - n) d (λ e. omega arith)))
-    (λ m. rw (le-leb d (highestOf before) m, alike (highestOf before - n) d n (highestOf before - d) (λ e. omega arith) (λ e. omega arith))
-    (or-comm (among before (highestOf before - d)) (eqb n (highestOf before - d))))
-    (order (highestOf before) d))
+    more : (e : ℕ) → ((leb 64 e && among before (e - 64)) || eqb (n + 64) e) ≡ (leb 64 e && among (n ∷ before) (e - 64))
+    more e =
+        ⊎-elim (λ l. rw (lt-leb 64 e l) (ne-eqb (n + 64) e (λ z. omega arith)))
+        (λ l. rw (le-leb 64 e l, alike (n + 64) e n (e - 64) (λ z. omega arith) (λ z. omega arith)) (or-comm (among before (e - 64)) (eqb n (e - 64))))
+        (order e 64)
 
 -- a step's verdict and window are right for the nonces accepted before
 pub record Right (before : List ℕ) (n : ℕ) (s : Stepped) : Type 0 where
   pub verdict : s .verdict ≡ verdictAfter before n
   pub next : Tracks (s .window) (keep (isAccepted (s .verdict)) n before)
 
--- the first nonce
-first : (n : ℕ) → Tracks (accepted n 1 .window) (n ∷ [])
-first n =
-    let top : max n 0 ≡ n = omega arith in
-    record { any = refl; highest = omega arith; bits = λ d l. bit-power 0 d ∙ rw top (itself n d) }
-
 module _ (window : Window) (a : ℕ) (rest : List ℕ) (t : Tracks window (a ∷ rest)) (n : ℕ) where
-  above-right : highestOf (a ∷ rest) < n → Right (a ∷ rest) n (above window n (n - highestOf (a ∷ rest)))
-  above-right h =
-      let k = n - highestOf (a ∷ rest) in
-      let passes : Accepted ≡ verdictAfter (a ∷ rest) n = rw (lt-leb (n + 64) (highestOf (a ∷ rest)) (omega arith), none-above (a ∷ rest) n h) in
-      ⊎-elim
-      (λ l. rw (lt-leb 64 k l) (record { verdict = passes; next = up window (a ∷ rest) t n (moved (window .bits) k) h (bit-moved (window .bits) k) }))
-      (λ l. rw (le-leb 64 k l) (record { verdict = passes; next = up window (a ∷ rest) t n 1 h (λ d m. rw (lt-leb k d (omega arith)) (bit-power 0 d)) }))
-      (order k 64)
+  abbrev top : ℕ
+  top = highestOf (a ∷ rest)
 
-  below-right : n ≤ highestOf (a ∷ rest) → Right (a ∷ rest) n (below window (highestOf (a ∷ rest) - n))
-  below-right h =
-      ⊎-elim (λ l. rw (lt-leb 64 (highestOf (a ∷ rest) - n) l) (near _ l refl))
-      (λ l. rw (le-leb 64 (highestOf (a ∷ rest) - n) l) (record { verdict = rw (le-leb (n + 64) (highestOf (a ∷ rest)) (omega arith)); next = t }))
-      (order (highestOf (a ∷ rest) - n) 64)
+  above-verdict : top < n → above window n (n - top) .verdict ≡ verdictAfter (a ∷ rest) n
+  above-verdict h =
+      rw (lt-leb (n + 64) top (omega arith), none-above (a ∷ rest) n h) (by (leb 64 (n - top)))
     where
-      known : (u : Bool) → highestOf (a ∷ rest) - n < 64 → bit (window .bits) (highestOf (a ∷ rest) - n) ≡ u → among (a ∷ rest) n ≡ u
-      known u l e =
-          let same : highestOf (a ∷ rest) - (highestOf (a ∷ rest) - n) ≡ n = omega arith in
-          sym (t .bits (highestOf (a ∷ rest) - n) l ∙ rw (le-leb (highestOf (a ∷ rest) - n) (highestOf (a ∷ rest)) (omega arith), same)) ∙ e
+      by : (u : Bool) → cond u (accepted n 1) (accepted n (moved (window .bits) (n - top))) .verdict ≡ Accepted
+      by true = refl
+      by false = refl
 
-      near : (u : Bool) → highestOf (a ∷ rest) - n < 64 → bit (window .bits) (highestOf (a ∷ rest) - n) ≡ u
-          → Right (a ∷ rest) n
-          (cond u (refused window Seen) (accepted (window .highest .0) (marked (window .bits) (highestOf (a ∷ rest) - n))))
-      near true l e = record { verdict = rw (lt-leb (n + 64) (highestOf (a ∷ rest)) (omega arith), known true l e); next = t }
-      near false l e = record {
-        verdict = rw (lt-leb (n + 64) (highestOf (a ∷ rest)) (omega arith), known false l e);
-        next = record { any = refl; highest = t .highest ∙ omega arith; bits = down window (a ∷ rest) t n h };
-      }
+  below-verdict : n ≤ top → below window (top - n) .verdict ≡ verdictAfter (a ∷ rest) n
+  below-verdict h =
+      ⊎-elim (λ l. rw (lt-leb 64 (top - n) l, lt-leb (n + 64) top (omega arith), known l) (by (among (a ∷ rest) n)))
+      (λ l. rw (le-leb 64 (top - n) l, le-leb (n + 64) top (omega arith)))
+      (order (top - n) 64)
+    where
+      known : top - n < 64 → bit (window .bits) (top - n) ≡ among (a ∷ rest) n
+      known l =
+          let down : top + 64 - (n + 64) ≡ top - n = omega arith in
+          let back : n + 64 - 64 ≡ n = omega arith in
+          let set : has top (window .bits) (n + 64) ≡ bit (window .bits) (top - n) = rw (le-leb (n + 64) (top + 64) (omega arith), down) in
+          sym set ∙ t .set (n + 64) (omega arith) ∙ rw (le-leb 64 (n + 64) (omega arith), back)
+
+      by : (u : Bool) → cond u (refused window Seen) (accepted (window .highest .0) (marked (window .bits) (top - n))) .verdict ≡ cond u Seen Accepted
+      by true = refl
+      by false = refl
 
   -- over any test and number, since neither can be rewritten as a field of the window
-  stepped-right : (u : Bool) (k : ℕ) → u ≡ true → k ≡ highestOf (a ∷ rest)
-      → Right (a ∷ rest) n (cond u (cond (ltb k n) (above window n (n - k)) (below window (k - n))) (accepted n 1))
-  stepped-right u k eu ek =
-      let top = highestOf (a ∷ rest) in
-      rw (eu, ek) (⊎-elim (λ l. rw (lt-ltb top n l) (above-right l)) (λ l. rw (le-ltb top n l) (below-right l)) (order top n))
+  verdict-right : (u : Bool) (k : ℕ) → u ≡ true → k ≡ top
+      → cond u (cond (ltb k n) (above window n (n - k)) (below window (k - n))) (accepted n 1) .verdict ≡ verdictAfter (a ∷ rest) n
+  verdict-right u k eu ek =
+      rw (eu, ek) (⊎-elim (λ l. rw (lt-ltb top n l) (above-verdict l)) (λ l. rw (le-ltb top n l) (below-verdict l)) (order top n))
 
 -- a step from a window that stands for the nonces accepted so far
 pub right : (window : Window) (before : List ℕ) → Tracks window before → (n : ℕ) → Right before n (stepOf window n)
 unfolding stepOf
-right window [] t n = rw (t .any) (record { verdict = refl; next = first n })
-right window (a ∷ rest) t n = stepped-right window a rest t n (window .any) (window .highest .0) (t .any) (t .highest)
+right window [] t n = rw (t .any) (record { verdict = refl; next = tracks-more fresh [] tracks-fresh n _ (first n) })
+right window (a ∷ rest) t n = record {
+  verdict = verdict-right window a rest t n (window .any) (window .highest .0) (t .any) (t .highest);
+  next = by (isAccepted (stepOf window n .verdict)) refl;
+}
+  where
+    by : (u : Bool) → isAccepted (stepOf window n .verdict) ≡ u → Tracks (stepOf window n .window) (keep u n (a ∷ rest))
+    by true e =
+        tracks-more window (a ∷ rest) t n _ (subst (λ (h : ℕ). Next h (window .bits) n (stepOf window n .window)) (t .highest) (later-from window (t .any) n))
+    by false e = subst (λ (w : Window). Tracks w (a ∷ rest)) (sym (unmoved window n e)) t
 
 -- the verdict accepts exactly what the rule admits
 pub admitted : (before : List ℕ) (n : ℕ) → isAccepted (verdictAfter before n) ≡ admits before n

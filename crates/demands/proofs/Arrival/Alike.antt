@@ -70,7 +70,7 @@ module _ {A : Type 0} (f : Record → A) where
       let at = session-found one v p w (record { within = h; used = u; iv = refl }) in
       ap (λ (q : Place). f (heldAt one q)) (sym at) ∙ session v ∙ ap (λ (q : Place). f (heldAt other q)) (sym (place v) ∙ at)
 
-  pub place-alike : (one other : List ℕ) → length one ≡ length other → ((v : List ℕ) → placeOf one v ≡ placeOf other v) → ((v : List ℕ) → f (sessionIn v one) ≡ f (sessionIn v other))
+  place-alike : (one other : List ℕ) → length one ≡ length other → ((v : List ℕ) → placeOf one v ≡ placeOf other v) → ((v : List ℕ) → f (sessionIn v one) ≡ f (sessionIn v other))
       → WellFormed (records one) → WellFormed (records other) → (p : ℕ) → p < places one → f (getD (records one) p freed) ≡ f (getD (records other) p freed)
   place-alike one other long place session w w' p h =
       let h' : p < places other = rw long at h in

@@ -22,10 +22,10 @@ use Rattle.demands.proofs.Arrival.Alike.{LikeBut, bare, own-or-other, s
 use Rattle.demands.proofs.Arrival.Setups.{setup-alike, stood-before}
 
 -- one place, if each place is the one exactly if it is the other
-one-place : (p q : Place) → ((i : ℕ) → (p ≡ At i) ↔ (q ≡ At i)) → p ≡ q
-one-place (At i) q f = sym (f i .0 refl)
-one-place Nowhere (At i) f = f i .1 refl
-one-place Nowhere Nowhere f = refl
+same-place : (p q : Place) → ((i : ℕ) → (p ≡ At i) ↔ (q ≡ At i)) → p ≡ q
+same-place (At i) q f = sym (f i .0 refl)
+same-place Nowhere (At i) f = f i .1 refl
+same-place Nowhere Nowhere f = refl
 
 module _ (iv : List ℕ) (a b : State) (ra : Ready a) (rb : Ready b) (l : LikeBut iv (a .table) (b .table)) (call : Call) (e : bears iv call ≡ false) (later : NoSetup call) where
   alike : (v : List ℕ) → (v ≡ iv → ⊥) → StandsAlike here v (answer call a .state .table) (answer call b .state .table)
@@ -45,7 +45,7 @@ module _ (iv : List ℕ) (a b : State) (ra : Ready a) (rb : Ready b) (l : LikeBu
   like-after = record {
     long = in-a .long ∙ l .long ∙ sym (in-b .long);
     place = λ v.
-        ⊎-elim (λ is. rw is (in-a .place ∙ l .place iv ∙ sym (in-b .place))) (λ n. one-place _ _ (alike v n .place)) (own-or-other v iv);
+        ⊎-elim (λ is. rw is (in-a .place ∙ l .place iv ∙ sym (in-b .place))) (λ n. same-place _ _ (alike v n .place)) (own-or-other v iv);
     session = λ v n. alike v n .session;
     but = ap bare (in-a .session) ∙ l .but ∙ sym (ap bare (in-b .session));
   }
