@@ -3,13 +3,27 @@ ghost use mathlib.Core.Path.{_≡_};
 ghost use Prim.Native.Nat.{_≤_, _%_};
 ghost use lib.ListN.{length, getD};
 ghost use Rattle.cells.specs.Spans.{all, Spans, Passed};
-ghost use Rattle.lines.specs.Lines.{valueByte};
+ghost use Rattle.lines.specs.Lines.{valueByte, goodBlock};
 ghost use Rattle.lines.specs.Values.{blank, joined};
 ghost use Rattle.lines.specs.InnerPlaces.{PlaceIs, BackAt, TrimmedTo, Stands, frontAt, ownAt, FoundIs, AgainIs};
 ghost use Rattle.lines.specs.InnerNotes.{placeOf, PlaceIn, firstBy};
 use names::token;
 
 pub mod noting;
+
+// Whether a block is lines, and nothing else.
+pub fn good_block(block: &[u8]) -> bool
+    ensures { λ r. ⌜ r ≡ goodBlock (now (block .entry)) ⌝ }
+{
+    let mut at: usize = 0;
+    while at < block.len() {
+        let Place::Whole { end, .. } = line_at(block, at) else {
+            return false;
+        };
+        at = end + 2;
+    }
+    true
+}
 
 // The value of a covered name by its notes, of its first line where it has several: a part of one of the two blocks.
 pub fn covered<'a>(head: &'a [u8], aside: &'a [u8], in_head: u16, in_aside: u16) -> &'a [u8]
@@ -83,7 +97,7 @@ pub fn again(block: &[u8], at: usize) -> Found
 }
 
 // The first line from byte at on that bears the name.
-fn find(block: &[u8], at: usize, name: &[u8]) -> Found
+pub fn find(block: &[u8], at: usize, name: &[u8]) -> Found
     requires { ⌜ at ≤ length (now block) ⌝ }
     ensures { λ r. ⌜ FoundIs (now (block .entry)) at (now (name .entry)) r ⌝ }
 {

@@ -14,7 +14,7 @@ use Rattle.names.specs.Extra.{comma, ontoFirst, namesIn}
 use Rattle.names.specs.InnerWalk.{Known}
 
 -- names with commas between them
-abbrev rejoined : List (List ℕ) → List ℕ
+abbrev pub rejoined : List (List ℕ) → List ℕ
 rejoined [] = []
 rejoined (p ∷ []) = p
 rejoined (p ∷ q ∷ ps) = p ++ (comma ∷ rejoined (q ∷ ps))
@@ -40,7 +40,7 @@ some-name (b ∷ bs) = by (eqb b comma) (namesIn bs)
     by false [] = lit≤ tt
     by false (p ∷ ps) = omega arith
 
-names-in-joined : (bs : List ℕ) → rejoined (namesIn bs) ≡ bs
+pub names-in-joined : (bs : List ℕ) → rejoined (namesIn bs) ≡ bs
 unfolding namesIn
 names-in-joined [] = refl
 names-in-joined (b ∷ bs) = by (eqb b comma) refl (names-in-joined bs)

@@ -102,7 +102,7 @@ pub fn next_name(run: &[u8], wanted: u64, at: usize) -> Next
 }
 
 // Where the name that starts at byte at ends.
-fn name_end(run: &[u8], at: usize) -> usize
+pub fn name_end(run: &[u8], at: usize) -> usize
     requires { ⌜ at ≤ length (now run) ⌝ }
     ensures { λ r. ⌜ Spans noComma (now (run .entry)) at r ⌝ }
 {
@@ -117,7 +117,7 @@ fn name_end(run: &[u8], at: usize) -> usize
 }
 
 // Whether name is one of the names of run from the one that starts at byte at on.
-fn has_name(run: &[u8], at: usize, name: &[u8]) -> bool
+pub fn has_name(run: &[u8], at: usize, name: &[u8]) -> bool
     ensures { λ r. ⌜ r ≡ hasName (namesFrom (now (run .entry)) at) (now (name .entry)) ⌝ }
 {
     let mut place = at;
