@@ -31,12 +31,25 @@ def write_sentences(arguments):
     return True
 
 
+def write_carrier(arguments):
+    """Write calls to a carrier."""
+    from carrier import writing as carrier  # here alone: the gate's calls know nothing of it
+    from carrier.calls import Writer
+
+    with writing(arguments, Writer) as writer:
+        written, missing = carrier.write(writer, arguments.seed, arguments.count)
+    print(f"{written} calls")
+    for call, number in missing:
+        print(f"no drawn {call} was answered {number}")
+    return not missing
+
+
 @contextlib.contextmanager
-def writing(arguments):
+def writing(arguments, writer=calls.Writer):
     """A writer of a call file, the answers to it and, beside it, the name of each call."""
     paths = (arguments.calls, arguments.answers, names_beside(arguments.calls))
     with contextlib.ExitStack() as stack:
-        yield calls.Writer(*(stack.enter_context(open(path, "w", encoding="ascii", newline="\n")) for path in paths))
+        yield writer(*(stack.enter_context(open(path, "w", encoding="ascii", newline="\n")) for path in paths))
 
 
 def compare(arguments):
@@ -131,6 +144,11 @@ def command_line():
     command = commands.add_parser("sentences", help="write calls by document 01's sentences, and the answers to them")
     add_files(command)
     command.set_defaults(run=write_sentences)
+
+    command = commands.add_parser("carrier", help="write calls to a carrier, named and drawn ones, and the answers to them")
+    add_seed_and_count(command)
+    add_files(command)
+    command.set_defaults(run=write_carrier)
 
     command = commands.add_parser("compare", help="compare a program's answers with the expected ones")
     command.add_argument("--calls", required=True)

@@ -15,6 +15,8 @@ ARGUMENTS = {
     "end": ["iv"],
     "index": [],
     "fits": ["setup_reply", *SENT],
+    "sign": "method authority path lines names created label key_id key out_size out_byte".split(),
+    "verify": "method authority path lines names label key_id key input signature created".split(),
 }
 MOST_SHOWN = 5
 
@@ -137,23 +139,23 @@ def shown(asked, name, before, wanted, got):
 def compare(calls, names, expected, got, out):
     """Print the first few differences whole and a closing line; true if there was none."""
     differences = count = 0
-    table = index = reply = "(none)"
+    lent = dict.fromkeys(("reply", "table", "index"), "(none)")  # what goes on from call to call, as an answer has it; to a carrier nothing does
     got = iter(got)
     for asked, name, wanted in zip(read_calls(calls), names, expected, strict=True):
         if asked.table:
-            _, table, index = asked.table.split(" ")
-        reply = asked.reply or reply
+            _, lent["table"], lent["index"] = asked.table.split(" ")
+        if asked.reply:
+            lent["reply"] = asked.reply.removeprefix("reply ")
         wanted, answer = wanted.rstrip("\n"), next(got, "no answer").rstrip("\n")
+        _, _, *left = wanted.split(" ")
         count += 1
         if wanted != answer:
             differences += 1
             if differences <= MOST_SHOWN:
-                before = (f"table {table}", f"index {index}", reply)
+                before = [f"{run} {text}" for run, text in lent.items()] if len(left) == len(lent) else []
                 print(shown(asked, name.rstrip("\n"), before, wanted, answer), file=out)
-        _, _, reply_after, table_after, index_after = wanted.split(" ")
-        table = table if table_after == "=" else table_after
-        index = index if index_after == "=" else index_after
-        reply = reply if reply_after == "=" else f"reply {reply_after}"
+        if len(left) == len(lent):
+            lent |= {run: text for run, text in zip(lent, left) if text != "="}
     unasked = sum(1 for _ in got)
     if unasked:
         print(f"{unasked} answers more than calls", file=out)

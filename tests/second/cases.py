@@ -1,4 +1,4 @@
-"""Self-tests: the twelve proved cases of document 01, a hand-made call for each row of its table, and the catalogue."""
+"""Self-tests: the twelve proved cases of document 01, a hand-made call for each row of its table, the catalogue, and calls to a carrier."""
 
 import base64
 import hashlib
@@ -17,6 +17,7 @@ import encoding
 import hashing
 import model
 import record as rec
+from carrier import cases as carrier_cases
 from faults import CATALOGUE
 from histories import Disagreement, History
 
@@ -646,3 +647,9 @@ def comparing():
         and "got      21" + lines[99].strip() in other[1]
         and other[1].endswith(f"{len(lines) - 1} passed, 1 failed\n")
     )
+
+
+# Calls signed for a carrier (document 02, K13)
+
+for told_case in carrier_cases.told():
+    equal(*told_case)

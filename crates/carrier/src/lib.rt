@@ -27,7 +27,16 @@ pub extern "C" fn carrier_sign(
     ensures { λ r. ⌜ answer r (now (out .exit)) ≡ signed (askedOf (now (method .entry)) (now (authority .entry)) (now (path .entry)) (now (lines .entry)) (now (names .entry)) (now (label .entry)) (now («key_id» .entry)) (now (key .entry))) created (now (out .entry)) ⌝ }
 {
     if !sizes::sign_fits(
-        method, authority, path, lines, names, created, label, key_id, key, out,
+        method,
+        authority,
+        path,
+        lines,
+        names,
+        created,
+        label,
+        key_id,
+        key,
+        out,
     ) {
         return 1;
     }
@@ -36,7 +45,16 @@ pub extern "C" fn carrier_sign(
         return number;
     }
     sign::write(
-        method, authority, path, lines, names, created, label, key_id, key, out,
+        method,
+        authority,
+        path,
+        lines,
+        names,
+        created,
+        label,
+        key_id,
+        key,
+        out,
     )
 }
 
@@ -58,12 +76,31 @@ pub extern "C" fn carrier_verify(
     ensures { λ r. ⌜ answer r (now (created .exit)) ≡ verified (askedOf (now (method .entry)) (now (authority .entry)) (now (path .entry)) (now (lines .entry)) (now (names .entry)) (now (label .entry)) (now («key_id» .entry)) (now (key .entry))) (now (input .entry)) (now (signature .entry)) (now (created .entry)) ⌝ }
 {
     if !sizes::verify_fits(
-        method, authority, path, lines, names, label, key_id, key, input, signature, created,
+        method,
+        authority,
+        path,
+        lines,
+        names,
+        label,
+        key_id,
+        key,
+        input,
+        signature,
+        created,
     ) {
         return 1;
     }
     let verdict = verify::judge(
-        method, authority, path, lines, names, label, key_id, key, input, signature,
+        method,
+        authority,
+        path,
+        lines,
+        names,
+        label,
+        key_id,
+        key,
+        input,
+        signature,
     );
     if verdict.number == 0 {
         cells::put64(created, 0, verdict.created);

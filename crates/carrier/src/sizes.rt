@@ -25,8 +25,7 @@ fn message_fits(method: &[u8], authority: &[u8], path: &[u8], lines: &[u8]) -> b
     ensures { λ r. ⌜ r ≡ messageFits (messageOf (now (method .entry)) (now (authority .entry)) (now (path .entry)) (now (lines .entry))) ⌝ }
 {
     long_from(1, 16, method)
-        & (long_from(1, 255, authority)
-            & (long_from(1, 2048, path) & (lines.len() <= MOST_LINES)))
+        & (long_from(1, 255, authority) & (long_from(1, 2048, path) & (lines.len() <= MOST_LINES)))
 }
 
 fn asked_fits(
@@ -60,9 +59,8 @@ pub fn sign_fits(
 ) -> bool
     ensures { λ r. ⌜ r ≡ signFits (askedOf (now (method .entry)) (now (authority .entry)) (now (path .entry)) (now (lines .entry)) (now (names .entry)) (now (label .entry)) (now («key_id» .entry)) (now (key .entry))) created (now (out .entry)) ⌝ }
 {
-    asked_fits(
-        method, authority, path, lines, names, label, key_id, key,
-    ) & ((created <= LATEST) & (LEAST_OUT <= out.len()))
+    asked_fits(method, authority, path, lines, names, label, key_id, key)
+        & ((created <= LATEST) & (LEAST_OUT <= out.len()))
 }
 
 pub fn verify_fits(
@@ -80,8 +78,6 @@ pub fn verify_fits(
 ) -> bool
     ensures { λ r. ⌜ r ≡ verifyFits (askedOf (now (method .entry)) (now (authority .entry)) (now (path .entry)) (now (lines .entry)) (now (names .entry)) (now (label .entry)) (now («key_id» .entry)) (now (key .entry))) (now (input .entry)) (now (signature .entry)) (now (created .entry)) ⌝ }
 {
-    asked_fits(
-        method, authority, path, lines, names, label, key_id, key,
-    ) & ((input.len() <= MOST_VALUE)
-        & ((signature.len() <= MOST_VALUE) & (created.len() == 8)))
+    asked_fits(method, authority, path, lines, names, label, key_id, key)
+        & ((input.len() <= MOST_VALUE) & ((signature.len() <= MOST_VALUE) & (created.len() == 8)))
 }

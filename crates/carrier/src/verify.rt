@@ -56,7 +56,17 @@ pub fn judge(
     let mut number = first_refusal(asked, fields);
     if number == 0 {
         number = last_number(
-            method, authority, path, lines, names, label, key_id, key, input, signature, names_told,
+            method,
+            authority,
+            path,
+            lines,
+            names,
+            label,
+            key_id,
+            key,
+            input,
+            signature,
+            names_told,
         );
     }
     Verdict { number, created }
@@ -76,14 +86,8 @@ fn field_number(
     requires { ⌜ (length (now input) ≤ 4096) × (length (now signature) ≤ 4096) × Tells (now input) (now «label_told») (now «names_told») created (now «key_id_told») ⌝ }
     ensures { λ r. ⌜ ((method authority path lines names key : List ℕ) → r ≡ toldNumber (askedOf method authority path lines names (now (label .entry)) (now («key_id» .entry)) key) (now (input .entry)) (now (signature .entry))) ⌝ }
 {
-    if !(reading::good_input(
-        input,
-        label_told,
-        names_told,
-        created,
-        key_id_told,
-    ) & reading::good_signature(signature))
-    {
+    if !(reading::good_input(input, label_told, names_told, created, key_id_told)
+        & reading::good_signature(signature)) {
         return 2;
     }
     if cells::same(label, label_told)

@@ -80,7 +80,7 @@ lines-same m m' (n ∷ ns) (n' ∷ ns') last last' c p c' p' w w' e =
     let first = body-line m n (here .0) (shown .0) in
     let first' = body-line m' n' (there .0) (shown' .0) in
     let text = sym (append-assoc (componentLine n (valueOf m n)) (componentLines m ns) last ∙ line-body m n _) ∙ e
-        ∙ append-assoc (componentLine n' (valueOf m' n')) (componentLines m' ns') last' ∙ line-body m' n' _ in
+    ∙ append-assoc (componentLine n' (valueOf m' n')) (componentLines m' ns') last' ∙ line-body m' n' _ in
     let more = lines-same m m' ns ns' last last' (here .1) (shown .1) (there .1) (shown' .1) w w' (rest-same (body m n) (body m' n') _ _ first first' text) in
     (ap₂ _∷_ (line-same (body m n) (body m' n') _ _ first first' text) (more .0), more .1)
 

@@ -62,8 +62,7 @@ fn is_component(name: &[u8]) -> bool
 fn is_derived(name: &[u8]) -> bool
     ensures { λ r. ⌜ r ≡ isDerived (now (name .entry)) ⌝ }
 {
-    cells::same(b"@method", name)
-        | (cells::same(b"@authority", name) | cells::same(b"@path", name))
+    cells::same(b"@method", name) | (cells::same(b"@authority", name) | cells::same(b"@path", name))
 }
 
 // What is found of a list: whether the values are printable, whether a name stands twice, and whether the message lacks a component.

@@ -45,8 +45,7 @@ pub fn good_input(input: &[u8], label: &[u8], names: &[u8], created: u64, key_id
     ensures { λ r. ⌜ r ≡ goodInput (now (input .entry)) ⌝ }
 {
     if !(structured::is_key(label)
-        & (components::all_components(names) & structured::all_between(32, 126, key_id)))
-    {
+        & (components::all_components(names) & structured::all_between(32, 126, key_id))) {
         return false;
     }
     let mut text = [0u8; 24832];
