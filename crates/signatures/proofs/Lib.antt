@@ -5,3 +5,4 @@ pub mod Readback
 pub mod Once
 pub mod Alike
 pub mod Values
+pub mod Told
