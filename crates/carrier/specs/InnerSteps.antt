@@ -32,8 +32,8 @@ written a created out = answer (256 * length (signText a created)) (fronted (sig
 
 pub record SizedValues (a : Asked) (input signature : List ℕ) : Type 0 where
   pub asked : Sized a
-  pub input : length input ≤ 4096
-  pub signature : length signature ≤ 4096
+  pub short : length input ≤ 4096
+  pub brief : length signature ≤ 4096
 
 -- nothing is refused but perhaps the list or the code
 pub record InForm (a : Asked) (input signature : List ℕ) : Type 0 where

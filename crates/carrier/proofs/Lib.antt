@@ -1,0 +1,2 @@
+-- Laws of the two calls, and the theorems about them.
+pub mod Parts
