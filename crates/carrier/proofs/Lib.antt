@@ -1,2 +1,3 @@
 -- Laws of the two calls, and the theorems about them.
 pub mod Parts
+pub mod Writing

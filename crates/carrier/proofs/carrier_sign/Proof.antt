@@ -1,58 +1,50 @@
+-- `carrier_sign` meets its contract.
+-- Assumes nothing.
 use borrow.Author.Needs.{needs}
+use borrow.Author.Tests.{not-true, not-false, eq-eqb, ne-eqb}
+use mathlib.Core.Path.{_≡_, sym, ap, _∙_}
+use mathlib.Core.Bool.{true}
+use Prim.Native.Nat.{ℕ}
+use Rattle.carrier.specs.Asked.{Asked, askedOf, askedNumber}
+use Rattle.carrier.specs.Sign.{signFits, signNumber, signed}
+use Rattle.carrier.proofs.Parts.{sign-sized}
 use Rattle.carrier.proofs.carrier_sign.Statement.{statement}
 use Rattle.carrier.proofs.carrier_sign.Tie as tie
-use Rattle.carrier.proofs.carrier_sign.Reads as reads
-use Rattle.carrier.proofs.carrier_sign.Lts as lts
-use Rattle.carrier.proofs.asked.number.Reads as number-reads
-use Rattle.carrier.proofs.sign.write.Reads as write-reads
-use Rattle.carrier.proofs.sizes.sign_fits.Reads as sign-fits-reads
 
--- src/lib.rt:29:9
-sign-fits-requires : tie.Need-sign-fits-requires
-sign-fits-requires c κs = search needs
+abbrev asked : tie.Start → Asked
+asked s = let a = s .args in askedOf (a .method .now) (a .authority .now) (a .path .now) (a .lines .now) (a .names .now) (a .label .now) (a .key-id .now) (a .key .now)
 
--- src/lib.rt:41:9
-same-length : tie.Need-same-length
-same-length c = search needs
+fits : (c : tie.Else1)
+    → let s = c .before .before .before .before .before .before .before .before .before .before .before .before in
+    signFits (asked s) (s .args .created) (s .args .out .now) ≡ true
+fits c = sym (c .before .sign-fits .ensures) ∙ not-false (c .before .sign-fits .result) (c .if1 .left)
 
--- src/lib.rt:41:9
 returns : tie.Need-returns
-returns c = ?
+unfolding signed signNumber
+returns c = simp (← (c .before .sign-fits .ensures), not-true (c .before .sign-fits .result) (c .if1 .taken))
 
--- src/lib.rt:43:9
-number-requires : tie.Need-number-requires
-number-requires c κs = ?
-
--- src/lib.rt:45:9
-same-length-2 : tie.Need-same-length-2
-same-length-2 c = search needs
-
--- src/lib.rt:45:9
 returns-2 : tie.Need-returns-2
-returns-2 c = ?
+unfolding signed signNumber
+returns-2 c =
+    let s = c .before .before .before .before .before .before .before .before .before .before .before .before .before .before in
+    let asks = c .before .number in
+    simp (fits (c .before .before), ← (asks .ensures (s .args .key .now)), ne-eqb (asks .result) 0 (c .if2 .taken))
 
--- src/lib.rt:47:5
 write-requires : tie.Need-write-requires
-write-requires c κs = ?
+write-requires c κs =
+    let s = c .before .before .before .before .before .before .before .before .before .before .before .before .before .before .before in
+    let sizes = sign-sized (asked s) (s .args .created) (s .args .out .now) (fits (c .before .before .before)) in
+    record { sized = sizes .0; time = sizes .1; room = sizes .2; asked = sym (c .before .before .number .ensures _) ∙ c .before .if2 .left }
 
--- src/lib.rt:14:1
-same-length-3 : tie.Need-same-length-3
-same-length-3 c = search needs
-
--- src/lib.rt:14:1
 returns-3 : tie.Need-returns-3
-returns-3 c = ?
+unfolding signed signNumber
+returns-3 c =
+    let s = c .before .before .before .before .before .before .before .before .before .before .before .before .before .before .before .before .before .before in
+    let asks = c .before .before .before .before .before .number in
+    c .before .before .write .ensures
+    ∙ simp (fits (c .before .before .before .before .before .before), ← (asks .ensures (s .args .key .now)), c .before .before .before .before .if2 .left)
 
 pub carrier-sign-spec : {M : Type 1} → statement M
 carrier-sign-spec =
-    tie.close
-    (tie.spec
-    sign-fits-requires
-    same-length
-    returns
-    number-requires
-    same-length-2
-    returns-2
-    write-requires
-    same-length-3
-    returns-3)
+    tie.close (tie.spec (λ c κs. search needs) (λ c. search needs) returns
+    (λ c κs. sign-sized _ _ _ (fits c) .0 .message) (λ c. search needs) returns-2 write-requires (λ c. search needs) returns-3)

@@ -1,58 +1,54 @@
+-- `carrier_verify` meets its contract.
+-- Assumes nothing.
 use borrow.Author.Needs.{needs}
+use borrow.Author.Tests.{not-true, not-false, eq-eqb, ne-eqb}
+use mathlib.Core.Path.{_≡_, sym, ap, ap₂, _∙_}
+use mathlib.Core.Bool.{true}
+use native.Mathlib.Omega.{arith}
+use lib.ListN.{length}
+use Rattle.cells.specs.Numbers.{bytesOf}
+use Rattle.cells.proofs.Runs.{spliced-front, fronted-whole}
+use Rattle.cells.proofs.Numbers.{length-bytesOf}
+use Rattle.carrier.specs.Asked.{Asked, askedOf, answer}
+use Rattle.carrier.specs.Verify.{verifyFits, verifyNumber, verified}
+use Rattle.carrier.proofs.Parts.{verify-sized}
 use Rattle.carrier.proofs.carrier_verify.Statement.{statement}
 use Rattle.carrier.proofs.carrier_verify.Tie as tie
-use Rattle.carrier.proofs.carrier_verify.Reads as reads
-use Rattle.carrier.proofs.carrier_verify.Lts as lts
-use Rattle.carrier.proofs.sizes.verify_fits.Reads as verify-fits-reads
-use Rattle.carrier.proofs.verify.judge.Reads as judge-reads
-use Rattle.cells.proofs.put64.Reads as put64-reads
 
--- src/lib.rt:78:9
-verify-fits-requires : tie.Need-verify-fits-requires
-verify-fits-requires c κs = search needs
+abbrev asked : tie.Start → Asked
+asked s = let a = s .args in askedOf (a .method .now) (a .authority .now) (a .path .now) (a .lines .now) (a .names .now) (a .label .now) (a .key-id .now) (a .key .now)
 
--- src/lib.rt:91:9
-same-length : tie.Need-same-length
-same-length c = search needs
+fits : (c : tie.Else1)
+    → let s = c .before .before .before .before .before .before .before .before .before .before .before .before .before .before in
+    verifyFits (asked s) (s .args .input .now) (s .args .signature .now) (s .args .created .now) ≡ true
+fits c = sym (c .before .verify-fits .ensures) ∙ not-false (c .before .verify-fits .result) (c .if1 .left)
 
--- src/lib.rt:91:9
 returns : tie.Need-returns
-returns c = ?
+unfolding verified verifyNumber
+returns c = simp (← (c .before .verify-fits .ensures), not-true (c .before .verify-fits .result) (c .if1 .taken))
 
--- src/lib.rt:93:9
-judge-requires : tie.Need-judge-requires
-judge-requires c κs = ?
+-- the buffer has eight bytes
+wide : (c : tie.Else1) → length (c .before .before .before .before .before .before .before .before .before .before .before .before .before .before .args .created .now) ≡ 8
+wide c = verify-sized _ _ _ _ (fits c) .1
 
--- src/lib.rt:106:9
-put64-requires : tie.Need-put64-requires
-put64-requires c κs = ?
-
--- src/lib.rt:62:1
-same-length-2 : tie.Need-same-length-2
-same-length-2 c = search needs
-
--- src/lib.rt:62:1
 returns-2 : tie.Need-returns-2
-returns-2 c = ?
+unfolding verified verifyNumber
+returns-2 c =
+    let verdict = c .before .before .before .before .before .before .judge in
+    let left =
+    c .before .before .put64 .ensures ∙ spliced-front _ (bytesOf 8 (verdict .result .created))
+    ∙ fronted-whole _ _ (length-bytesOf 8 (verdict .result .created) ∙ sym (wide (c .before .before .before .before .before .before .before)))
+    ∙ ap (bytesOf 8) (verdict .ensures .created) in
+    ap₂ answer (c .before .before .before .before .if2 .taken) left
+    ∙ sym (simp (fits (c .before .before .before .before .before .before .before), ← (verdict .ensures .number), c .before .before .before .before .if2 .taken))
 
--- src/lib.rt:62:1
-same-length-3 : tie.Need-same-length-3
-same-length-3 c = search needs
-
--- src/lib.rt:62:1
 returns-3 : tie.Need-returns-3
-returns-3 c = ?
+unfolding verified verifyNumber
+returns-3 c =
+    let verdict = c .before .before .judge in
+    simp (fits (c .before .before .before), ← (verdict .ensures .number), ne-eqb (verdict .result .number) 0 (c .if2 .left))
 
 pub carrier-verify-spec : {M : Type 1} → statement M
 carrier-verify-spec =
-    tie.close
-    (tie.spec
-    verify-fits-requires
-    same-length
-    returns
-    judge-requires
-    put64-requires
-    same-length-2
-    returns-2
-    same-length-3
-    returns-3)
+    tie.close (tie.spec (λ c κs. search needs) (λ c. search needs) returns
+    (λ c κs. verify-sized _ _ _ _ (fits c) .0) (λ c κs. omega (arith, wide (c .before .before .before .before))) (λ c. search needs) returns-2 (λ c. search needs) returns-3)

@@ -1,65 +1,104 @@
+-- `asked::number` meets its contract.
+-- Assumes nothing.
 use borrow.Author.Needs.{needs}
+use borrow.Author.Tests.{not-true, not-false}
+use mathlib.Core.Bool.{_&&_}
+use Rattle.carrier.specs.Asked.{wellFormed, wellNamed, askedNumber}
 use Rattle.carrier.proofs.asked.number.Statement.{statement}
 use Rattle.carrier.proofs.asked.number.Tie as tie
-use Rattle.carrier.proofs.asked.number.Reads as reads
-use Rattle.carrier.proofs.asked.number.Lts as lts
-use Rattle.signatures.proofs.components.all_components.Reads as all-components-reads
-use Rattle.signatures.proofs.components.good_message.Reads as good-message-reads
-use Rattle.signatures.proofs.components.look.Reads as look-reads
-use Rattle.structured.proofs.all_between.Reads as all-between-reads
-use Rattle.structured.proofs.is_key.Reads as is-key-reads
 
--- src/asked.rt:23:9
-look-requires : tie.Need-look-requires
-look-requires c κs = search needs
-
--- src/asked.rt:24:18
-good-message-requires : tie.Need-good-message-requires
-good-message-requires c κs = search needs
-
--- src/asked.rt:25:12
-all-components-requires : tie.Need-all-components-requires
-all-components-requires c κs = search needs
-
--- src/asked.rt:27:9
 returns : tie.Need-returns
-returns c = ?
+unfolding askedNumber wellFormed
+returns c key =
+    let all = c .before .before .all-components in
+    let good = c .before .before .before .good-message in
+    let look = c .before .before .before .before .look in
+    simp (← (good .ensures), ← (all .ensures), ← (look .ensures .printable), not-true (good .result && (all .result && look .result .printable)) (c .if1 .taken))
 
--- src/asked.rt:29:10
-is-key-requires : tie.Need-is-key-requires
-is-key-requires c κs = search needs
-
--- src/asked.rt:29:38
-all-between-requires : tie.Need-all-between-requires
-all-between-requires c κs = search needs
-
--- src/asked.rt:30:9
 returns-2 : tie.Need-returns-2
-returns-2 c = ?
+unfolding askedNumber wellFormed wellNamed
+returns-2 c key =
+    let all = c .before .before .before .before .before .all-components in
+    let good = c .before .before .before .before .before .before .good-message in
+    let look = c .before .before .before .before .before .before .before .look in
+    let label = c .before .before .is-key in
+    let id = c .before .all-between in
+    simp (
+      ← (good .ensures),
+      ← (all .ensures),
+      ← (look .ensures .printable),
+      not-false (good .result && (all .result && look .result .printable)) (c .before .before .before .if1 .left),
+      ← (label .ensures),
+      ← (id .ensures),
+      not-true (label .result && id .result) (c .if2 .taken),
+    )
 
--- src/asked.rt:33:9
 returns-3 : tie.Need-returns-3
-returns-3 c = ?
+unfolding askedNumber wellFormed wellNamed
+returns-3 c key =
+    let all = c .before .before .before .before .before .before .all-components in
+    let good = c .before .before .before .before .before .before .before .good-message in
+    let look = c .before .before .before .before .before .before .before .before .look in
+    let label = c .before .before .before .is-key in
+    let id = c .before .before .all-between in
+    simp (
+      ← (good .ensures),
+      ← (all .ensures),
+      ← (look .ensures .printable),
+      not-false (good .result && (all .result && look .result .printable)) (c .before .before .before .before .if1 .left),
+      ← (label .ensures),
+      ← (id .ensures),
+      not-false (label .result && id .result) (c .before .if2 .left),
+      ← (look .ensures .twice),
+      c .if3 .taken,
+    )
 
--- src/asked.rt:11:1
+-- what is known where nothing but a missing component may be refused
 returns-4 : tie.Need-returns-4
-returns-4 c = ?
+unfolding askedNumber wellFormed wellNamed
+returns-4 c key =
+    let all = c .before .before .before .before .before .before .before .all-components in
+    let good = c .before .before .before .before .before .before .before .before .good-message in
+    let look = c .before .before .before .before .before .before .before .before .before .look in
+    let label = c .before .before .before .before .is-key in
+    let id = c .before .before .before .all-between in
+    simp (
+      ← (good .ensures),
+      ← (all .ensures),
+      ← (look .ensures .printable),
+      not-false (good .result && (all .result && look .result .printable)) (c .before .before .before .before .before .if1 .left),
+      ← (label .ensures),
+      ← (id .ensures),
+      not-false (label .result && id .result) (c .before .before .if2 .left),
+      ← (look .ensures .twice),
+      c .before .if3 .left,
+      ← (look .ensures .missing),
+      c .if4 .taken,
+    )
 
--- src/asked.rt:11:1
 returns-5 : tie.Need-returns-5
-returns-5 c = ?
+unfolding askedNumber wellFormed wellNamed
+returns-5 c key =
+    let all = c .before .before .before .before .before .before .before .all-components in
+    let good = c .before .before .before .before .before .before .before .before .good-message in
+    let look = c .before .before .before .before .before .before .before .before .before .look in
+    let label = c .before .before .before .before .is-key in
+    let id = c .before .before .before .all-between in
+    simp (
+      ← (good .ensures),
+      ← (all .ensures),
+      ← (look .ensures .printable),
+      not-false (good .result && (all .result && look .result .printable)) (c .before .before .before .before .before .if1 .left),
+      ← (label .ensures),
+      ← (id .ensures),
+      not-false (label .result && id .result) (c .before .before .if2 .left),
+      ← (look .ensures .twice),
+      c .before .if3 .left,
+      ← (look .ensures .missing),
+      c .if4 .left,
+    )
 
 pub number-spec : {M : Type 1} → statement M
 number-spec =
-    tie.close
-    (tie.spec
-    look-requires
-    good-message-requires
-    all-components-requires
-    returns
-    is-key-requires
-    all-between-requires
-    returns-2
-    returns-3
-    returns-4
-    returns-5)
+    tie.close (tie.spec (λ c κs. search needs) (λ c κs. search needs) (λ c κs. search needs) returns (λ c κs. search needs) (λ c κs. search needs) returns-2 returns-3
+    returns-4 returns-5)

@@ -1,52 +1,35 @@
+-- `put_code` meets its contract: the base64 of the code fills its array.
+-- Assumes nothing.
 use borrow.Author.Needs.{needs}
+use mathlib.Core.Path.{_≡_, refl, sym}
+use native.Mathlib.Omega.{arith}
+use lib.ListN.{length, take}
+use lib.Seq.{length-take-le}
+use Rattle.base64.specs.Encoding.{encoded}
+use Rattle.signatures.specs.Fields.{signatureValue}
+use Rattle.carrier.proofs.Writing.{digest-text}
 use Rattle.carrier.proofs.sign.put_code.Statement.{statement}
 use Rattle.carrier.proofs.sign.put_code.Tie as tie
-use Rattle.carrier.proofs.sign.put_code.Reads as reads
-use Rattle.carrier.proofs.sign.put_code.Lts as lts
-use Rattle.base64.proofs.encode.Reads as encode-reads
-use Rattle.signatures.proofs.put_signature.Reads as put-signature-reads
 
--- src/sign.rt:50:20
-array-share-prefix-code : tie.Need-array-share-prefix-code
-array-share-prefix-code c = search needs
+-- the array has 64 bytes
+full : (s : tie.Start) → length (s .args .t4) ≡ 64
+full s = search needs
 
--- src/sign.rt:50:20
-slice-aggregate-encode : tie.Need-slice-aggregate-encode
-slice-aggregate-encode c = ?
+digest : (s : tie.Start) → length (take 32 (s .args .t4)) ≡ 32
+digest s = length-take-le 32 (s .args .t4) (omega (arith, full s))
 
--- src/sign.rt:50:33
-slice-aggregate-encode-2 : tie.Need-slice-aggregate-encode-2
-slice-aggregate-encode-2 c = search needs
+text-is : (c : tie.After-encode) → c .encode .last .1 .0 ≡ encoded (take 32 (c .before .before .before .before .before .args .t4))
+text-is c = digest-text _ _ (digest (c .before .before .before .before .before)) refl (c .encode .ensures .1)
 
--- src/sign.rt:50:5
-encode-requires : tie.Need-encode-requires
-encode-requires c κs = ?
-
--- src/sign.rt:51:47
-slice-aggregate-put-signature : tie.Need-slice-aggregate-put-signature
-slice-aggregate-put-signature c = search needs
-
--- src/sign.rt:51:5
 put-signature-requires : tie.Need-put-signature-requires
-put-signature-requires c κs = ?
+unfolding signatureValue
+put-signature-requires c κs = rw (text-is (c .before .before .before)) (c .before .before .before .before .before .before .before .before .pre)
 
--- src/sign.rt:45:1
-same-length : tie.Need-same-length
-same-length c = search needs
-
--- src/sign.rt:45:1
 returns : tie.Need-returns
-returns c = ?
+unfolding signatureValue
+returns c = rw (← (text-is (c .before .before .before .before .before .before))) (c .before .before .put-signature .ensures)
 
 pub put-code-spec : {M : Type 1} → statement M
 put-code-spec =
-    tie.close
-    (tie.spec
-    array-share-prefix-code
-    slice-aggregate-encode
-    slice-aggregate-encode-2
-    encode-requires
-    slice-aggregate-put-signature
-    put-signature-requires
-    same-length
-    returns)
+    tie.close (tie.spec (λ c. search needs) (λ c. sym (digest (c .before .before .before))) (λ c. search needs)
+    (λ c κs. rw (digest (c .before .before .before .before)) (omega arith)) (λ c. search needs) put-signature-requires (λ c. search needs) returns)

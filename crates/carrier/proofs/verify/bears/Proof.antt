@@ -1,42 +1,39 @@
+-- `bears` meets its contract: the array has room for the value.
+-- Assumes nothing.
 use borrow.Author.Needs.{needs}
+use mathlib.Core.Path.{_≡_, sym, ap, _∙_}
+use mathlib.Core.List.{List}
+use Prim.Native.Nat.{ℕ, _≤_}
+use native.Mathlib.Omega.{arith}
+use lib.ListN.{length, take}
+use lib.Seq.{length-take-le}
+use Rattle.cells.specs.Runs.{same}
+use Rattle.signatures.specs.Fields.{signatureValue}
+use Rattle.signatures.proofs.Told.{laid-within, laid-front}
+use Rattle.carrier.proofs.Writing.{signature-length}
 use Rattle.carrier.proofs.verify.bears.Statement.{statement}
 use Rattle.carrier.proofs.verify.bears.Tie as tie
-use Rattle.carrier.proofs.verify.bears.Reads as reads
-use Rattle.carrier.proofs.verify.bears.Lts as lts
-use Rattle.carrier.proofs.sign.put_code.Reads as put-code-reads
-use Rattle.cells.proofs.same.Reads as same-reads
 
--- src/verify.rt:145:30
-slice-aggregate-put-code : tie.Need-slice-aggregate-put-code
-slice-aggregate-put-code c = search needs
+-- the array of the code has 64 bytes
+full : (s : tie.Start) → length (s .args .code) ≡ 64
+full s = search needs
 
--- src/verify.rt:145:9
-put-code-requires : tie.Need-put-code-requires
-put-code-requires c κs = ?
+room : (s : tie.Start) → length (signatureValue (s .args .label .now) (take 32 (s .args .code))) ≤ 128
+room s = omega (arith, signature-length (s .args .label .now) (take 32 (s .args .code)) (length-take-le 32 (s .args .code) (omega (arith, full s))), s .pre)
 
--- src/verify.rt:146:17
-array-share-prefix-text : tie.Need-array-share-prefix-text
-array-share-prefix-text c = ?
+within : (c : tie.After-put-code) → c .put-code .result ≤ length (c .put-code .last .0)
+within c = laid-within (room (c .before .before .before .before)) (c .put-code .ensures)
 
--- src/verify.rt:146:17
-slice-aggregate-same : tie.Need-slice-aggregate-same
-slice-aggregate-same c = ?
+front : (c : tie.After-put-code) → let a = c .before .before .before .before .args in
+    take (c .put-code .result) (c .put-code .last .0) ≡ signatureValue (a .label .now) (take 32 (a .code))
+front c = laid-front (room (c .before .before .before .before)) (c .put-code .ensures)
 
--- src/verify.rt:146:5
-same-requires : tie.Need-same-requires
-same-requires c κs = search needs
-
--- src/verify.rt:140:1
 returns : tie.Need-returns
-returns c = ?
+returns c =
+    let a = c .before .before .before .before .before .before .before .args in
+    c .same .ensures ∙ ap (λ (run : List ℕ). same run (a .signature .now)) (front (c .before .before .before))
 
 pub bears-spec : {M : Type 1} → statement M
 bears-spec =
-    tie.close
-    (tie.spec
-    slice-aggregate-put-code
-    put-code-requires
-    array-share-prefix-text
-    slice-aggregate-same
-    same-requires
-    returns)
+    tie.close (tie.spec (λ c. search needs) (λ c κs. omega (arith, room (c .before .before .before))) (λ c. within (c .before))
+    (λ c. sym (length-take-le _ _ (within (c .before .before)))) (λ c κs. search needs) returns)

@@ -1,59 +1,64 @@
+-- `field_number` meets its contract.
+-- Assumes nothing.
 use borrow.Author.Needs.{needs}
+use borrow.Author.Tests.{not-true, not-false}
+use mathlib.Core.Bool.{_&&_}
+use Rattle.carrier.specs.Verify.{toldNumber}
 use Rattle.carrier.proofs.verify.field_number.Statement.{statement}
 use Rattle.carrier.proofs.verify.field_number.Tie as tie
-use Rattle.carrier.proofs.verify.field_number.Reads as reads
-use Rattle.carrier.proofs.verify.field_number.Lts as lts
-use Rattle.cells.proofs.same.Reads as same-reads
-use Rattle.signatures.proofs.reading.good_input.Reads as good-input-reads
-use Rattle.signatures.proofs.reading.good_signature.Reads as good-signature-reads
-use Rattle.signatures.proofs.reading.label_of.Reads as label-of-reads
 
--- src/verify.rt:89:10
-good-input-requires : tie.Need-good-input-requires
-good-input-requires c κs = search needs
-
--- src/verify.rt:90:11
-good-signature-requires : tie.Need-good-signature-requires
-good-signature-requires c κs = search needs
-
--- src/verify.rt:91:9
 returns : tie.Need-returns
-returns c = ?
+unfolding toldNumber
+returns c method authority path lines names key =
+    let input = c .before .before .good-input in
+    let signature = c .before .good-signature in
+    simp (← (input .ensures), ← (signature .ensures), not-true (input .result && signature .result) (c .if1 .taken))
 
--- src/verify.rt:93:8
-same-requires : tie.Need-same-requires
-same-requires c κs = search needs
-
--- src/verify.rt:94:31
-label-of-requires : tie.Need-label-of-requires
-label-of-requires c κs = search needs
-
--- src/verify.rt:94:12
-same-requires-2 : tie.Need-same-requires-2
-same-requires-2 c κs = search needs
-
--- src/verify.rt:94:63
-same-requires-3 : tie.Need-same-requires-3
-same-requires-3 c κs = search needs
-
--- src/verify.rt:96:9
 returns-2 : tie.Need-returns-2
-returns-2 c = ?
+unfolding toldNumber
+returns-2 c method authority path lines names key =
+    let input = c .before .before .before .before .before .before .before .good-input in
+    let signature = c .before .before .before .before .before .before .good-signature in
+    let told = c .before .before .before .before .before .before .before .before .before .before .before .before .before .before .before .pre .2 in
+    let first = c .before .before .before .before .same in
+    let second = c .before .before .same2 in
+    let third = c .before .same3 in
+    simp (
+      ← (input .ensures),
+      ← (signature .ensures),
+      not-false (input .result && signature .result) (c .before .before .before .before .before .if1 .left),
+      ← (told .label),
+      ← (first .ensures),
+      ← (c .before .before .before .label-of .ensures),
+      ← (second .ensures),
+      ← (told .key-id),
+      ← (third .ensures),
+      c .if2 .taken,
+    )
 
--- src/verify.rt:76:1
 returns-3 : tie.Need-returns-3
-returns-3 c = ?
+unfolding toldNumber
+returns-3 c method authority path lines names key =
+    let input = c .before .before .before .before .before .before .before .good-input in
+    let signature = c .before .before .before .before .before .before .good-signature in
+    let told = c .before .before .before .before .before .before .before .before .before .before .before .before .before .before .before .pre .2 in
+    let first = c .before .before .before .before .same in
+    let second = c .before .before .same2 in
+    let third = c .before .same3 in
+    simp (
+      ← (input .ensures),
+      ← (signature .ensures),
+      not-false (input .result && signature .result) (c .before .before .before .before .before .if1 .left),
+      ← (told .label),
+      ← (first .ensures),
+      ← (c .before .before .before .label-of .ensures),
+      ← (second .ensures),
+      ← (told .key-id),
+      ← (third .ensures),
+      c .if2 .left,
+    )
 
 pub field-number-spec : {M : Type 1} → statement M
 field-number-spec =
-    tie.close
-    (tie.spec
-    good-input-requires
-    good-signature-requires
-    returns
-    same-requires
-    label-of-requires
-    same-requires-2
-    same-requires-3
-    returns-2
-    returns-3)
+    tie.close (tie.spec (λ c κs. search needs) (λ c κs. search needs) returns (λ c κs. search needs) (λ c κs. search needs) (λ c κs. search needs) (λ c κs. search needs)
+    returns-2 returns-3)

@@ -1,85 +1,63 @@
+-- `judge` meets its contract.
+-- Assumes nothing.
 use borrow.Author.Needs.{needs}
+use mathlib.Core.Path.{_≡_, sym, ap₂, _∙_}
+use borrow.Author.Tests.{eq-eqb, ne-eqb}
+use native.Mathlib.Omega.{arith}
+use lib.ListN.{length}
+use lib.Seq.{length-take-le}
+use Rattle.carrier.specs.Asked.{Asked, askedOf, askedNumber}
+use Rattle.carrier.specs.Verify.{toldNumber, firstRefusal, judgedNumber}
+use Rattle.carrier.proofs.Parts.{none-refused}
 use Rattle.carrier.proofs.verify.judge.Statement.{statement}
 use Rattle.carrier.proofs.verify.judge.Tie as tie
-use Rattle.carrier.proofs.verify.judge.Reads as reads
-use Rattle.carrier.proofs.verify.judge.Lts as lts
-use Rattle.carrier.proofs.asked.number.Reads as number-reads
-use Rattle.carrier.proofs.verify.field_number.Reads as field-number-reads
-use Rattle.carrier.proofs.verify.first_refusal.Reads as first-refusal-reads
-use Rattle.carrier.proofs.verify.last_number.Reads as last-number-reads
-use Rattle.signatures.proofs.reading.read_input.Reads as read-input-reads
 
--- src/verify.rt:40:43
-slice-aggregate-read-input : tie.Need-slice-aggregate-read-input
-slice-aggregate-read-input c = search needs
+abbrev asked : tie.Start → Asked
+asked s = let a = s .args in askedOf (a .method .now) (a .authority .now) (a .path .now) (a .lines .now) (a .names .now) (a .label .now) (a .key-id .now) (a .key .now)
 
--- src/verify.rt:40:60
-slice-aggregate-read-input-2 : tie.Need-slice-aggregate-read-input-2
-slice-aggregate-read-input-2 c = search needs
+abbrev begun : tie.After-first-refusal → tie.Start
+begun c = c .before .before .before .before .before .before .before .before .before .before .before .before .before .before .before .before .before .before .before .before .before
 
--- src/verify.rt:40:9
-read-input-requires : tie.Need-read-input-requires
-read-input-requires c κs = search needs
+-- what is refused first
+refused : (c : tie.After-first-refusal)
+    → let s = begun c in
+    c .first-refusal .result ≡ firstRefusal (askedNumber (asked s)) (toldNumber (asked s) (s .args .input .now) (s .args .signature .now))
+refused c =
+    let s = begun c in
+    let a = s .args in
+    c .first-refusal .ensures
+    ∙ ap₂ firstRefusal (c .before .before .number .ensures (a .key .now))
+    (c .before .field-number .ensures (a .method .now) (a .authority .now) (a .path .now) (a .lines .now) (a .names .now) (a .key .now))
 
--- src/verify.rt:42:9
-slice-aggregate-label-told : tie.Need-slice-aggregate-label-told
-slice-aggregate-label-told c = ?
-
--- src/verify.rt:43:22
-array-share-prefix-names-room : tie.Need-array-share-prefix-names-room
-array-share-prefix-names-room c = search needs
-
--- src/verify.rt:43:9
-slice-aggregate-names-told : tie.Need-slice-aggregate-names-told
-slice-aggregate-names-told c = ?
-
--- src/verify.rt:44:23
-array-share-prefix-key-room : tie.Need-array-share-prefix-key-room
-array-share-prefix-key-room c = search needs
-
--- src/verify.rt:44:9
-slice-aggregate-key-id-told : tie.Need-slice-aggregate-key-id-told
-slice-aggregate-key-id-told c = ?
-
--- src/verify.rt:45:9
-number-requires : tie.Need-number-requires
-number-requires c κs = search needs
-
--- src/verify.rt:46:9
-field-number-requires : tie.Need-field-number-requires
-field-number-requires c κs = search needs
-
--- src/verify.rt:56:9
-first-refusal-requires : tie.Need-first-refusal-requires
-first-refusal-requires c κs = search needs
-
--- src/verify.rt:58:9
 last-number-requires : tie.Need-last-number-requires
-last-number-requires c κs = ?
+last-number-requires c κs =
+    let s = begun (c .before) in
+    let none = none-refused _ _ (sym (refused (c .before)) ∙ c .if1 .taken) in
+    (record { sized = s .pre; asked = none .0; told = none .1 }, c .before .before .before .before .before .before .before .before .before .read-input .ensures .tells .names)
 
--- src/verify.rt:23:1
 returns : tie.Need-returns
-returns c = ?
+unfolding judgedNumber
+returns c =
+    let at = c .before .before in
+    let first = sym (refused at) ∙ c .before .if1 .taken in
+    record {
+      number = c .last-number .ensures ∙ sym (simp (eq-eqb _ 0 first));
+      created = c .before .before .before .before .before .before .before .before .before .before .read-input .ensures .tells .created;
+    }
 
--- src/verify.rt:23:1
 returns-2 : tie.Need-returns-2
-returns-2 c = ?
+unfolding judgedNumber
+returns-2 c =
+    let at = c .before in
+    record {
+      number = refused at ∙ sym (simp (ne-eqb _ 0 (λ e. c .if1 .left (refused at ∙ e))));
+      created = c .before .before .before .before .before .before .before .before .before .read-input .ensures .tells .created;
+    }
 
 pub judge-spec : {M : Type 1} → statement M
 judge-spec =
-    tie.close
-    (tie.spec
-    slice-aggregate-read-input
-    slice-aggregate-read-input-2
-    read-input-requires
-    slice-aggregate-label-told
-    array-share-prefix-names-room
-    slice-aggregate-names-told
-    array-share-prefix-key-room
-    slice-aggregate-key-id-told
-    number-requires
-    field-number-requires
-    first-refusal-requires
-    last-number-requires
-    returns
-    returns-2)
+    tie.close (tie.spec (λ c. search needs) (λ c. search needs) (λ c κs. search needs)
+    (λ c. sym (length-take-le _ _ (c .before .before .before .read-input .ensures .labelled))) (λ c. search needs)
+    (λ c. sym (length-take-le _ _ (c .before .before .before .before .read-input .ensures .few))) (λ c. search needs)
+    (λ c. sym (length-take-le _ _ (c .before .before .before .before .before .read-input .ensures .short)))
+    (λ c κs. search needs) (λ c κs. search needs) (λ c κs. search needs) last-number-requires returns returns-2)
