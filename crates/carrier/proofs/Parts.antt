@@ -28,10 +28,10 @@ use Rattle.carrier.specs.InnerSteps.{Sized, SizedValues}
 
 -- a number that is 0 where a test fails, or another number where it holds
 module _ (t : Bool) (k n : ℕ) (some : k ≡ 0 → ⊥) where
-  refused-not : cond t k n ≡ 0 → (t ≡ false) × (n ≡ 0)
+  pub refused-not : cond t k n ≡ 0 → (t ≡ false) × (n ≡ 0)
   refused-not h = tested t (λ e. absurd (some (sym (rw e) ∙ h))) (λ e. (e, sym (rw e) ∙ h))
 
-passes : (t : Bool) → not t ≡ false → t ≡ true
+pub passes : (t : Bool) → not t ≡ false → t ≡ true
 passes true h = refl
 passes false h = sym h
 

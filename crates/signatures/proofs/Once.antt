@@ -29,12 +29,16 @@ module _ (m : Message) where
   lines-need (n ∷ ns) text (line some is more) = rw some (lines-need ns _ more)
 
   module _ (names : List ℕ) (created : ℕ) (key-id : List ℕ) where
+    pub only-base : (text : List ℕ) → BaseOf m names created key-id text → text ≡ base m names created key-id
+    unfolding base baseWith
+    only-base text b = b .is ∙ ap (λ (ls : List ℕ). ls ++ lastLine (params names created key-id)) (lines-are (listed names) (b .lines) (b .are))
+
     pub exactly-one : twice (listed names) ≡ false → missing m (listed names) ≡ false → ExactlyOne (BaseOf m names created key-id)
     unfolding base baseWith
     exactly-one once has = record {
       text = base m names created key-id;
       belongs = record { once = once; lines = componentLines m (listed names); are = lines-have (listed names) has; is = refl };
-      only = λ other b. b .is ∙ ap (λ (ls : List ℕ). ls ++ lastLine (params names created key-id)) (lines-are (listed names) (b .lines) (b .are));
+      only = only-base;
     }
 
     -- none, where a component is listed twice or missing
