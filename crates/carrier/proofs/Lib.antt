@@ -2,3 +2,4 @@
 pub mod Parts
 pub mod Writing
 pub mod Theorems
+pub mod Examples
