@@ -1,29 +1,27 @@
 -- The theorems about the two calls: document 02, K13.
 -- Assumes nothing.
-use mathlib.Core.Path.{_≡_, refl, sym, ap, subst, _∙_}
+use mathlib.Core.Path.{_≡_, refl, sym, ap, _∙_}
 use mathlib.Core.List.{List, [], _∷_, _++_}
-use mathlib.Core.Bool.{Bool, true, false, not, cond, _&&_}
+use mathlib.Core.Bool.{true, not}
 use Prim.Native.Nat.{ℕ, _+_, _*_, _/_, _%_, _≤_}
 use native.Mathlib.Omega.{arith}
 use borrow.Author.Tests.{eq-eqb, le-leb, eqb-true, eqb-false}
-use lib.Dec.{eqb, leb}
-use lib.ListN.{length, take, drop, length-append}
+use lib.Dec.{eqb}
+use lib.ListN.{length, take, length-append}
 use lib.Seq.{take-at}
 use Rattle.cells.specs.Text.{codes}
 use Rattle.cells.specs.Runs.{same, fronted}
 use Rattle.cells.specs.Numbers.{bytesOf}
 use Rattle.cells.proofs.Tests.{tested, both}
 use Rattle.cells.proofs.Equality.{same-self, same-equal}
-use Rattle.names.specs.Extra.{extraNames as listed}
 use Rattle.hashes.specs.declared.Hash.the-variants.{Sha256}
 use Rattle.hmac.proofs.Output.{length-hmac, bytes-hmac}
 use Rattle.base64.specs.Encoding.{encoded}
 use Rattle.base64.proofs.Encoded.{length-encoded}
-use Rattle.structured.specs.Reading.{digitsIn}
 use Rattle.structured.proofs.Readback.{read-size}
 use Rattle.signatures.specs.Base.{base, codeOf}
 use Rattle.signatures.specs.Belongs.{BaseOf, ExactlyOne}
-use Rattle.signatures.specs.Fields.{inputValue, signatureValue, fieldLines, labelIn, namesIn, createdIn, timeIn, keyIdIn, goodInput, goodSignature}
+use Rattle.signatures.specs.Fields.{signatureValue, fieldLines, labelIn, namesIn, createdIn, timeIn, keyIdIn, goodInput, goodSignature}
 use Rattle.signatures.proofs.Once.{only-base, exactly-one}
 use Rattle.signatures.proofs.Readback.{told-label, told-names, told-time, told-key-id, input-in-form, signed-label, value-in-form}
 use Rattle.carrier.specs.Asked.{Asked, askedFits, askedNumber, Answer, answer}

@@ -5,7 +5,7 @@ use mathlib.Core.Path.{_≡_}
 use mathlib.Core.List.{List}
 use lib.ListN.{length}
 use Rattle.cells.specs.Runs.{fronted}
-use Rattle.signatures.specs.Fields.{namesIn, timeIn, inputValue}
+use Rattle.signatures.specs.Fields.{timeIn}
 use Rattle.signatures.specs.InnerAnswers.{ShortMessage}
 use Rattle.carrier.specs.Asked.{Asked, askedNumber, Answer, answer}
 use Rattle.carrier.specs.Sign.{latest, signText}

@@ -23,10 +23,11 @@ pub fn number(
     let looked = components::look(method, authority, path, lines, names);
     let formed = components::good_message(method, authority, path, lines)
         & (components::all_components(names) & looked.printable);
+    let named = structured::is_key(label) & structured::all_between(32, 126, key_id);
     if !formed {
         return 2;
     }
-    if !(structured::is_key(label) & structured::all_between(32, 126, key_id)) {
+    if !named {
         return 3;
     }
     if looked.twice {

@@ -86,16 +86,14 @@ fn field_number(
     requires { ⌜ (length (now input) ≤ 4096) × (length (now signature) ≤ 4096) × Tells (now input) (now «label_told») (now «names_told») created (now «key_id_told») ⌝ }
     ensures { λ r. ⌜ ((method authority path lines names key : List ℕ) → r ≡ toldNumber (askedOf method authority path lines names (now (label .entry)) (now («key_id» .entry)) key) (now (input .entry)) (now (signature .entry))) ⌝ }
 {
-    if !(reading::good_input(input, label_told, names_told, created, key_id_told)
-        & reading::good_signature(signature)) {
+    let formed = reading::good_input(input, label_told, names_told, created, key_id_told)
+        & reading::good_signature(signature);
+    let asked_for = cells::same(label, label_told)
+        & (cells::same(label, reading::label_of(signature)) & cells::same(key_id, key_id_told));
+    if !formed {
         return 2;
     }
-    if cells::same(label, label_told)
-        & (cells::same(label, reading::label_of(signature)) & cells::same(key_id, key_id_told))
-    {
-        return 0;
-    }
-    3
+    if asked_for { 0 } else { 3 }
 }
 
 // The lower of two numbers that tell of a refusal; 0 tells of none.

@@ -1,24 +1,22 @@
 -- Equal bases come from equal lists, creation times, key ids and values of components.
 -- Assumes nothing.
-use mathlib.Core.Path.{_≡_, refl, sym, ap, ap₂, subst, _∙_}
+use mathlib.Core.Path.{_≡_, refl, sym, ap, ap₂, _∙_}
 use mathlib.Core.List.{List, [], _∷_, _++_, append-assoc, map}
-use mathlib.Core.Bool.{Bool, true, false, false≢true, not, _&&_, _||_}
-use Prim.Native.Nat.{ℕ, _≤_}
-use lib.Dec.{eqb, leb}
+use mathlib.Core.Bool.{Bool, true, false, false≢true, _&&_}
+use Prim.Native.Nat.{ℕ}
 use lib.ListN.{length, take, drop}
 use lib.Seq.{take-at, drop-at}
 use Rattle.cells.specs.Text.{codes}
 use Rattle.cells.specs.Spans.{all, leading}
 use Rattle.cells.specs.Decimal.{decimal}
-use Rattle.cells.proofs.Tests.{tested, both}
+use Rattle.cells.proofs.Tests.{both}
 use Rattle.cells.proofs.Spans.{leading-append}
-use Rattle.names.specs.Names.{between, hasByte}
 use Rattle.names.specs.Extra.{extraNames as listed}
 use Rattle.lines.specs.Lines.{LF}
-use Rattle.structured.specs.Texts.{printable, isKey, keyStart, string, strings, innerList, escaped}
+use Rattle.structured.specs.Texts.{printable, isKey, string, strings, innerList, escaped}
 use Rattle.structured.specs.Reading.{digit, other}
 use Rattle.structured.specs.InnerLists.{every}
-use Rattle.structured.proofs.Texts.{all-append, all-string, all-strings, all-escaped}
+use Rattle.structured.proofs.Texts.{all-append, all-string, all-strings}
 use Rattle.structured.proofs.Readback.{decimal-all}
 use Rattle.signatures.specs.Components.{Message, isComponent, valueOf, allComponents, allPrintable}
 use Rattle.signatures.specs.Base.{params, componentLine, componentLines, lastLine, baseWith, base}

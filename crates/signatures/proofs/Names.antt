@@ -2,9 +2,9 @@
 -- Assumes nothing.
 use mathlib.Core.Path.{_≡_, refl, sym, ap, subst, _∙_}
 use mathlib.Core.List.{List, [], _∷_, _++_}
-use mathlib.Core.Bool.{Bool, true, false, false≢true, not, _&&_, _||_, or-true}
+use mathlib.Core.Bool.{Bool, true, false, false≢true, _||_, or-true}
 use Prim.Native.Nat.{ℕ}
-use borrow.Author.Tests.{eqb-true, not-true}
+use borrow.Author.Tests.{eqb-true}
 use lib.Dec.{eqb, ltb}
 use lib.ListN.{length}
 use Rattle.cells.specs.Text.{codes}
@@ -12,8 +12,8 @@ use Rattle.cells.specs.Runs.{same}
 use Rattle.cells.specs.Spans.{all}
 use Rattle.cells.proofs.Tests.{tested, both}
 use Rattle.cells.proofs.Equality.{same-equal}
-use Rattle.names.specs.Names.{between, hasByte, tokenByte, isToken}
-use Rattle.structured.specs.Texts.{quote, string, escaped}
+use Rattle.names.specs.Names.{hasByte, tokenByte, isToken}
+use Rattle.structured.specs.Texts.{quote, string}
 use Rattle.structured.specs.Reading.{other}
 use Rattle.structured.specs.InnerLists.{every}
 use Rattle.structured.proofs.Texts.{plainByte, plain, escaped-plain}

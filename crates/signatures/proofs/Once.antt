@@ -2,11 +2,11 @@
 -- Assumes nothing.
 use mathlib.Core.Path.{_≡_, refl, sym, ap, ap₂, _∙_}
 use mathlib.Core.List.{List, [], _∷_, _++_}
-use mathlib.Core.Bool.{Bool, true, false, false≢true, _||_, or-true}
+use mathlib.Core.Bool.{true, false, false≢true, _||_}
 use Prim.Native.Nat.{ℕ}
 use Rattle.cells.proofs.Tests.{tested}
 use Rattle.names.specs.Extra.{extraNames as listed}
-use Rattle.signatures.specs.Components.{Message, valuesOf, noValue, valueOf, twice, missing}
+use Rattle.signatures.specs.Components.{Message, valuesOf, noValue, twice, missing}
 use Rattle.signatures.specs.Base.{params, componentLine, componentLines, lastLine, baseWith, base}
 use Rattle.signatures.specs.Belongs.{LinesOf, none, line, BaseOf, ExactlyOne}
 

@@ -1,30 +1,29 @@
 -- What the two values are written of is what they tell. So they are in form, and exactly one label, list, time and key id belong to a value.
 -- Assumes nothing.
-use mathlib.Core.Path.{_≡_, refl, sym, ap, ap₂, _∙_}
+use mathlib.Core.Path.{_≡_, refl, sym, ap, _∙_}
 use mathlib.Core.List.{List, [], _∷_, _++_, append-assoc}
-use mathlib.Core.Bool.{Bool, true, false, false≢true, not, _&&_, _||_}
+use mathlib.Core.Bool.{Bool, true, false, false≢true}
 use Prim.Native.Nat.{ℕ, _+_, _-_, _≤_}
 use native.Mathlib.Omega.{arith}
-use borrow.Author.Tests.{eqb-true, not-true, eq-eqb}
+use borrow.Author.Tests.{eqb-true, eq-eqb}
 use lib.Dec.{eqb}
 use lib.ListN.{length, take, drop, length-append}
-use lib.Seq.{take-at, drop-at, drop-drop, take-all}
+use lib.Seq.{take-at, drop-at, drop-drop}
 use Rattle.cells.specs.Text.{codes}
-use Rattle.cells.specs.Runs.{same, Bytes}
+use Rattle.cells.specs.Runs.{Bytes}
 use Rattle.cells.specs.Spans.{all, leading}
 use Rattle.cells.specs.Decimal.{decimal, valueAfter}
 use Rattle.cells.proofs.Tests.{tested, both}
 use Rattle.cells.proofs.Spans.{leading-append}
 use Rattle.cells.proofs.Equality.{same-self, same-equal}
-use Rattle.names.specs.Names.{between, hasByte}
+use Rattle.names.specs.Names.{hasByte}
 use Rattle.names.specs.Extra.{extraNames as listed}
 use Rattle.base64.specs.Encoding.{encoded}
-use Rattle.base64.specs.Decoding.{decoded, bytes}
+use Rattle.base64.specs.Decoding.{decoded}
 use Rattle.base64.proofs.Exactly.{decoded-exactly}
 use Rattle.base64.proofs.Encoded.{length-encoded}
-use Rattle.structured.specs.Texts.{SP, quote, backslash, keyStart, keyByte, isKey, printable, escaped, string, strings, innerList}
+use Rattle.structured.specs.Texts.{quote, keyStart, keyByte, isKey, printable, escaped, string, strings, innerList}
 use Rattle.structured.specs.Reading.{unescaped, unlisted, digitsIn, other, butLast}
-use Rattle.structured.specs.InnerLists.{every}
 use Rattle.structured.proofs.Texts.{plainByte, plain, all-strings}
 use Rattle.structured.proofs.Readback.{unescaped-escaped, unlisted-strings, decimal-read}
 use Rattle.signatures.specs.Components.{allComponents}

@@ -3,8 +3,6 @@
 use Prim.Native.Nat.{ℕ}
 use mathlib.Core.List.{List, [], _∷_}
 use mathlib.Core.Bool.{Bool, true, false, not, cond, _&&_, _||_}
-use lib.ListN.{length}
-use lib.Dec.{eqb}
 use Rattle.cells.specs.Text.{codes}
 use Rattle.cells.specs.Runs.{same}
 use Rattle.cells.specs.Spans.{all}

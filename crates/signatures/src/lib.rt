@@ -7,7 +7,6 @@ ghost use Rattle.cells.specs.InnerLaid.{Laid};
 ghost use Rattle.cells.specs.Decimal.{decimal};
 ghost use Rattle.names.specs.Extra.{extraNames as listed};
 ghost use Rattle.sha2.specs.InnerTaken.{TookIn};
-ghost use Rattle.structured.specs.Texts.{string};
 ghost use Rattle.signatures.specs.Components.{messageOf, allComponents};
 ghost use Rattle.signatures.specs.Base.{componentLine, componentLines, baseWith, codeOf};
 ghost use Rattle.signatures.specs.Fields.{inputValue, signatureText};

@@ -1,11 +1,10 @@
 -- `carrier_sign` meets its contract.
 -- Assumes nothing.
 use borrow.Author.Needs.{needs}
-use borrow.Author.Tests.{not-true, not-false, eq-eqb, ne-eqb}
-use mathlib.Core.Path.{_≡_, sym, ap, _∙_}
+use borrow.Author.Tests.{not-true, not-false, ne-eqb}
+use mathlib.Core.Path.{_≡_, sym, _∙_}
 use mathlib.Core.Bool.{true}
-use Prim.Native.Nat.{ℕ}
-use Rattle.carrier.specs.Asked.{Asked, askedOf, askedNumber}
+use Rattle.carrier.specs.Asked.{Asked, askedOf}
 use Rattle.carrier.specs.Sign.{signFits, signNumber, signed}
 use Rattle.carrier.proofs.Parts.{sign-sized}
 use Rattle.carrier.proofs.carrier_sign.Statement.{statement}

@@ -2,63 +2,43 @@
 -- Assumes nothing.
 use borrow.Author.Needs.{needs}
 use borrow.Author.Tests.{not-true, not-false}
-use mathlib.Core.Bool.{_&&_}
+use mathlib.Core.Path.{_≡_}
+use mathlib.Core.List.{List}
+use mathlib.Core.Bool.{Bool, not, cond, _&&_}
+use Prim.Native.Nat.{ℕ}
+use Rattle.carrier.specs.Asked.{askedOf}
 use Rattle.carrier.specs.Verify.{toldNumber}
 use Rattle.carrier.proofs.verify.field_number.Statement.{statement}
 use Rattle.carrier.proofs.verify.field_number.Tie as tie
 
-returns : tie.Need-returns
-unfolding toldNumber
-returns c method authority path lines names key =
-    let input = c .before .before .good-input in
-    let signature = c .before .good-signature in
-    simp (← (input .ensures), ← (signature .ensures), not-true (input .result && signature .result) (c .if1 .taken))
+-- what is found, and so the number
+abbrev formed : tie.After-same3 → Bool
+formed c = c .before .before .before .before .before .good-input .result && c .before .before .before .before .good-signature .result
 
-returns-2 : tie.Need-returns-2
-unfolding toldNumber
-returns-2 c method authority path lines names key =
-    let input = c .before .before .before .before .before .before .before .good-input in
-    let signature = c .before .before .before .before .before .before .good-signature in
-    let told = c .before .before .before .before .before .before .before .before .before .before .before .before .before .before .before .pre .2 in
-    let first = c .before .before .before .before .same in
-    let second = c .before .before .same2 in
-    let third = c .before .same3 in
-    simp (
-      ← (input .ensures),
-      ← (signature .ensures),
-      not-false (input .result && signature .result) (c .before .before .before .before .before .if1 .left),
-      ← (told .label),
-      ← (first .ensures),
-      ← (c .before .before .before .label-of .ensures),
-      ← (second .ensures),
-      ← (told .key-id),
-      ← (third .ensures),
-      c .if2 .taken,
-    )
+abbrev asked-for : tie.After-same3 → Bool
+asked-for c = c .before .before .before .same .result && (c .before .same2 .result && c .same3 .result)
 
-returns-3 : tie.Need-returns-3
+numbered : (c : tie.After-same3) (method authority path lines names key : List ℕ)
+    → let a = c .before .before .before .before .before .before .before .before .before .before .before .before .before .args in
+    toldNumber (askedOf method authority path lines names (a .label .now) (a .key-id .now) key) (a .input .now) (a .signature .now)
+    ≡ cond (not (formed c)) 2 (cond (not (asked-for c)) 3 0)
 unfolding toldNumber
-returns-3 c method authority path lines names key =
-    let input = c .before .before .before .before .before .before .before .good-input in
-    let signature = c .before .before .before .before .before .before .good-signature in
-    let told = c .before .before .before .before .before .before .before .before .before .before .before .before .before .before .before .pre .2 in
-    let first = c .before .before .before .before .same in
-    let second = c .before .before .same2 in
-    let third = c .before .same3 in
+numbered c method authority path lines names key =
+    let told = c .before .before .before .before .before .before .before .before .before .before .before .before .before .pre .2 in
     simp (
-      ← (input .ensures),
-      ← (signature .ensures),
-      not-false (input .result && signature .result) (c .before .before .before .before .before .if1 .left),
+      ← (c .before .before .before .before .before .good-input .ensures),
+      ← (c .before .before .before .before .good-signature .ensures),
       ← (told .label),
-      ← (first .ensures),
-      ← (c .before .before .before .label-of .ensures),
-      ← (second .ensures),
+      ← (c .before .before .before .same .ensures),
+      ← (c .before .before .label-of .ensures),
+      ← (c .before .same2 .ensures),
       ← (told .key-id),
-      ← (third .ensures),
-      c .if2 .left,
+      ← (c .same3 .ensures),
     )
 
 pub field-number-spec : {M : Type 1} → statement M
 field-number-spec =
-    tie.close (tie.spec (λ c κs. search needs) (λ c κs. search needs) returns (λ c κs. search needs) (λ c κs. search needs) (λ c κs. search needs) (λ c κs. search needs)
-    returns-2 returns-3)
+    tie.close (tie.spec (λ c κs. search needs) (λ c κs. search needs) (λ c κs. search needs) (λ c κs. search needs) (λ c κs. search needs) (λ c κs. search needs)
+    (λ c m au p l n k. simp (numbered (c .before) m au p l n k, not-true (formed (c .before)) (c .if1 .taken)))
+    (λ c m au p l n k. simp (numbered (c .before .before) m au p l n k, not-false (formed (c .before .before)) (c .before .if1 .left), c .if2 .taken))
+    (λ c m au p l n k. simp (numbered (c .before .before) m au p l n k, not-false (formed (c .before .before)) (c .before .if1 .left), c .if2 .left)))

@@ -3,8 +3,6 @@
 use borrow.Author.Needs.{needs}
 use mathlib.Core.Path.{_≡_, sym, ap₂, _∙_}
 use borrow.Author.Tests.{eq-eqb, ne-eqb}
-use native.Mathlib.Omega.{arith}
-use lib.ListN.{length}
 use lib.Seq.{length-take-le}
 use Rattle.carrier.specs.Asked.{Asked, askedOf, askedNumber}
 use Rattle.carrier.specs.Verify.{toldNumber, firstRefusal, judgedNumber}

@@ -1,15 +1,15 @@
 -- `last_number` meets its contract: where the list is the one asked for, the parameters in the value are those of the base.
 -- Assumes nothing.
 use borrow.Author.Needs.{needs}
-use mathlib.Core.Path.{_≡_, refl, sym, ap, ap₂, _∙_}
-use mathlib.Core.Bool.{Bool, _&&_}
+use mathlib.Core.Path.{_≡_, sym, ap, ap₂, _∙_}
+use mathlib.Core.Bool.{_&&_}
 use mathlib.Core.List.{List}
 use Prim.Native.Nat.{ℕ, _+_}
 use native.Mathlib.Omega.{arith}
-use lib.ListN.{length, take, drop, length-drop}
+use lib.ListN.{length, length-drop}
 use Rattle.cells.specs.Runs.{same}
 use Rattle.signatures.specs.Base.{baseWith, codeOf}
-use Rattle.signatures.specs.Fields.{namesIn, signatureValue}
+use Rattle.signatures.specs.Fields.{signatureValue}
 use Rattle.carrier.specs.Asked.{Asked, askedOf}
 use Rattle.carrier.specs.Verify.{agrees}
 use Rattle.carrier.proofs.Parts.{granted, components, fielded, agreed}
