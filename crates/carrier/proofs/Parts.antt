@@ -5,7 +5,7 @@ use mathlib.Core.List.{List, _∷_}
 use mathlib.Core.Bool.{Bool, true, false, not, cond, _&&_}
 use Prim.Native.Nat.{ℕ, _+_, _≤_}
 use native.Mathlib.Omega.{arith}
-use borrow.Author.Tests.{leb-true, eqb-true, eqb-false}
+use borrow.Author.Tests.{leb-true, eqb-true, eqb-false, not-false}
 use lib.Dec.{eqb, leb, ltb}
 use lib.ListN.{length, drop}
 use lib.Seq.{drop-at, drop-drop}
@@ -31,10 +31,6 @@ module _ (t : Bool) (k n : ℕ) (some : k ≡ 0 → ⊥) where
   pub refused-not : cond t k n ≡ 0 → (t ≡ false) × (n ≡ 0)
   refused-not h = tested t (λ e. absurd (some (sym (rw e) ∙ h))) (λ e. (e, sym (rw e) ∙ h))
 
-pub passes : (t : Bool) → not t ≡ false → t ≡ true
-passes true h = refl
-passes false h = sym h
-
 pub none-refused : (m n : ℕ) → firstRefusal m n ≡ 0 → (m ≡ 0) × (n ≡ 0)
 none-refused m n h =
     tested (eqb m 0) (λ e. (eqb-true m 0 e, sym (rw e) ∙ h))
@@ -56,7 +52,7 @@ module _ (a : Asked) where
       let second = refused-not (not (wellNamed a)) 3 _ (λ e. omega arith) (first .1) in
       let third = refused-not (twice (listed (a .names))) 4 _ (λ e. omega arith) (second .1) in
       let fourth = refused-not (missing (a .message) (listed (a .names))) 5 0 (λ e. omega arith) (third .1) in
-      record { formed = passes _ (first .0); named = passes _ (second .0); once = third .0; has = fourth .0 }
+      record { formed = not-false (wellFormed a) (first .0); named = not-false (wellNamed a) (second .0); once = third .0; has = fourth .0 }
 
   pub asked-most : askedNumber a ≤ 5
   unfolding askedNumber
@@ -98,8 +94,8 @@ unfolding toldNumber
 fielded a input signature h =
     let first = refused-not (not (goodInput input && goodSignature signature)) 2 _ (λ e. omega arith) h in
     let second = refused-not (not (same (a .label) (labelIn input) && (same (a .label) (labelIn signature) && same (a .key-id) (keyIdIn input)))) 3 0 (λ e. omega arith) (first .1) in
-    let formed = both (goodInput input) _ (passes _ (first .0)) in
-    let label = both (same (a .label) (labelIn input)) _ (passes _ (second .0)) in
+    let formed = both (goodInput input) _ (not-false _ (first .0)) in
+    let label = both (same (a .label) (labelIn input)) _ (not-false _ (second .0)) in
     let rest = both (same (a .label) (labelIn signature)) _ (label .1) in
     record {
       formed = formed .0;

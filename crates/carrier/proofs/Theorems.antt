@@ -1,11 +1,11 @@
 -- The theorems about the two calls: document 02, K13.
 -- Assumes nothing.
 use mathlib.Core.Path.{_≡_, refl, sym, ap, _∙_}
-use mathlib.Core.List.{List, [], _∷_, _++_}
+use mathlib.Core.List.{List, [], _∷_, _++_, map}
 use mathlib.Core.Bool.{true, not}
 use Prim.Native.Nat.{ℕ, _+_, _*_, _/_, _%_, _≤_}
 use native.Mathlib.Omega.{arith}
-use borrow.Author.Tests.{eq-eqb, le-leb, eqb-true, eqb-false}
+use borrow.Author.Tests.{eq-eqb, le-leb, eqb-true, eqb-false, not-false}
 use lib.Dec.{eqb}
 use lib.ListN.{length, take, length-append}
 use lib.Seq.{take-at}
@@ -14,14 +14,17 @@ use Rattle.cells.specs.Runs.{same, fronted}
 use Rattle.cells.specs.Numbers.{bytesOf}
 use Rattle.cells.proofs.Tests.{tested, both}
 use Rattle.cells.proofs.Equality.{same-self, same-equal}
+use Rattle.names.specs.Extra.{extraNames as listed}
 use Rattle.hashes.specs.declared.Hash.the-variants.{Sha256}
 use Rattle.hmac.proofs.Output.{length-hmac, bytes-hmac}
 use Rattle.base64.specs.Encoding.{encoded}
 use Rattle.base64.proofs.Encoded.{length-encoded}
 use Rattle.structured.proofs.Readback.{read-size}
+use Rattle.signatures.specs.Components.{valueOf}
 use Rattle.signatures.specs.Base.{base, codeOf}
 use Rattle.signatures.specs.Belongs.{BaseOf, ExactlyOne}
 use Rattle.signatures.specs.Fields.{signatureValue, fieldLines, labelIn, namesIn, createdIn, timeIn, keyIdIn, goodInput, goodSignature}
+use Rattle.signatures.proofs.Alike.{same-list, same-time, same-key-id, same-values}
 use Rattle.signatures.proofs.Once.{only-base, exactly-one}
 use Rattle.signatures.proofs.Readback.{told-label, told-names, told-time, told-key-id, input-in-form, signed-label, value-in-form}
 use Rattle.carrier.specs.Asked.{Asked, askedFits, askedNumber, Answer, answer}
@@ -29,7 +32,7 @@ use Rattle.carrier.specs.Sign.{latest, signFits, signNumber, inputOf, si
 use Rattle.carrier.specs.Verify.{verifyFits, toldNumber, firstRefusal, agrees, judgedNumber, verifyNumber, verified}
 use Rattle.carrier.specs.InnerSteps.{MayBeSigned}
 use Rattle.carrier.specs.Theorems.{TakenBack, SignedAt}
-use Rattle.carrier.proofs.Parts.{refused-not, passes, none-refused, Granted, granted, asked-most, components, labelled, identified, fielded, input-told, sign-sized}
+use Rattle.carrier.proofs.Parts.{refused-not, none-refused, Granted, granted, asked-most, components, labelled, identified, signable, fielded, input-told, sign-sized}
 use Rattle.carrier.proofs.Writing.{text-short}
 
 -- exactly one base belongs to what is asked, and the signature is its code
@@ -40,6 +43,16 @@ module _ (a : Asked) (created : ℕ) (h : askedNumber a ≡ 0) where
   pub signs-it : (text : List ℕ) → BaseOf (a .message) (a .names) created (a .key-id) text → signatureOf a created ≡ signatureValue (a .label) (codeOf (a .key) text)
   unfolding signatureOf
   signs-it text b = ap (λ (t : List ℕ). signatureValue (a .label) (codeOf (a .key) t)) (sym (only-base (a .message) (a .names) created (a .key-id) text b))
+
+-- equal bases of what may be signed come from equal lists, times, key ids and values
+module _ (a a' : Asked) (t t' : ℕ) (h : askedNumber a ≡ 0) (h' : askedNumber a' ≡ 0) (time : t ≤ latest) (time' : t' ≤ latest)
+    (alike : base (a .message) (a .names) t (a .key-id) ≡ base (a' .message) (a' .names) t' (a' .key-id)) where
+  pub equal-bases : (a .names ≡ a' .names) × (t ≡ t') × (a .key-id ≡ a' .key-id)
+      × (map (valueOf (a .message)) (listed (a .names)) ≡ map (valueOf (a' .message)) (listed (a' .names)))
+  equal-bases =
+      let s = signable (granted a h) t time in
+      let s' = signable (granted a' h') t' time' in
+      (same-list s s' alike, same-time s s' alike, same-key-id s s' alike, same-values s s' alike)
 
 -- what is written at a time is taken, and tells it
 module _ (a : Asked) (t : ℕ) (h : askedNumber a ≡ 0) (time : t ≤ latest) where
@@ -113,7 +126,7 @@ module _ (a : Asked) (created : ℕ) (out : List ℕ) where
   module _ (none : signNumber a created out ≡ 0) where
     parts : (signFits a created out ≡ true) × (askedNumber a ≡ 0)
     unfolding signNumber
-    parts = let first = refused-not (not (signFits a created out)) 1 (askedNumber a) (λ e. omega arith) none in (passes _ (first .0), first .1)
+    parts = let first = refused-not (not (signFits a created out)) 1 (askedNumber a) (λ e. omega arith) none in (not-false (signFits a created out) (first .0), first .1)
 
     may : MayBeSigned a created out
     may = let sizes = sign-sized a created out (parts .0) in record { sized = sizes .0; time = sizes .1; room = sizes .2; asked = parts .1 }

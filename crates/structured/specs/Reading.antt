@@ -39,7 +39,7 @@ pub record IntegerIs (run : List ℕ) (r : Integer) : Type 0 where
   pub digits : r .digits ≡ digitsIn run
   pub value : r .value ≡ valueAfter 0 (take (digitsIn run) run)
 
--- those before the first byte that is b
+-- bytes other than b
 abbrev pub other : ℕ → ℕ → Bool
 other b c = not (eqb c b)
 
