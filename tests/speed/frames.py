@@ -1,4 +1,4 @@
-"""python3 tests/speed/frames.py PROGRAM [MOST]: from the program's machine code, the most stack that each gate call can take.
+"""python3 tests/speed/frames.py PROGRAM [MOST]: from the program's machine code, the most stack that each exported call can take.
 With MOST, a number of bytes, the exit status is 1 where a call can take more.
 
 A call's need is its own frame, its return address and the largest need of what it calls; no function of ours calls itself or
@@ -10,7 +10,8 @@ import subprocess
 import sys
 
 WORD = 8
-CALLS = ["gate_setup", "gate_judge", "gate_judge_one", "gate_fits", "gate_end", "gate_index"]
+PAGE = 4096
+CALLS = ["gate_setup", "gate_judge", "gate_judge_one", "gate_fits", "gate_end", "gate_index", "carrier_sign", "carrier_verify"]
 
 
 def number(text):
@@ -35,7 +36,7 @@ def frames(lines):
     """Of each function the largest depth of its own, and of each function that it calls the depth at the call."""
     own, called = {}, {}
     frame = depth = 0
-    before = None
+    before = last = None
     for function, instruction, operands in lines:
         if function != before:
             before, frame, depth = function, 0, WORD
@@ -47,11 +48,15 @@ def frames(lines):
             depth -= WORD
         elif instruction == "sub" and moved:
             depth += number(moved[1])
+        elif instruction == "sub" and last == ("mov", "%rsp,%r11"):
+            # A frame of many pages is taken in a loop up to this place, and the loop's own page is counted where it stands.
+            depth += number(re.match(r"\$(0x[0-9a-f]+),%r11$", operands)[1]) - PAGE
         elif instruction == "add" and moved:
             depth -= number(moved[1])
         elif instruction == "ret":
             depth = frame  # what follows is reached from within
         frame = max(frame, depth)
+        last = instruction, operands
         below = re.search(r"-(0x[0-9a-f]+)\(%rsp", operands)  # a function that calls nothing may use what lies below
         own[function] = max(own[function], depth + (int(below[1], 16) if below else 0))
         target = re.search(r"<([^+>]*)>$", operands)

@@ -20,7 +20,7 @@ use Rattle.hmac.specs.Hmac.{keyBlock, xored, hmac}
 use Rattle.base64.specs.Alphabet.{counted, alphabet, character}
 use Rattle.base64.specs.Encoding.{encoded}
 use Rattle.structured.specs.Texts.{isKey, escaped, string, further, strings, innerList}
-use Rattle.structured.specs.InnerLists.{every}
+use Rattle.structured.specs.Lists.{every}
 use Rattle.signatures.specs.Components.{goodMessage, isDerived, isField, isComponent, valuesOf, valueOf, missing, twice, allComponents, allPrintable}
 use Rattle.signatures.specs.Base.{params, componentLine, componentLines, lastLine, baseWith, base, codeOf}
 use Rattle.signatures.specs.Fields.{signatureText, signatureValue}

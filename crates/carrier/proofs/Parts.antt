@@ -15,6 +15,7 @@ use Rattle.cells.proofs.Tests.{tested, both}
 use Rattle.cells.proofs.Equality.{same-equal}
 use Rattle.names.specs.Extra.{extraNames as listed}
 use Rattle.structured.specs.Texts.{isKey, printable}
+use Rattle.structured.specs.Reading.{lastInteger}
 use Rattle.signatures.specs.Components.{Message, goodMessage, allComponents, allPrintable, twice, missing}
 use Rattle.signatures.specs.Base.{params, baseWith, base, codeOf}
 use Rattle.signatures.specs.Fields.{inputValue, signatureValue, labelIn, namesIn, timeIn, keyIdIn, goodInput, goodSignature}
@@ -22,7 +23,7 @@ use Rattle.signatures.specs.Signable.{Signable}
 use Rattle.signatures.specs.InnerAnswers.{ShortMessage}
 use Rattle.signatures.proofs.Readback.{rewritten}
 use Rattle.carrier.specs.Asked.{Asked, longFrom, messageFits, askedFits, wellFormed, wellNamed, askedNumber}
-use Rattle.carrier.specs.Sign.{latest, signFits, inputOf, signatureOf}
+use Rattle.carrier.specs.Sign.{signFits, inputOf, signatureOf}
 use Rattle.carrier.specs.Verify.{verifyFits, toldNumber, firstRefusal, agrees}
 use Rattle.carrier.specs.InnerSteps.{Sized, SizedValues}
 
@@ -78,15 +79,13 @@ module _ {a : Asked} (g : Granted a) where
   unfolding wellNamed
   identified = both (isKey (a .label)) _ (g .named) .1
 
-  pub signable : (created : ℕ) → created ≤ latest → Signable (a .message) (a .names) created (a .key-id)
+  pub signable : (created : ℕ) → created ≤ lastInteger → Signable (a .message) (a .names) created (a .key-id)
   signable created h = record { components = components; values = values; time = h; identified = identified }
 
 -- nothing is refused of the two values but perhaps the list or the code
 pub record Fielded (a : Asked) (input signature : List ℕ) : Type 0 where
   pub formed : goodInput input ≡ true
-  pub formed-too : goodSignature signature ≡ true
   pub label : a .label ≡ labelIn input
-  pub label-too : a .label ≡ labelIn signature
   pub key-id : a .key-id ≡ keyIdIn input
 
 pub fielded : (a : Asked) (input signature : List ℕ) → toldNumber a input signature ≡ 0 → Fielded a input signature
@@ -99,9 +98,7 @@ fielded a input signature h =
     let rest = both (same (a .label) (labelIn signature)) _ (label .1) in
     record {
       formed = formed .0;
-      formed-too = formed .1;
       label = same-equal _ _ (label .0);
-      label-too = same-equal _ _ (rest .0);
       key-id = same-equal _ _ (rest .1);
     }
 
@@ -164,11 +161,11 @@ module _ (a : Asked) where
         key = most 1 256 (a .key) (key-id .1);
       }
 
-  pub sign-sized : (created : ℕ) (out : List ℕ) → signFits a created out ≡ true → Sized a × (created ≤ latest) × (4096 ≤ length out)
+  pub sign-sized : (created : ℕ) (out : List ℕ) → signFits a created out ≡ true → Sized a × (created ≤ lastInteger) × (4096 ≤ length out)
   unfolding signFits
   sign-sized created out h =
       let asked = both (askedFits a) _ h in
-      let time = both (leb created latest) _ (asked .1) in
+      let time = both (leb created lastInteger) _ (asked .1) in
       (sized (asked .0), leb-true _ _ (time .0), leb-true _ _ (time .1))
 
   pub verify-sized : (input signature created : List ℕ) → verifyFits a input signature created ≡ true → SizedValues a input signature × (length created ≡ 8)

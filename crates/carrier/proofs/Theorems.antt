@@ -19,6 +19,7 @@ use Rattle.hashes.specs.declared.Hash.the-variants.{Sha256}
 use Rattle.hmac.proofs.Output.{length-hmac, bytes-hmac}
 use Rattle.base64.specs.Encoding.{encoded}
 use Rattle.base64.proofs.Encoded.{length-encoded}
+use Rattle.structured.specs.Reading.{lastInteger}
 use Rattle.structured.proofs.Readback.{read-size}
 use Rattle.signatures.specs.Components.{valueOf}
 use Rattle.signatures.specs.Base.{base, codeOf}
@@ -28,7 +29,7 @@ use Rattle.signatures.proofs.Alike.{same-list, same-time, same-key-id, same-val
 use Rattle.signatures.proofs.Once.{only-base, exactly-one}
 use Rattle.signatures.proofs.Readback.{told-label, told-names, told-time, told-key-id, input-in-form, signed-label, value-in-form}
 use Rattle.carrier.specs.Asked.{Asked, askedFits, askedNumber, Answer, answer}
-use Rattle.carrier.specs.Sign.{latest, signFits, signNumber, inputOf, signatureOf, signText, signed}
+use Rattle.carrier.specs.Sign.{signFits, signNumber, inputOf, signatureOf, signText, signed}
 use Rattle.carrier.specs.Verify.{verifyFits, toldNumber, firstRefusal, agrees, judgedNumber, verifyNumber, verified}
 use Rattle.carrier.specs.InnerSteps.{MayBeSigned}
 use Rattle.carrier.specs.Theorems.{TakenBack, SignedAt}
@@ -45,7 +46,7 @@ module _ (a : Asked) (created : ℕ) (h : askedNumber a ≡ 0) where
   signs-it text b = ap (λ (t : List ℕ). signatureValue (a .label) (codeOf (a .key) t)) (sym (only-base (a .message) (a .names) created (a .key-id) text b))
 
 -- equal bases of what may be signed come from equal lists, times, key ids and values
-module _ (a a' : Asked) (t t' : ℕ) (h : askedNumber a ≡ 0) (h' : askedNumber a' ≡ 0) (time : t ≤ latest) (time' : t' ≤ latest)
+module _ (a a' : Asked) (t t' : ℕ) (h : askedNumber a ≡ 0) (h' : askedNumber a' ≡ 0) (time : t ≤ lastInteger) (time' : t' ≤ lastInteger)
     (alike : base (a .message) (a .names) t (a .key-id) ≡ base (a' .message) (a' .names) t' (a' .key-id)) where
   pub equal-bases : (a .names ≡ a' .names) × (t ≡ t') × (a .key-id ≡ a' .key-id)
       × (map (valueOf (a .message)) (listed (a .names)) ≡ map (valueOf (a' .message)) (listed (a' .names)))
@@ -55,7 +56,7 @@ module _ (a a' : Asked) (t t' : ℕ) (h : askedNumber a ≡ 0) (h' : askedNumber
       (same-list s s' alike, same-time s s' alike, same-key-id s s' alike, same-values s s' alike)
 
 -- what is written at a time is taken, and tells it
-module _ (a : Asked) (t : ℕ) (h : askedNumber a ≡ 0) (time : t ≤ latest) where
+module _ (a : Asked) (t : ℕ) (h : askedNumber a ≡ 0) (time : t ≤ lastInteger) where
   abbrev input : List ℕ
   input = inputOf a t
 

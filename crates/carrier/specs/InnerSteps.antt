@@ -5,10 +5,11 @@ use mathlib.Core.Path.{_≡_}
 use mathlib.Core.List.{List}
 use lib.ListN.{length}
 use Rattle.cells.specs.Runs.{fronted}
+use Rattle.structured.specs.Reading.{lastInteger}
 use Rattle.signatures.specs.Fields.{timeIn}
 use Rattle.signatures.specs.InnerAnswers.{ShortMessage}
 use Rattle.carrier.specs.Asked.{Asked, askedNumber, Answer, answer}
-use Rattle.carrier.specs.Sign.{latest, signText}
+use Rattle.carrier.specs.Sign.{signText}
 use Rattle.carrier.specs.Verify.{toldNumber, judgedNumber}
 use Rattle.carrier.specs.declared.verify.Verdict.{Verdict}
 
@@ -23,7 +24,7 @@ pub record Sized (a : Asked) : Type 0 where
 -- nothing is refused, and there is room
 pub record MayBeSigned (a : Asked) (created : ℕ) (out : List ℕ) : Type 0 where
   pub sized : Sized a
-  pub time : created ≤ latest
+  pub time : created ≤ lastInteger
   pub room : 4096 ≤ length out
   pub asked : askedNumber a ≡ 0
 

@@ -6,16 +6,13 @@ use mathlib.Core.Bool.{Bool, not, cond, _&&_}
 use lib.Dec.{eqb, leb}
 use lib.ListN.{length}
 use Rattle.cells.specs.Runs.{fronted}
+use Rattle.structured.specs.Reading.{lastInteger}
 use Rattle.signatures.specs.Base.{base, codeOf}
 use Rattle.signatures.specs.Fields.{inputValue, signatureValue, fieldLines}
 use Rattle.carrier.specs.Asked.{Asked, askedFits, askedNumber, Answer, answer}
 
--- RFC 8941, 3.3.1: an integer of 15 digits
-abbrev pub latest : ℕ
-latest = 999999999999999
-
 unfoldable pub signFits : Asked → ℕ → List ℕ → Bool
-signFits a created out = askedFits a && (leb created latest && leb 4096 (length out))
+signFits a created out = askedFits a && (leb created lastInteger && leb 4096 (length out))
 
 unfoldable pub signNumber : Asked → ℕ → List ℕ → ℕ
 signNumber a created out = cond (not (signFits a created out)) 1 (askedNumber a)

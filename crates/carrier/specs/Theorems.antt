@@ -5,9 +5,10 @@ use mathlib.Core.Path.{_≡_}
 use mathlib.Core.List.{List}
 use lib.ListN.{take}
 use Rattle.cells.specs.Numbers.{bytesOf}
+use Rattle.structured.specs.Reading.{lastInteger}
 use Rattle.signatures.specs.Fields.{fieldLines}
 use Rattle.carrier.specs.Asked.{Asked, askedNumber, answer}
-use Rattle.carrier.specs.Sign.{latest, inputOf, signatureOf, signed}
+use Rattle.carrier.specs.Sign.{inputOf, signatureOf, signed}
 use Rattle.carrier.specs.Verify.{verified}
 
 -- what sign left in its buffer is two fields, whose values verify takes, and it tells when they were created
@@ -20,6 +21,6 @@ pub record TakenBack (a : Asked) (created : ℕ) (out room : List ℕ) : Type 0 
 -- nothing is refused of what is asked, and the two values are those that sign writes at a time
 pub record SignedAt (a : Asked) (created : ℕ) (input signature : List ℕ) : Type 0 where
   pub asked : askedNumber a ≡ 0
-  pub time : created ≤ latest
+  pub time : created ≤ lastInteger
   pub covers : input ≡ inputOf a created
   pub signs : signature ≡ signatureOf a created

@@ -1,4 +1,4 @@
-// Whether what is lent has the sizes that document 02, K13, names: number 1.
+// Whether what is lent has the sizes that docs/CARRIER.md lists: number 1.
 ghost use mathlib.Core.Path.{_≡_};
 ghost use Rattle.signatures.specs.Components.{messageOf};
 ghost use Rattle.carrier.specs.Asked.{longFrom, askedOf, messageFits, askedFits};

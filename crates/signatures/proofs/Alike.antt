@@ -15,7 +15,7 @@ use Rattle.names.specs.Extra.{extraNames as listed}
 use Rattle.lines.specs.Lines.{LF}
 use Rattle.structured.specs.Texts.{printable, isKey, string, strings, innerList, escaped}
 use Rattle.structured.specs.Reading.{digit, other}
-use Rattle.structured.specs.InnerLists.{every}
+use Rattle.structured.specs.Lists.{every}
 use Rattle.structured.proofs.Texts.{all-append, all-string, all-strings}
 use Rattle.structured.proofs.Readback.{decimal-all}
 use Rattle.signatures.specs.Components.{Message, isComponent, valueOf, allComponents, allPrintable}

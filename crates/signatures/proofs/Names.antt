@@ -15,7 +15,7 @@ use Rattle.cells.proofs.Equality.{same-equal}
 use Rattle.names.specs.Names.{hasByte, tokenByte, isToken}
 use Rattle.structured.specs.Texts.{quote, string}
 use Rattle.structured.specs.Reading.{other}
-use Rattle.structured.specs.InnerLists.{every}
+use Rattle.structured.specs.Lists.{every}
 use Rattle.structured.proofs.Texts.{plainByte, plain, escaped-plain}
 use Rattle.signatures.specs.Components.{small, isDerived, isField, isComponent, allComponents}
 use Rattle.signatures.specs.InnerAnswers.{Quoted}

@@ -19,7 +19,7 @@ use Rattle.lines.proofs.Joined.{joined-one, joined-short}
 use Rattle.sha2.specs.declared.State.{State}
 use Rattle.sha2.specs.InnerTaken.{TookIn}
 use Rattle.structured.specs.Texts.{string, escaped}
-use Rattle.structured.specs.InnerLists.{every}
+use Rattle.structured.specs.Lists.{every}
 use Rattle.signatures.specs.Components.{Message, isComponent, allComponents, valuesOf, valueOf}
 use Rattle.signatures.specs.Base.{componentLine, componentLines, lastLine}
 use Rattle.signatures.specs.InnerAnswers.{ShortMessage, Quoted}

@@ -23,7 +23,7 @@ use Rattle.base64.specs.Decoding.{decoded}
 use Rattle.base64.proofs.Exactly.{decoded-exactly}
 use Rattle.base64.proofs.Encoded.{length-encoded}
 use Rattle.structured.specs.Texts.{quote, keyStart, keyByte, isKey, printable, escaped, string, strings, innerList}
-use Rattle.structured.specs.Reading.{unescaped, unlisted, digitsIn, other, butLast}
+use Rattle.structured.specs.Reading.{unescaped, unlisted, lastInteger, digitsIn, other, butLast}
 use Rattle.structured.proofs.Texts.{plainByte, plain, all-strings}
 use Rattle.structured.proofs.Readback.{unescaped-escaped, unlisted-strings, decimal-read}
 use Rattle.signatures.specs.Components.{allComponents}
@@ -56,7 +56,7 @@ module _ (l rest : List ℕ) (key : isKey l ≡ true) where
   label-read = take-at l (61 ∷ rest) (leading (other 61) (l ++ 61 ∷ rest)) (sym label-size)
 
 -- the parameters, read from the list's first name on
-module _ (ns k : List ℕ) (t : ℕ) (good : allComponents (listed ns) ≡ true) (time : t ≤ 999999999999999) where
+module _ (ns k : List ℕ) (t : ℕ) (good : allComponents (listed ns) ≡ true) (time : t ≤ lastInteger) where
   abbrev identified : List ℕ
   identified = codes ";keyid=" ++ string k
 

@@ -19,7 +19,7 @@ use Rattle.lines.specs.InnerPlaces.{Stands, frontAt, ownAt, FoundAt, AgainIs}
 use Rattle.lines.specs.declared.Found.the-variants.{At, Missing}
 use Rattle.lines.proofs.Joined.{own-more, own-alone, own-then, own-begins}
 use Rattle.structured.specs.Texts.{printable}
-use Rattle.structured.specs.InnerLists.{every}
+use Rattle.structured.specs.Lists.{every}
 use Rattle.structured.proofs.Laying.{Laying, laying-next, laying-more}
 use Rattle.signatures.specs.Components.{Message, valuesOf, valueOf, noValue, allPrintable, twice, missing}
 use Rattle.signatures.specs.InnerAnswers.{ValueIs, LookedAt}

@@ -1,4 +1,4 @@
--- Which base belongs to a message and its parameters, told by RFC 9421, 2.5, step by step: `exactly-one` and `none` of proofs/Once.antt are about it.
+-- Which base belongs to a message and its parameters, told by RFC 9421, 2.5, step by step: `exactly-one` and `none-of` of proofs/Once.antt are about it.
 -- Assumes nothing.
 use Prim.Native.Nat.{ℕ}
 use mathlib.Core.Path.{_≡_}

@@ -10,7 +10,7 @@ use Rattle.names.specs.Names.{between, isToken, hasName}
 use Rattle.lines.specs.Lines.{linesIn, goodBlock}
 use Rattle.lines.specs.Values.{valuesIn, joined}
 use Rattle.structured.specs.Texts.{printable}
-use Rattle.structured.specs.InnerLists.{every}
+use Rattle.structured.specs.Lists.{every}
 
 pub record Message : Type 0 where
   pub method : List ℕ

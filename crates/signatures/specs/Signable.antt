@@ -7,10 +7,11 @@ use mathlib.Core.Bool.{true}
 use Rattle.cells.specs.Spans.{all}
 use Rattle.names.specs.Extra.{extraNames as listed}
 use Rattle.structured.specs.Texts.{printable}
+use Rattle.structured.specs.Reading.{lastInteger}
 use Rattle.signatures.specs.Components.{Message, allComponents, allPrintable}
 
 pub record Signable (m : Message) (names : List ℕ) (created : ℕ) (key-id : List ℕ) : Type 0 where
   pub components : allComponents (listed names) ≡ true
   pub values : allPrintable m (listed names) ≡ true
-  pub time : created ≤ 999999999999999
+  pub time : created ≤ lastInteger
   pub identified : all printable key-id ≡ true

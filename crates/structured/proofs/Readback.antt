@@ -13,8 +13,8 @@ use Rattle.cells.specs.Spans.{all, leading}
 use Rattle.cells.specs.Decimal.{decimal, valueAfter}
 use Rattle.names.specs.Extra.{comma, extraNames}
 use Rattle.structured.specs.Texts.{SP, quote, backslash, escaped, string, further, strings}
-use Rattle.structured.specs.InnerLists.{every}
-use Rattle.structured.specs.Reading.{unescapedAfter, unescaped, unlisted, digit, digitsIn}
+use Rattle.structured.specs.Lists.{every}
+use Rattle.structured.specs.Reading.{unescapedAfter, unescaped, unlisted, digit, lastInteger, digitsIn}
 use Rattle.cells.proofs.Tests.{tested, both}
 use Rattle.cells.proofs.Spans.{leading-append}
 use Rattle.cells.proofs.Digits.{Digits, one, _then_, decimal-digits, decimal-length, value-decimal}
@@ -78,7 +78,7 @@ leading-take p (suc k) (x ∷ xs) h =
 pub decimal-all : (n : ℕ) → all digit (decimal n) ≡ true
 decimal-all n = all-digits (decimal-digits n)
 
-pub decimal-read : (n : ℕ) → n ≤ 999999999999999 → (rest : List ℕ) → (b : ℕ) → digit b ≡ false
+pub decimal-read : (n : ℕ) → n ≤ lastInteger → (rest : List ℕ) → (b : ℕ) → digit b ≡ false
     → (digitsIn (decimal n ++ b ∷ rest) ≡ length (decimal n)) × (valueAfter 0 (decimal n) ≡ n) × (length (decimal n) ≤ 15)
 decimal-read n h rest b e =
     let size = decimal-length 14 n (omega arith) in
@@ -111,7 +111,7 @@ value-most j v (d ∷ ds) h g =
     let e : j + suc (length ds) ≡ suc j + length ds = omega arith in
     rw e (value-most (suc j) (v * 10 + (d - 48)) ds (omega arith) (parts .1))
 
-pub read-size : (run : List ℕ) → valueAfter 0 (take (digitsIn run) run) ≤ 999999999999999
+pub read-size : (run : List ℕ) → valueAfter 0 (take (digitsIn run) run) ≤ lastInteger
 read-size run =
     let most = rw zero-add at (value-most 0 0 (take (digitsIn run) run) (omega arith) (leading-all digit 15 run)) in
     omega (arith, pow-le-pow-right {n = 10} (omega arith) (leading-most digit 15 run))

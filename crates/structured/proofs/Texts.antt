@@ -13,7 +13,7 @@ use lib.Seq.{drop-cons}
 use Rattle.cells.specs.Spans.{all}
 use Rattle.names.specs.Extra.{extraNames}
 use Rattle.structured.specs.Texts.{SP, quote, backslash, escaped, string, further, strings, innerList}
-use Rattle.structured.specs.InnerLists.{every}
+use Rattle.structured.specs.Lists.{every}
 use Rattle.cells.proofs.Tests.{tested, both}
 use Rattle.names.proofs.Joined.{rejoined, names-in-joined}
 

@@ -32,6 +32,9 @@ abbrev pub digit : ℕ → Bool
 digit b = between 48 57 b
 
 -- 3.3.1: an integer has at most 15 digits
+abbrev pub lastInteger : ℕ
+lastInteger = 999999999999999
+
 abbrev pub digitsIn : List ℕ → ℕ
 digitsIn run = leading digit (take 15 run)
 

@@ -8,7 +8,7 @@ use lib.ListN.{length}
 use Rattle.names.specs.Extra.{extraNames as listed}
 use Rattle.names.specs.InnerWalk.{namesFrom}
 use Rattle.names.proofs.Walk.{names-first, names-past, extra-none}
-use Rattle.structured.specs.InnerLists.{every}
+use Rattle.structured.specs.Lists.{every}
 use Rattle.signatures.specs.Components.{allComponents}
 use Rattle.signatures.proofs.Values.{listed-start}
 use Rattle.signatures.proofs.components.all_components.Statement.{statement}
