@@ -18,7 +18,7 @@ use Rattle.structured.specs.Texts.{isKey, printable}
 use Rattle.structured.specs.Reading.{lastInteger}
 use Rattle.signatures.specs.Components.{Message, goodMessage, allComponents, allPrintable, twice, missing}
 use Rattle.signatures.specs.Base.{params, baseWith, base, codeOf}
-use Rattle.signatures.specs.Fields.{inputValue, signatureValue, labelIn, namesIn, timeIn, keyIdIn, goodInput, goodSignature}
+use Rattle.signatures.specs.Fields.{inputValue, signatureValue, labelIn, coveredIn, timeIn, keyIdIn, goodInput, goodSignature}
 use Rattle.signatures.specs.Signable.{Signable}
 use Rattle.signatures.specs.InnerAnswers.{ShortMessage}
 use Rattle.signatures.proofs.Readback.{rewritten}
@@ -104,14 +104,14 @@ fielded a input signature h =
 
 module _ {a : Asked} {input signature : List ℕ} (f : Fielded a input signature) where
   -- the value, where its list is the one asked for
-  pub input-told : a .names ≡ namesIn input → input ≡ inputOf a (timeIn input)
+  pub input-told : a .names ≡ coveredIn input → input ≡ inputOf a (timeIn input)
   unfolding inputOf
   input-told e =
       rewritten input (f .formed)
-      ∙ ap (λ (l : List ℕ). inputValue l (namesIn input) (timeIn input) (keyIdIn input)) (sym (f .label))
+      ∙ ap (λ (l : List ℕ). inputValue l (coveredIn input) (timeIn input) (keyIdIn input)) (sym (f .label))
       ∙ ap₂ (λ (ns k : List ℕ). inputValue (a .label) ns (timeIn input) k) (sym e) (sym (f .key-id))
 
-  params-told : a .names ≡ namesIn input → drop (length (a .label) + 1) input ≡ params (a .names) (timeIn input) (a .key-id)
+  params-told : a .names ≡ coveredIn input → drop (length (a .label) + 1) input ≡ params (a .names) (timeIn input) (a .key-id)
   unfolding inputOf inputValue
   params-told e =
       ap (drop (length (a .label) + 1)) (input-told e) ∙ sym (drop-drop 1 (length (a .label)) _)
@@ -119,12 +119,12 @@ module _ {a : Asked} {input signature : List ℕ} (f : Fielded a input signature
 
   -- so its parameters are those of the base
   pub agreed : agrees a input signature
-      ≡ (same (a .names) (namesIn input)
+      ≡ (same (a .names) (coveredIn input)
       && same (signatureValue (a .label) (codeOf (a .key) (baseWith (a .message) (a .names) (drop (length (a .label) + 1) input)))) signature)
   unfolding agrees signatureOf base
   agreed =
-      tested (same (a .names) (namesIn input))
-      (λ e. ap (λ (ps : List ℕ). same (a .names) (namesIn input) && same (signatureValue (a .label) (codeOf (a .key) (baseWith (a .message) (a .names) ps))) signature)
+      tested (same (a .names) (coveredIn input))
+      (λ e. ap (λ (ps : List ℕ). same (a .names) (coveredIn input) && same (signatureValue (a .label) (codeOf (a .key) (baseWith (a .message) (a .names) ps))) signature)
       (sym (params-told (same-equal _ _ e))))
       (λ e. rw e refl)
 

@@ -24,7 +24,7 @@ use Rattle.structured.proofs.Readback.{read-size}
 use Rattle.signatures.specs.Components.{valueOf}
 use Rattle.signatures.specs.Base.{base, codeOf}
 use Rattle.signatures.specs.Belongs.{BaseOf, ExactlyOne}
-use Rattle.signatures.specs.Fields.{signatureValue, fieldLines, labelIn, namesIn, createdIn, timeIn, keyIdIn, goodInput, goodSignature}
+use Rattle.signatures.specs.Fields.{signatureValue, fieldLines, labelIn, coveredIn, createdIn, timeIn, keyIdIn, goodInput, goodSignature}
 use Rattle.signatures.proofs.Alike.{same-list, same-time, same-key-id, same-values}
 use Rattle.signatures.proofs.Once.{only-base, exactly-one}
 use Rattle.signatures.proofs.Readback.{told-label, told-names, told-time, told-key-id, input-in-form, signed-label, value-in-form}
@@ -70,7 +70,7 @@ module _ (a : Asked) (t : ℕ) (h : askedNumber a ≡ 0) (time : t ≤ lastInteg
   unfolding inputOf
   label-told = told-label (a .names) (a .key-id) t (components g) time (a .label) (labelled g)
 
-  names-told : namesIn input ≡ a .names
+  names-told : coveredIn input ≡ a .names
   unfolding inputOf
   names-told = told-names (a .names) (a .key-id) t (components g) time (a .label) (labelled g)
 
@@ -194,7 +194,7 @@ module _ (a : Asked) (input signature room : List ℕ) where
   only-signed h =
       let both-agree = agreeing (judged (accepted h)) in
       let refused = none-refused (askedNumber a) (toldNumber a input signature) (both-agree .0) in
-      let same-parts = both (same (a .names) (namesIn input)) _ (both-agree .1) in
+      let same-parts = both (same (a .names) (coveredIn input)) _ (both-agree .1) in
       record {
         asked = refused .0;
         time = read-size (createdIn input);

@@ -7,7 +7,7 @@ use lib.Dec.{eqb, leb, ltb}
 use lib.ListN.{length}
 use Rattle.cells.specs.Runs.{same}
 use Rattle.cells.specs.Numbers.{bytesOf}
-use Rattle.signatures.specs.Fields.{labelIn, namesIn, timeIn, keyIdIn, goodInput, goodSignature}
+use Rattle.signatures.specs.Fields.{labelIn, coveredIn, timeIn, keyIdIn, goodInput, goodSignature}
 use Rattle.carrier.specs.Asked.{Asked, askedFits, askedNumber, Answer, answer}
 use Rattle.carrier.specs.Sign.{signatureOf}
 
@@ -27,7 +27,7 @@ firstRefusal m n = cond (eqb m 0) n (cond (eqb n 0) m (cond (ltb n m) n m))
 
 -- the list is the one asked for, and the signature that of the base, whatever the list of the value is
 unfoldable pub agrees : Asked → List ℕ → List ℕ → Bool
-agrees a input signature = same (a .names) (namesIn input) && same (signatureOf a (timeIn input)) signature
+agrees a input signature = same (a .names) (coveredIn input) && same (signatureOf a (timeIn input)) signature
 
 -- what is refused, sizes apart
 unfoldable pub judgedNumber : Asked → List ℕ → List ℕ → ℕ

@@ -5,7 +5,7 @@ ghost use mathlib.Core.Bool.{cond};
 ghost use Prim.Native.Nat.{ℕ, _≤_};
 ghost use lib.ListN.{length, take};
 ghost use Rattle.cells.specs.Runs as R;
-ghost use Rattle.signatures.specs.Fields.{signatureValue, namesIn};
+ghost use Rattle.signatures.specs.Fields.{signatureValue, coveredIn};
 ghost use Rattle.signatures.specs.InnerAnswers.{Tells};
 ghost use Rattle.carrier.specs.Asked.{askedOf};
 ghost use Rattle.carrier.specs.Verify.{toldNumber, firstRefusal, agrees};
@@ -123,7 +123,7 @@ fn last_number(
     signature: &[u8],
     names_told: &[u8],
 ) -> u32
-    requires { ⌜ InForm (askedOf (now method) (now authority) (now path) (now lines) (now names) (now label) (now «key_id») (now key)) (now input) (now signature) × (now «names_told» ≡ namesIn (now input)) ⌝ }
+    requires { ⌜ InForm (askedOf (now method) (now authority) (now path) (now lines) (now names) (now label) (now «key_id») (now key)) (now input) (now signature) × (now «names_told» ≡ coveredIn (now input)) ⌝ }
     ensures { λ r. ⌜ r ≡ cond (agrees (askedOf (now (method .entry)) (now (authority .entry)) (now (path .entry)) (now (lines .entry)) (now (names .entry)) (now (label .entry)) (now («key_id» .entry)) (now (key .entry))) (now (input .entry)) (now (signature .entry))) 0 6 ⌝ }
 {
     let params = structured::reading::past(input, label.len() + 1);

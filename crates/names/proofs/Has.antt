@@ -13,7 +13,7 @@ use Rattle.names.specs.Names.{sameName, hasName}
 use Rattle.names.specs.Covered.{chosenFirst, chosen}
 use Rattle.names.proofs.Same.{same-right, same-itself}
 
-neither : (a b : Bool) → (a || b) ≡ false → (a ≡ false) × (b ≡ false)
+pub neither : (a b : Bool) → (a || b) ≡ false → (a ≡ false) × (b ≡ false)
 neither true b e = absurd (false≢true (sym e))
 neither false b e = (refl, e)
 

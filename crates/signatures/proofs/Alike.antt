@@ -20,10 +20,10 @@ use Rattle.structured.proofs.Texts.{all-append, all-string, all-strings}
 use Rattle.structured.proofs.Readback.{decimal-all}
 use Rattle.signatures.specs.Components.{Message, isComponent, valueOf, allComponents, allPrintable}
 use Rattle.signatures.specs.Base.{params, componentLine, componentLines, lastLine, baseWith, base}
-use Rattle.signatures.specs.Fields.{inputValue, namesIn, timeIn, keyIdIn}
+use Rattle.signatures.specs.Fields.{inputValue, coveredIn, timeIn, keyIdIn}
 use Rattle.signatures.specs.Signable.{Signable}
-use Rattle.signatures.proofs.Names.{all-weaker, component-line, components-line}
-use Rattle.signatures.proofs.Readback.{passes-not, told-names, told-time, told-key-id}
+use Rattle.signatures.proofs.Names.{all-other, component-line, components-line}
+use Rattle.signatures.proofs.Readback.{told-names, told-time, told-key-id}
 
 -- a line that a line feed ends is cut off in one way, and is no last line
 module _ (a b r s : List ℕ) (whole : all (other LF) a ≡ true) (also : all (other LF) b ≡ true) (same : a ++ LF ∷ r ≡ b ++ LF ∷ s) where
@@ -54,7 +54,7 @@ unfolding componentLine codes
 line-body m n rest = simp append-assoc
 
 printable-line : (xs : List ℕ) → all printable xs ≡ true → all (other LF) xs ≡ true
-printable-line = all-weaker printable (other LF) (passes-not printable LF refl)
+printable-line = all-other printable LF refl
 
 body-line : (m : Message) (n : List ℕ) → isComponent n ≡ true → all printable (valueOf m n) ≡ true → all (other LF) (body m n) ≡ true
 unfolding codes all
@@ -103,7 +103,7 @@ params-line : (ns k : List ℕ) (t : ℕ) → allComponents (listed ns) ≡ true
 unfolding lastLine params innerList codes all string escaped
 params-line ns k t c h =
     all-append (other LF) (strings (listed ns) ++ (41 ∷ [])) _ (all-append (other LF) (strings (listed ns)) (41 ∷ []) (all-strings (other LF) refl refl refl (listed ns) (components-line (listed ns) c)) refl)
-    (all-append (other LF) (decimal t) _ (all-weaker digit (other LF) (passes-not digit LF refl) (decimal t) (decimal-all t)) (all-string (other LF) refl refl k (printable-line k h)))
+    (all-append (other LF) (decimal t) _ (all-other digit LF refl (decimal t) (decimal-all t)) (all-string (other LF) refl refl k (printable-line k h)))
 
 last-same : (ps qs : List ℕ) → lastLine ps ≡ lastLine qs → ps ≡ qs
 unfolding lastLine string escaped codes
@@ -128,7 +128,7 @@ module _ {m m' : Message} {ns ns' k k' : List ℕ} {t t' : ℕ} (s : Signable m 
 
   pub same-list : ns ≡ ns'
   same-list =
-      sym (told-names ns k t (s .components) (s .time) (codes "a") labelled) ∙ ap namesIn under
+      sym (told-names ns k t (s .components) (s .time) (codes "a") labelled) ∙ ap coveredIn under
       ∙ told-names ns' k' t' (s' .components) (s' .time) (codes "a") labelled
 
   pub same-time : t ≡ t'

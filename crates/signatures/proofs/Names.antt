@@ -13,7 +13,8 @@ use Rattle.cells.specs.Spans.{all}
 use Rattle.cells.proofs.Tests.{tested, both}
 use Rattle.cells.proofs.Equality.{same-equal}
 use Rattle.names.specs.Names.{hasByte, tokenByte, isToken}
-use Rattle.structured.specs.Texts.{quote, string}
+use Rattle.lines.specs.Lines.{LF}
+use Rattle.structured.specs.Texts.{SP, quote, backslash, closing, string}
 use Rattle.structured.specs.Reading.{other}
 use Rattle.structured.specs.Lists.{every}
 use Rattle.structured.proofs.Texts.{plainByte, plain, escaped-plain}
@@ -47,20 +48,25 @@ component-bytes name h =
     (λ m. tested (same (codes "@authority") name) (derived-bytes name (codes "@authority") refl)
     (λ a. tested (same (codes "@path") name) (derived-bytes name (codes "@path") refl) (λ p. field-bytes name (rw (m, a, p) at h))))
 
--- a byte that no name may hold is none of its bytes
-holds-not : (b c : ℕ) → componentByte c ≡ false → componentByte b ≡ true → eqb b c ≡ false
-holds-not b c never h = tested (eqb b c) (λ e. absurd (false≢true (sym never ∙ ap componentByte (sym (eqb-true b c e)) ∙ h))) (λ e. e)
+-- a byte that fails a test is none of those that pass it
+pub passes-not : (p : ℕ → Bool) (c : ℕ) → p c ≡ false → (b : ℕ) → p b ≡ true → eqb b c ≡ false
+passes-not p c never b h = tested (eqb b c) (λ e. absurd (false≢true (sym never ∙ ap p (sym (eqb-true b c e)) ∙ h))) (λ e. e)
+
+-- so runs whose bytes all pass a test have no such byte
+pub all-other : (p : ℕ → Bool) (c : ℕ) → p c ≡ false → (xs : List ℕ) → all p xs ≡ true → all (other c) xs ≡ true
+all-other p c never = all-weaker p (other c) (λ b h. rw (passes-not p c never b h) refl)
 
 module _ (name : List ℕ) (h : isComponent name ≡ true) where
   pub component-plain : plain name ≡ true
   unfolding tokenByte hasByte codes
   component-plain =
       all-weaker componentByte plainByte
-      (λ b e. simp (holds-not b 34 refl e, holds-not b 92 refl e, holds-not b 32 refl e, holds-not b 41 refl e)) name (component-bytes name h)
+      (λ b e. let not-at : (c : ℕ) → componentByte c ≡ false → eqb b c ≡ false = λ c never. passes-not componentByte c never b e in
+      simp (not-at quote refl, not-at backslash refl, not-at SP refl, not-at closing refl)) name (component-bytes name h)
 
-  pub component-line : all (other 10) name ≡ true
+  pub component-line : all (other LF) name ≡ true
   unfolding tokenByte hasByte codes
-  component-line = all-weaker componentByte (other 10) (λ b e. simp (holds-not b 10 refl e)) name (component-bytes name h)
+  component-line = all-other componentByte LF refl name (component-bytes name h)
 
   pub component-quoted : Quoted name
   unfolding string
@@ -78,6 +84,6 @@ pub components-plain : (ns : List (List ℕ)) → allComponents ns ≡ true → 
 unfolding allComponents
 components-plain = every-weaker isComponent plain component-plain
 
-pub components-line : (ns : List (List ℕ)) → allComponents ns ≡ true → every (all (other 10)) ns ≡ true
+pub components-line : (ns : List (List ℕ)) → allComponents ns ≡ true → every (all (other LF)) ns ≡ true
 unfolding allComponents
-components-line = every-weaker isComponent (all (other 10)) component-line
+components-line = every-weaker isComponent (all (other LF)) component-line

@@ -2,43 +2,38 @@
 -- Assumes nothing.
 use mathlib.Core.Path.{_≡_, refl, sym, ap, _∙_}
 use mathlib.Core.List.{List, [], _∷_, _++_, append-assoc}
-use mathlib.Core.Bool.{Bool, true, false, false≢true}
+use mathlib.Core.Bool.{true}
 use Prim.Native.Nat.{ℕ, _+_, _-_, _≤_}
 use native.Mathlib.Omega.{arith}
-use borrow.Author.Tests.{eqb-true, eq-eqb}
-use lib.Dec.{eqb}
+use borrow.Author.Tests.{eq-eqb}
 use lib.ListN.{length, take, drop, length-append}
 use lib.Seq.{take-at, drop-at, drop-drop}
 use Rattle.cells.specs.Text.{codes}
 use Rattle.cells.specs.Runs.{Bytes}
 use Rattle.cells.specs.Spans.{all, leading}
 use Rattle.cells.specs.Decimal.{decimal, valueAfter}
-use Rattle.cells.proofs.Tests.{tested, both}
+use Rattle.cells.proofs.Tests.{both}
 use Rattle.cells.proofs.Spans.{leading-append}
 use Rattle.cells.proofs.Equality.{same-self, same-equal}
 use Rattle.names.specs.Names.{hasByte}
 use Rattle.names.specs.Extra.{extraNames as listed}
+use Rattle.lines.specs.Lines.{colon}
 use Rattle.base64.specs.Encoding.{encoded}
 use Rattle.base64.specs.Decoding.{decoded}
 use Rattle.base64.proofs.Exactly.{decoded-exactly}
 use Rattle.base64.proofs.Encoded.{length-encoded}
-use Rattle.structured.specs.Texts.{quote, keyStart, keyByte, isKey, printable, escaped, string, strings, innerList}
+use Rattle.structured.specs.Texts.{opening, closing, quote, keyStart, keyByte, isKey, printable, escaped, string, strings, innerList}
 use Rattle.structured.specs.Reading.{unescaped, unlisted, lastInteger, digitsIn, other, butLast}
 use Rattle.structured.proofs.Texts.{plainByte, plain, all-strings}
 use Rattle.structured.proofs.Readback.{unescaped-escaped, unlisted-strings, decimal-read}
 use Rattle.signatures.specs.Components.{allComponents}
 use Rattle.signatures.specs.Base.{params}
-use Rattle.signatures.specs.Fields.{inputValue, signatureText, signatureValue, labelIn, listIn, namesIn, createdIn, timeIn, keyIn, keyIdIn, goodInput, codeIn, ofDigest, goodSignature}
-use Rattle.signatures.proofs.Names.{all-weaker, every-weaker, components-plain}
+use Rattle.signatures.specs.Fields.{equals, inputValue, signatureText, signatureValue, labelIn, listIn, coveredIn, createdIn, timeIn, keyIn, keyIdIn, goodInput, codeIn, ofDigest, goodSignature}
+use Rattle.signatures.proofs.Names.{all-other, every-weaker, components-plain}
 
 -- what stands after a part and k bytes more
 past : (xs rest : List ℕ) (n k : ℕ) → n ≡ length xs → drop (n + k) (xs ++ rest) ≡ drop k rest
 past xs rest n k e = sym (drop-drop k n (xs ++ rest)) ∙ ap (drop k) (drop-at xs rest n (sym e))
-
--- a byte that fails a test is none of those that pass it
-pub passes-not : (p : ℕ → Bool) (c : ℕ) → p c ≡ false → (b : ℕ) → p b ≡ true → other c b ≡ true
-passes-not p c never b h =
-    tested (eqb b c) (λ e. absurd (false≢true (sym never ∙ ap p (sym (eqb-true b c e)) ∙ h))) (λ e. rw e refl)
 
 key-bytes : (l : List ℕ) → isKey l ≡ true → all keyByte l ≡ true
 unfolding isKey all
@@ -47,13 +42,13 @@ key-bytes (b ∷ bs) h = let parts = both (keyStart b) (all keyByte bs) h in sim
 
 -- a label ends before =
 module _ (l rest : List ℕ) (key : isKey l ≡ true) where
-  pub label-size : leading (other 61) (l ++ 61 ∷ rest) ≡ length l
+  pub label-size : leading (other equals) (l ++ equals ∷ rest) ≡ length l
   unfolding hasByte codes
-  label-size = leading-append (other 61) l 61 rest (all-weaker keyByte (other 61) (passes-not keyByte 61 refl) l (key-bytes l key)) refl
+  label-size = leading-append (other equals) l equals rest (all-other keyByte equals refl l (key-bytes l key)) refl
 
-  pub label-read : labelIn (l ++ 61 ∷ rest) ≡ l
+  pub label-read : labelIn (l ++ equals ∷ rest) ≡ l
   unfolding labelIn
-  label-read = take-at l (61 ∷ rest) (leading (other 61) (l ++ 61 ∷ rest)) (sym label-size)
+  label-read = take-at l (equals ∷ rest) (leading (other equals) (l ++ equals ∷ rest)) (sym label-size)
 
 -- the parameters, read from the list's first name on
 module _ (ns k : List ℕ) (t : ℕ) (good : allComponents (listed ns) ≡ true) (time : t ≤ lastInteger) where
@@ -66,23 +61,23 @@ module _ (ns k : List ℕ) (t : ℕ) (good : allComponents (listed ns) ≡ true)
   abbrev names : List ℕ
   names = strings (listed ns)
 
-  list-text : params ns t k ≡ 40 ∷ (names ++ 41 ∷ dated)
+  list-text : params ns t k ≡ opening ∷ (names ++ closing ∷ dated)
   unfolding params innerList
-  list-text = ap (λ (r : List ℕ). 40 ∷ r) (append-assoc names (41 ∷ []) dated)
+  list-text = ap (λ (r : List ℕ). opening ∷ r) (append-assoc names (closing ∷ []) dated)
 
-  closed : leading (other 41) (names ++ 41 ∷ dated) ≡ length names
+  closed : leading (other closing) (names ++ closing ∷ dated) ≡ length names
   closed =
-      leading-append (other 41) names 41 dated
-      (all-strings (other 41) refl refl refl (listed ns)
-      (every-weaker plain (all (other 41)) (λ n. all-weaker plainByte (other 41) (passes-not plainByte 41 refl) n) (listed ns) (components-plain (listed ns) good)))
+      leading-append (other closing) names closing dated
+      (all-strings (other closing) refl refl refl (listed ns)
+      (every-weaker plain (all (other closing)) (all-other plainByte closing refl) (listed ns) (components-plain (listed ns) good)))
       refl
 
-  names-told : unlisted (take (leading (other 41) (names ++ 41 ∷ dated)) (names ++ 41 ∷ dated)) ≡ ns
-  names-told = ap unlisted (take-at names (41 ∷ dated) _ (sym closed)) ∙ unlisted-strings ns (components-plain (listed ns) good)
+  names-told : unlisted (take (leading (other closing) (names ++ closing ∷ dated)) (names ++ closing ∷ dated)) ≡ ns
+  names-told = ap unlisted (take-at names (closing ∷ dated) _ (sym closed)) ∙ unlisted-strings ns (components-plain (listed ns) good)
 
-  created-told : drop (leading (other 41) (names ++ 41 ∷ dated) + 10) (names ++ 41 ∷ dated) ≡ decimal t ++ identified
+  created-told : drop (leading (other closing) (names ++ closing ∷ dated) + 10) (names ++ closing ∷ dated) ≡ decimal t ++ identified
   unfolding codes
-  created-told = past names (41 ∷ dated) _ 10 closed
+  created-told = past names (closing ∷ dated) _ 10 closed
 
   digits-told : digitsIn (decimal t ++ identified) ≡ length (decimal t)
   unfolding codes
@@ -102,24 +97,24 @@ module _ (ns k : List ℕ) (t : ℕ) (good : allComponents (listed ns) ≡ true)
     abbrev input : List ℕ
     input = inputValue l ns t k
 
-    text : input ≡ l ++ 61 ∷ 40 ∷ (names ++ 41 ∷ dated)
+    text : input ≡ l ++ equals ∷ opening ∷ (names ++ closing ∷ dated)
     unfolding inputValue
-    text = ap (λ (r : List ℕ). l ++ 61 ∷ r) list-text
+    text = ap (λ (r : List ℕ). l ++ equals ∷ r) list-text
 
     pub told-label : labelIn input ≡ l
     told-label = ap labelIn text ∙ label-read l _ key
 
-    list-told : listIn input ≡ names ++ 41 ∷ dated
+    list-told : listIn input ≡ names ++ closing ∷ dated
     unfolding listIn
-    list-told = ap (λ (i : List ℕ). drop (leading (other 61) i + 2) i) text ∙ past l _ _ 2 (label-size l _ key)
+    list-told = ap (λ (i : List ℕ). drop (leading (other equals) i + 2) i) text ∙ past l _ _ 2 (label-size l _ key)
 
-    pub told-names : namesIn input ≡ ns
-    unfolding namesIn
-    told-names = ap (λ (r : List ℕ). unlisted (take (leading (other 41) r) r)) list-told ∙ names-told
+    pub told-names : coveredIn input ≡ ns
+    unfolding coveredIn
+    told-names = ap (λ (r : List ℕ). unlisted (take (leading (other closing) r) r)) list-told ∙ names-told
 
     from-told : createdIn input ≡ decimal t ++ identified
     unfolding createdIn
-    from-told = ap (λ (r : List ℕ). drop (leading (other 41) r + 10) r) list-told ∙ created-told
+    from-told = ap (λ (r : List ℕ). drop (leading (other closing) r + 10) r) list-told ∙ created-told
 
     pub told-time : timeIn input ≡ t
     unfolding timeIn
@@ -137,11 +132,11 @@ module _ (ns k : List ℕ) (t : ℕ) (good : allComponents (listed ns) ≡ true)
 
 -- a value in form is what is written of what it tells
 module _ (input : List ℕ) (h : goodInput input ≡ true) where
-  pub rewritten : input ≡ inputValue (labelIn input) (namesIn input) (timeIn input) (keyIdIn input)
+  pub rewritten : input ≡ inputValue (labelIn input) (coveredIn input) (timeIn input) (keyIdIn input)
   unfolding goodInput
   rewritten =
       let rest = both (isKey (labelIn input)) _ h .1 in
-      let last = both (allComponents (listed (namesIn input))) _ rest .1 in
+      let last = both (allComponents (listed (coveredIn input))) _ rest .1 in
       sym (same-equal _ input (both (all printable (keyIdIn input)) _ last .1))
 
 -- the value of Signature
@@ -155,7 +150,7 @@ module _ (l c : List ℕ) (key : isKey l ≡ true) (size : length c ≡ 44) wher
 
   pub signed-code : codeIn signature ≡ c
   unfolding codeIn signatureText codes
-  signed-code = ap (take 44) (past l _ _ 2 (label-size l _ key)) ∙ take-at c (58 ∷ []) 44 size
+  signed-code = ap (take 44) (past l _ _ 2 (label-size l _ key)) ∙ take-at c (colon ∷ []) 44 size
 
   pub signature-in-form : ofDigest (decoded c) ≡ true → goodSignature signature ≡ true
   unfolding goodSignature

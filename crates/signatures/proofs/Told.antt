@@ -29,7 +29,7 @@ use Rattle.structured.proofs.Steps.{unescaped-size, unlisted-size}
 use Rattle.structured.proofs.Readback.{read-size}
 use Rattle.signatures.specs.Components.{allComponents}
 use Rattle.signatures.specs.Base.{params}
-use Rattle.signatures.specs.Fields.{inputValue, signatureText, labelIn, listIn, namesIn, createdIn, timeIn, keyIn, keyIdIn, goodInput, codeIn, ofDigest, goodSignature}
+use Rattle.signatures.specs.Fields.{inputValue, signatureText, labelIn, listIn, coveredIn, createdIn, timeIn, keyIn, keyIdIn, goodInput, codeIn, ofDigest, goodSignature}
 use Rattle.signatures.specs.InnerAnswers.{Tells, ToldIs}
 use Rattle.signatures.proofs.Names.{components-plain}
 
@@ -94,8 +94,8 @@ module _ (input : List ℕ) where
   unfolding listIn
   list-short = omega (arith, taken close (listIn input), dropped (leading (other 61) input + 2) input)
 
-  names-short : length (namesIn input) ≤ length input
-  unfolding namesIn
+  names-short : length (coveredIn input) ≤ length input
+  unfolding coveredIn
   names-short = omega (arith, unlisted-size (take close (listIn input)), list-short)
 
   key-short : length (butLast (keyIn input)) ≤ length input
@@ -151,7 +151,7 @@ module _ {input list from last : List ℕ} {label close : ℕ} {time : Integer} 
   pub all-told : {names key-id quoted names-left key-left : List ℕ} {n k : ℕ} → (length input ≤ length names) × (length input ≤ length key-id)
       → Laid names names-left 0 n (unlisted (take close list)) → quoted ≡ butLast last → Laid key-id key-left 0 k (unescaped quoted)
       → ToldIs input names-left key-left (record { label = label; names = n; created = time .value; «key_id» = k })
-  unfolding namesIn timeIn keyIdIn
+  unfolding coveredIn timeIn keyIdIn
   all-told {names = names} {key-id = key-id} {quoted = quoted} rooms l e m =
       let names-fit : length (unlisted (take close list)) ≤ length names = omega (arith, unlisted-size (take close list), list-room, rooms .0) in
       let key-fits : length (unescaped quoted) ≤ length key-id = omega (arith, unescaped-size quoted, key-room e, rooms .1) in record {

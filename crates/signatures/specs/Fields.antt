@@ -10,40 +10,45 @@ use Rattle.cells.specs.Runs.{part, same}
 use Rattle.cells.specs.Spans.{all, leading}
 use Rattle.cells.specs.Decimal.{valueAfter}
 use Rattle.names.specs.Extra.{extraNames as listed}
+use Rattle.lines.specs.Lines.{colon, CR, LF}
 use Rattle.base64.specs.Encoding.{encoded}
 use Rattle.base64.specs.Decoding.{Decoding, nothing, bytes, decoded}
-use Rattle.structured.specs.Texts.{isKey, printable}
+use Rattle.structured.specs.Texts.{closing, isKey, printable}
 use Rattle.structured.specs.Reading.{unescaped, unlisted, digitsIn, other, butLast}
 use Rattle.signatures.specs.Components.{allComponents}
 use Rattle.signatures.specs.Base.{params}
 
+abbrev pub equals : ℕ
+equals = 61
+
 unfoldable pub inputValue : List ℕ → List ℕ → ℕ → List ℕ → List ℕ
-inputValue label names created key-id = label ++ (61 ∷ params names created key-id)
+inputValue label names created key-id = label ++ (equals ∷ params names created key-id)
 
 -- RFC 8941, 4.1.8: a byte sequence is its base64 between colons
 unfoldable pub signatureText : List ℕ → List ℕ → List ℕ
-signatureText label code = label ++ (codes "=:" ++ (code ++ (58 ∷ [])))
+signatureText label code = label ++ (equals ∷ colon ∷ (code ++ (colon ∷ [])))
 
 unfoldable pub signatureValue : List ℕ → List ℕ → List ℕ
 signatureValue label code = signatureText label (encoded code)
 
 unfoldable pub fieldLines : List ℕ → List ℕ → List ℕ
-fieldLines input signature = codes "Signature-Input: " ++ (input ++ (13 ∷ 10 ∷ (codes "Signature: " ++ (signature ++ (13 ∷ 10 ∷ [])))))
+fieldLines input signature = codes "Signature-Input: " ++ (input ++ (CR ∷ LF ∷ (codes "Signature: " ++ (signature ++ (CR ∷ LF ∷ [])))))
 
 -- what the values tell, whatever stands there: the label is what stands before the first =
 unfoldable pub labelIn : List ℕ → List ℕ
-labelIn value = take (leading (other 61) value) value
+labelIn value = take (leading (other equals) value) value
 
--- from the list's first name on, past =(
+-- what stands past =(
 unfoldable pub listIn : List ℕ → List ℕ
-listIn input = drop (leading (other 61) input + 2) input
+listIn input = drop (leading (other equals) input + 2) input
 
-unfoldable pub namesIn : List ℕ → List ℕ
-namesIn input = unlisted (take (leading (other 41) (listIn input)) (listIn input))
+-- the names of the list, joined by commas
+unfoldable pub coveredIn : List ℕ → List ℕ
+coveredIn input = unlisted (take (leading (other closing) (listIn input)) (listIn input))
 
 -- past );created=
 unfoldable pub createdIn : List ℕ → List ℕ
-createdIn input = drop (leading (other 41) (listIn input) + 10) (listIn input)
+createdIn input = drop (leading (other closing) (listIn input) + 10) (listIn input)
 
 unfoldable pub timeIn : List ℕ → ℕ
 timeIn input = valueAfter 0 (take (digitsIn (createdIn input)) (createdIn input))
@@ -59,12 +64,12 @@ keyIdIn input = unescaped (butLast (keyIn input))
 unfoldable pub goodInput : List ℕ → Bool
 goodInput input =
     isKey (labelIn input)
-    && (allComponents (listed (namesIn input))
+    && (allComponents (listed (coveredIn input))
     && (all printable (keyIdIn input)
-    && same (inputValue (labelIn input) (namesIn input) (timeIn input) (keyIdIn input)) input))
+    && same (inputValue (labelIn input) (coveredIn input) (timeIn input) (keyIdIn input)) input))
 
 unfoldable pub codeIn : List ℕ → List ℕ
-codeIn signature = part signature (leading (other 61) signature + 2) 44
+codeIn signature = part signature (leading (other equals) signature + 2) 44
 
 abbrev pub ofDigest : Decoding → Bool
 ofDigest nothing = false

@@ -10,7 +10,7 @@ use Rattle.lines.specs.Values.{joined}
 use Rattle.structured.specs.Texts.{quote, string}
 use Rattle.signatures.specs.Components as C
 use Rattle.signatures.specs.Components.{Message, noValue, allPrintable}
-use Rattle.signatures.specs.Fields.{labelIn, namesIn, timeIn, keyIdIn}
+use Rattle.signatures.specs.Fields.{labelIn, coveredIn, timeIn, keyIdIn}
 use Rattle.signatures.specs.declared.components.Value.{Value}
 use Rattle.signatures.specs.declared.components.Looked.{Looked}
 use Rattle.signatures.specs.declared.reading.Told.{Told}
@@ -41,7 +41,7 @@ pub record LookedAt (m : Message) (names : List ℕ) (r : Looked) : Type 0 where
 -- these label, names, time and key id are what a value of Signature-Input tells
 pub record Tells (input l ns : List ℕ) (t : ℕ) (k : List ℕ) : Type 0 where
   pub label : l ≡ labelIn input
-  pub names : ns ≡ namesIn input
+  pub names : ns ≡ coveredIn input
   pub created : t ≡ timeIn input
   pub key-id : k ≡ keyIdIn input
 

@@ -1,8 +1,8 @@
 -- What is written tells itself again.
 -- Assumes nothing.
-use mathlib.Core.Path.{_≡_, refl, sym, ap, _∙_}
+use mathlib.Core.Path.{_≡_, refl, ap, _∙_}
 use mathlib.Core.List.{List, [], _∷_, _++_, append-assoc, append-nil}
-use mathlib.Core.Bool.{Bool, true, false, false≢true, not, _&&_, _||_}
+use mathlib.Core.Bool.{Bool, true, false, not, _&&_, _||_}
 use Prim.Native.Nat.{ℕ, zero, suc, _+_, _-_, _*_, _^_, _≤_}
 use native.Mathlib.Nat.{pow-le-pow-right, zero-add, add-zero}
 use native.Mathlib.Omega.{arith}
@@ -12,19 +12,16 @@ use lib.ListN.{length, take}
 use Rattle.cells.specs.Spans.{all, leading}
 use Rattle.cells.specs.Decimal.{decimal, valueAfter}
 use Rattle.names.specs.Extra.{comma, extraNames}
-use Rattle.structured.specs.Texts.{SP, quote, backslash, escaped, string, further, strings}
+use Rattle.structured.specs.Texts.{SP, quote, backslash, closing, escaped, string, further, strings}
 use Rattle.structured.specs.Lists.{every}
 use Rattle.structured.specs.Reading.{unescapedAfter, unescaped, unlisted, digit, lastInteger, digitsIn}
 use Rattle.cells.proofs.Tests.{tested, both}
 use Rattle.cells.proofs.Spans.{leading-append}
 use Rattle.cells.proofs.Digits.{Digits, one, _then_, decimal-digits, decimal-length, value-decimal}
+use Rattle.names.proofs.Has.{neither}
 use Rattle.names.proofs.Joined.{rejoined, names-in-joined}
 use Rattle.structured.proofs.Texts.{plainByte, plain, plain-kept, escaped-plain}
 use Rattle.structured.proofs.Steps.{digit-range}
-
-neither : (a b : Bool) → (a || b) ≡ false → (a ≡ false) × (b ≡ false)
-neither true b h = absurd (false≢true (sym h))
-neither false b h = (refl, h)
 
 pub unescaped-escaped : (t : List ℕ) → unescaped (escaped t) ≡ t
 unfolding unescaped unescapedAfter escaped
@@ -40,9 +37,9 @@ unfolding unlisted all
 unlisted-plain [] rest h = refl
 unlisted-plain (b ∷ bs) rest h =
     let parts = both (plainByte b) (plain bs) h in
-    let here = both (not (eqb b quote || eqb b backslash)) (not (eqb b SP) && not (eqb b 41)) (parts .0) in
+    let here = both (not (eqb b quote || eqb b backslash)) (not (eqb b SP) && not (eqb b closing)) (parts .0) in
     let kept = neither (eqb b quote) (eqb b backslash) (plain-kept b (parts .0)) in
-    let other = both (not (eqb b SP)) (not (eqb b 41)) (here .1) in
+    let other = both (not (eqb b SP)) (not (eqb b closing)) (here .1) in
     rw (kept .0, not-true (eqb b SP) (other .0), unlisted-plain bs rest (parts .1))
 
 unlisted-string : (t rest : List ℕ) → plain t ≡ true → unlisted (string t ++ rest) ≡ t ++ unlisted rest

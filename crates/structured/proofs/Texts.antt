@@ -12,14 +12,14 @@ use lib.ListN.{length, getD, drop, length-append, drop-of-length-le}
 use lib.Seq.{drop-cons}
 use Rattle.cells.specs.Spans.{all}
 use Rattle.names.specs.Extra.{extraNames}
-use Rattle.structured.specs.Texts.{SP, quote, backslash, escaped, string, further, strings, innerList}
+use Rattle.structured.specs.Texts.{SP, quote, backslash, closing, escaped, string, further, strings, innerList}
 use Rattle.structured.specs.Lists.{every}
 use Rattle.cells.proofs.Tests.{tested, both}
 use Rattle.names.proofs.Joined.{rejoined, names-in-joined}
 
 -- neither quote, backslash, blank nor closing parenthesis
 abbrev pub plainByte : ℕ → Bool
-plainByte b = not (eqb b quote || eqb b backslash) && (not (eqb b SP) && not (eqb b 41))
+plainByte b = not (eqb b quote || eqb b backslash) && (not (eqb b SP) && not (eqb b closing))
 
 abbrev pub plain : List ℕ → Bool
 plain t = all plainByte t
@@ -49,7 +49,7 @@ escaped-past text i h = rw (drop-of-length-le text {i = i} h)
 
 -- a plain byte has no \ before it
 pub plain-kept : (b : ℕ) → plainByte b ≡ true → (eqb b quote || eqb b backslash) ≡ false
-plain-kept b h = not-true (eqb b quote || eqb b backslash) (both (not (eqb b quote || eqb b backslash)) (not (eqb b SP) && not (eqb b 41)) h .0)
+plain-kept b h = not-true (eqb b quote || eqb b backslash) (both (not (eqb b quote || eqb b backslash)) (not (eqb b SP) && not (eqb b closing)) h .0)
 
 pub escaped-plain : (t : List ℕ) → plain t ≡ true → escaped t ≡ t
 unfolding escaped all

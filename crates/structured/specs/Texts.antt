@@ -17,6 +17,13 @@ quote = 34
 abbrev pub backslash : ℕ
 backslash = 92
 
+-- the parentheses of an inner list
+abbrev pub opening : ℕ
+opening = 40
+
+abbrev pub closing : ℕ
+closing = 41
+
 -- 3.1.2: a key begins with lcalpha or *, and then may have digits, _, - and . too
 abbrev pub keyStart : ℕ → Bool
 keyStart b = between 97 122 b || eqb b 42
@@ -52,4 +59,4 @@ strings (t ∷ ts) = string t ++ further ts
 
 -- 4.1.1.1: an inner list, whose items are strings without parameters
 unfoldable pub innerList : List (List ℕ) → List ℕ
-innerList ts = 40 ∷ (strings ts ++ (41 ∷ []))
+innerList ts = opening ∷ (strings ts ++ (closing ∷ []))
