@@ -1,4 +1,6 @@
 // AES-256 (FIPS 197): the key schedule and the cipher of one block.
+#![tactic(auto)]
+
 ghost use Rattle.std.specs.Prelude.{◌≡◌, [], ◌∷◌, ◌-◌, ◌*◌, ◌≤◌, ◌<◌, length};
 ghost use Rattle.cells.specs.Runs.{spliced};
 ghost use Rattle.aes.specs.Field.{xtimes, power_of_x};
@@ -7,7 +9,7 @@ ghost use Rattle.aes.specs.Cipher as C;
 ghost use Rattle.aes.specs.InnerCode.{Substitutes, bytes, listed, mix_word};
 
 // Four bytes: a column of a state, or a word of a schedule.
-#[derive(Drop)]
+#[derive(Clone, Copy)]
 struct Column {
     a: u8,
     b: u8,
@@ -15,7 +17,7 @@ struct Column {
     d: u8,
 }
 
-#[derive(Drop)]
+#[derive(Clone, Copy)]
 struct State {
     c0: Column,
     c1: Column,

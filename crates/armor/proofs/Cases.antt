@@ -3,8 +3,8 @@
 use mathlib.Core.Path.{◌≡◌, refl}
 use mathlib.Core.List.{[], ◌∷◌}
 use Rattle.cells.specs.Numbers.{bytes_of, number}
-use Rattle.base64.specs.Alphabet.{counted, alphabet, place_in, six_bits}
-use Rattle.base64.specs.Decoding.{bytes, coded, full, one, two, ending, decoded}
+use Rattle.base_64.specs.Alphabet.{counted, alphabet, place_in, six_bits}
+use Rattle.base_64.specs.Decoding.{bytes, coded, full, one, two, ending, decoded}
 use Rattle.armor.specs.Numerals.{shortest, number_bytes, mask_bytes, mask_of}
 
 -- Kb+4 is 2736056

@@ -8,7 +8,7 @@ use lib.ListN.{length}
 use Rattle.cells.specs.Runs.{spliced}
 use Rattle.cells.specs.InnerLaid.{Laid}
 use Rattle.cells.proofs.Laid.{laid_more}
-use Rattle.base64.specs.Encoding.{encoded}
+use Rattle.base_64.specs.Encoding.{encoded}
 use Rattle.armor.specs.Pieces.{colon, semicolon}
 use Rattle.armor.specs.Value.{Field, field, field_text, joined, texts_of, following}
 

@@ -16,7 +16,7 @@ use lib.Seq.{get_or-set_same, get_or-set_other, drop-drop, take_all}
 use borrow.Author.Tests.{eqb-true, eqb-false}
 use Rattle.cells.specs.Runs.{cut}
 use Rattle.cells.proofs.Cuts.{drop_take}
-use Rattle.base64.specs.Decoding.{bytes, decoded}
+use Rattle.base_64.specs.Decoding.{bytes, decoded}
 use Rattle.armor.specs.declared.scanning.Seen.{Seen}
 use Rattle.armor.specs.declared.scanning.Piece.{Piece}
 use Rattle.armor.specs.Pieces.{colon, semicolon, up_to, after, pieces}

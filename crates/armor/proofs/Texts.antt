@@ -15,10 +15,10 @@ use Rattle.cells.specs.Runs.{fronted, part}
 use Rattle.cells.specs.Numbers
 use Rattle.cells.proofs.Cuts.{part_part}
 use Rattle.cells.proofs.Runs.{length_fronted, length_part}
-use Rattle.base64.specs.declared.Measured.{Measured}
-use Rattle.base64.specs.declared.Decoded.{Decoded}
-use Rattle.base64.specs.Decoding.{Decoding, nothing, bytes, decoded}
-use Rattle.base64.specs.InnerAnswers.{size_of, measured, Outcome, outcome, pick_outcome, into, decoded_into}
+use Rattle.base_64.specs.declared.Measured.{Measured}
+use Rattle.base_64.specs.declared.Decoded.{Decoded}
+use Rattle.base_64.specs.Decoding.{Decoding, nothing, bytes, decoded}
+use Rattle.base_64.specs.InnerAnswers.{size_of, measured, Outcome, outcome, pick_outcome, into, decoded_into}
 use Rattle.armor.specs.Numerals.{is_numeral, is_number, is_mask, mask_of}
 use Rattle.armor.specs.Keys.{Rule, number, mask, sized, either, obeys}
 use Rattle.armor.specs.Value.{decoded_obeys, text_obeys, held}

@@ -11,10 +11,10 @@ use native.Mathlib.Omega.{arith}
 use lib.Dec.{eqb, leb}
 use lib.ListN.{length, length-append, get_or-append}
 use borrow.Author.Tests.{eqb-true, eqb-false, leb-true, le-leb}
-use Rattle.base64.specs.Encoding.{encoded}
-use Rattle.base64.specs.Decoding.{Decoding, nothing, bytes, decoded}
-use Rattle.base64.proofs.Exactly.{decoded_exactly, decoded_bytes}
-use Rattle.base64.proofs.Encoded.{length_encoded, encoded_no_semicolon}
+use Rattle.base_64.specs.Encoding.{encoded}
+use Rattle.base_64.specs.Decoding.{Decoding, nothing, bytes, decoded}
+use Rattle.base_64.proofs.Exactly.{decoded_exactly, decoded_bytes}
+use Rattle.base_64.proofs.Encoded.{length_encoded, encoded_no_semicolon}
 use Rattle.armor.specs.Pieces.{colon, semicolon, up_to, after, onto, pieces, Without}
 use Rattle.armor.specs.Keys.{Rule, obeys, rule_of}
 use Rattle.armor.specs.Value.{Field, field, Formed, AllFormed, field_text, joined, texts_of, all_good, ValueOf, decoded_obeys, text_obeys, piece_good, piece_field, field_of, with_field, fields_in, grammar}

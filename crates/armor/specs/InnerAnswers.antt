@@ -4,7 +4,7 @@ use Rattle.std.specs.Prelude.{◌≡◌, true, cond, List, ℕ, ◌≤◌, eqb, 
 use Rattle.std.proofs.Math.Option.{Option, none, some}
 use Rattle.cells.specs.Runs.{cut, part}
 use Rattle.cells.specs.Numbers.{number}
-use Rattle.base64.specs.Encoding.{encoded}
+use Rattle.base_64.specs.Encoding.{encoded}
 use Rattle.armor.specs.declared.Answer.{Answer}
 use Rattle.armor.specs.declared.Request.{Request}
 use Rattle.armor.specs.declared.RequestRead.{RequestRead}

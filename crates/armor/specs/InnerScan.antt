@@ -4,7 +4,7 @@ use Rattle.std.specs.Prelude.{◌≡◌, ◌⊎◌, Bool, true, false, cond, Lis
 use Rattle.std.proofs.Math.Option.{Option, none, some}
 use Rattle.cells.specs.Runs.{cut}
 use Rattle.cells.specs.Numbers.{number}
-use Rattle.base64.specs.Decoding.{bytes, decoded}
+use Rattle.base_64.specs.Decoding.{bytes, decoded}
 use Rattle.armor.specs.declared.scanning.Seen.{Seen}
 use Rattle.armor.specs.declared.scanning.ScanRead.{ScanRead}
 use Rattle.armor.specs.declared.scanning.Piece.{Piece}

@@ -4,8 +4,8 @@
 use Rattle.std.specs.Prelude.{◌≡◌, ◌⊎◌, Bool, true, false, cond, ◌&&◌, List, [], ◌∷◌, ◌++◌, ℕ, ◌<◌, leb, length}
 use Rattle.std.proofs.Math.Option.{Option, none, some, get_or}
 use Rattle.cells.specs.Runs.{Bytes}
-use Rattle.base64.specs.Encoding.{encoded}
-use Rattle.base64.specs.Decoding.{Decoding, nothing, bytes, decoded}
+use Rattle.base_64.specs.Encoding.{encoded}
+use Rattle.base_64.specs.Decoding.{Decoding, nothing, bytes, decoded}
 use Rattle.armor.specs.Pieces.{colon, semicolon, up_to, after, pieces, Without}
 use Rattle.armor.specs.Keys.{Rule, obeys, rule_of}
 

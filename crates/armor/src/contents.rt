@@ -10,7 +10,7 @@ ghost use Rattle.armor.specs.InnerScan.{count_in, Sound, Noted, Ready, HoldsNumb
 
 use super::scanning::Seen;
 use super::{Reply, Request, key, numeral};
-use base64::{Decoded, Measured};
+use base_64::{Decoded, Measured};
 use window::Nonce;
 use window::time::Time;
 
@@ -46,7 +46,7 @@ fn content(value: &[u8], seen: Seen, key: usize, out: &mut [u8]) -> usize
 {
     let start = seen.start[key];
     let end = seen.end[key];
-    let Decoded::Bytes(n) = base64::decode(&value[start..end], out) else {
+    let Decoded::Bytes(n) = base_64::decode(&value[start..end], out) else {
         return 0;
     };
     n
@@ -72,7 +72,7 @@ pub fn mask_in(value: &[u8], seen: Seen, key: usize) -> u64
     numeral::number_of(&out[1..n])
 }
 
-#[derive(Drop)]
+#[derive(Clone, Copy)]
 struct Numbers {
     t: Time,
     lt: Time,
@@ -145,7 +145,7 @@ fn size(value: &[u8], seen: Seen, key: usize) -> usize
 {
     let start = seen.start[key];
     let end = seen.end[key];
-    let Measured::Bytes(n) = base64::measure(&value[start..end]) else {
+    let Measured::Bytes(n) = base_64::measure(&value[start..end]) else {
         return 0;
     };
     n

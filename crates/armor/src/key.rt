@@ -4,7 +4,7 @@ ghost use Rattle.armor.specs.Keys.{keys, rank_of, key_number, number, mask, size
 ghost use Rattle.armor.specs.Value.{text_obeys};
 
 use super::numeral;
-use base64::{Decoded, Measured};
+use base_64::{Decoded, Measured};
 
 // The keys by their place, and the place of every other key.
 pub const T: usize = 0;
@@ -83,7 +83,7 @@ fn is_sized(text: &[u8], low: usize, high: usize) -> bool
     requires { 1 ≤ low }
     ensures { result ≡ text_obeys (sized low high) text.now }
 {
-    let Measured::Bytes(n) = base64::measure(text) else {
+    let Measured::Bytes(n) = base_64::measure(text) else {
         return false;
     };
     (low <= n) & (n <= high)
@@ -94,7 +94,7 @@ fn is_either(text: &[u8], short: usize, long: usize) -> bool
     requires { (1 ≤ short) × (1 ≤ long) }
     ensures { result ≡ text_obeys (either short long) text.now }
 {
-    let Measured::Bytes(n) = base64::measure(text) else {
+    let Measured::Bytes(n) = base_64::measure(text) else {
         return false;
     };
     (n == short) | (n == long)
@@ -104,7 +104,7 @@ fn is_either(text: &[u8], short: usize, long: usize) -> bool
 fn is_some(text: &[u8]) -> bool
     ensures { result ≡ text_obeys free text.now }
 {
-    let Measured::Bytes(n) = base64::measure(text) else {
+    let Measured::Bytes(n) = base_64::measure(text) else {
         return false;
     };
     1 <= n
@@ -115,7 +115,7 @@ fn is_number(text: &[u8]) -> bool
     ensures { result ≡ text_obeys number text.now }
 {
     let mut out = [0u8; 4];
-    let Decoded::Bytes(n) = base64::decode(text, &mut out) else {
+    let Decoded::Bytes(n) = base_64::decode(text, &mut out) else {
         return false;
     };
     numeral::is_numeral(&out[..n], 4)
@@ -126,7 +126,7 @@ fn is_mask(text: &[u8]) -> bool
     ensures { result ≡ text_obeys mask text.now }
 {
     let mut out = [0u8; 9];
-    let Decoded::Bytes(n) = base64::decode(text, &mut out) else {
+    let Decoded::Bytes(n) = base_64::decode(text, &mut out) else {
         return false;
     };
     if n == 0 {

@@ -1,4 +1,6 @@
 // The X-S-Armor value of a setup, of a request and of a reply.
+#![tactic(auto)]
+
 ghost use Rattle.std.specs.Prelude.{◌≡◌, ◌≤◌, length};
 ghost use Rattle.armor.specs.InnerAnswers.{setup_answer, ReadsRequest, ReadsReply};
 
@@ -14,7 +16,7 @@ mod writing;
 pub use numeral::{mask_bytes, number_bytes};
 pub use writing::{put_field, put_mask, put_next, put_number};
 
-#[derive(Drop)]
+#[derive(Clone, Copy)]
 pub enum Answer {
     Good,
     Grammar,
@@ -23,7 +25,7 @@ pub enum Answer {
 
 // What a good request carries. The text of eah stands in the value from eah_start to eah_end. The bytes of s, c, iv and tag lie once, in a
 // run of 210 bytes that the caller lends: s from byte 0 on, c from 118, iv from 182 and tag from 194.
-#[derive(Drop)]
+#[derive(Clone, Copy)]
 pub struct Request {
     pub s_len: usize,
     pub c_len: usize,
@@ -37,13 +39,13 @@ pub struct Request {
     pub eah_end: usize,
 }
 
-#[derive(Drop)]
+#[derive(Clone, Copy)]
 pub struct RequestRead {
     pub answer: Answer,
     pub request: Request,
 }
 
-#[derive(Drop)]
+#[derive(Clone, Copy)]
 pub enum SetupRead {
     Mask(u64),
     Grammar,
@@ -51,7 +53,7 @@ pub enum SetupRead {
 }
 
 // What a setup's reply carries: of s and eah the bytes up to their lengths.
-#[derive(Drop)]
+#[derive(Clone, Copy)]
 pub struct Reply {
     pub s: [u8; 118],
     pub s_len: usize,
@@ -64,7 +66,7 @@ pub struct Reply {
     pub eah_len: usize,
 }
 
-#[derive(Drop)]
+#[derive(Clone, Copy)]
 pub struct ReplyRead {
     pub good: bool,
     pub reply: Reply,

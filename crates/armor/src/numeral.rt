@@ -4,13 +4,13 @@ ghost use Rattle.cells.specs.Runs.{spliced};
 ghost use Rattle.cells.specs.Numbers.{number};
 ghost use Rattle.armor.specs.Numerals.{plain, number_bytes, is_numeral, mask_bytes};
 
-#[derive(Drop)]
+#[derive(Clone, Copy)]
 pub struct NumberBytes {
     pub bytes: [u8; 4],
     pub len: usize,
 }
 
-#[derive(Drop)]
+#[derive(Clone, Copy)]
 pub struct MaskBytes {
     pub bytes: [u8; 9],
     pub len: usize,

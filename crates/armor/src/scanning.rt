@@ -20,7 +20,7 @@ fn find(text: &[u8], b: u8) -> usize
 }
 
 // What a scan of a value has seen of each key: how often, up to two, and where the text of its last field starts and ends.
-#[derive(Drop)]
+#[derive(Clone, Copy)]
 pub struct Seen {
     pub count: [u8; 12],
     pub start: [usize; 12],
@@ -61,13 +61,13 @@ fn none_seen() -> Seen
     }
 }
 
-#[derive(Drop)]
+#[derive(Clone, Copy)]
 pub struct ScanRead {
     pub good: bool,
     pub seen: Seen,
 }
 
-#[derive(Drop)]
+#[derive(Clone, Copy)]
 enum Piece {
     Field { key: usize, start: usize },
     Bad,

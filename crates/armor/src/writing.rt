@@ -13,7 +13,7 @@ pub fn put_field(out: &mut [u8], at: usize, name: &[u8], content: &[u8]) -> usiz
 {
     let colon = cells::put_at(out, at, name);
     let text = cells::put_at(out, colon, b":");
-    let len = base64::encode(content, &mut out[text..]);
+    let len = base_64::encode(content, &mut out[text..]);
     text + len
 }
 

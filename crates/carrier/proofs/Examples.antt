@@ -12,13 +12,13 @@ use Rattle.names.specs.Names.{has_byte, token_byte, is_token, lower, same_name, 
 use Rattle.names.specs.Extra.{names_in, extra_names}
 use Rattle.lines.specs.Lines.{value_byte, good_line, line_text, text_of, front_line, starts_line, lines_up_to, lines_in, good_block}
 use Rattle.lines.specs.Values.{trim_front, trim_end, trimmed, values_in, following, joined}
-use Rattle.sha2.specs.Word.{Ch, Maj, Σ0, Σ1, σ0, σ1}
-use Rattle.sha2.specs.Constants.{K, initial}
-use Rattle.sha2.specs.Block.{mix, schedule, T1, T2, round_of, rounds, sum_of, after_block}
-use Rattle.sha2.specs.Hash.{padding, after_blocks, digest, sha2}
+use Rattle.sha_2.specs.Word.{Ch, Maj, Σ0, Σ1, σ0, σ1}
+use Rattle.sha_2.specs.Constants.{K, initial}
+use Rattle.sha_2.specs.Block.{mix, schedule, T1, T2, round_of, rounds, sum_of, after_block}
+use Rattle.sha_2.specs.Hash.{padding, after_blocks, digest, sha2}
 use Rattle.hmac.specs.Hmac.{key_block, xored, hmac}
-use Rattle.base64.specs.Alphabet.{counted, alphabet, character}
-use Rattle.base64.specs.Encoding.{encoded}
+use Rattle.base_64.specs.Alphabet.{counted, alphabet, character}
+use Rattle.base_64.specs.Encoding.{encoded}
 use Rattle.structured.specs.Texts.{is_key, escaped, string, further, strings, inner_list}
 use Rattle.structured.specs.Lists.{every}
 use Rattle.signatures.specs.Components.{good_message, is_derived, is_field, is_component, values_of, value_of, missing, twice, all_components, all_printable}

@@ -17,8 +17,8 @@ use Rattle.cells.proofs.Equality.{same_self, same_equal}
 use Rattle.names.specs.Extra.{extra_names as listed}
 use Rattle.hashes.specs.declared.Hash.TheVariants.{Sha256}
 use Rattle.hmac.proofs.Output.{length_hmac, bytes_hmac}
-use Rattle.base64.specs.Encoding.{encoded}
-use Rattle.base64.proofs.Encoded.{length_encoded}
+use Rattle.base_64.specs.Encoding.{encoded}
+use Rattle.base_64.proofs.Encoded.{length_encoded}
 use Rattle.structured.specs.Reading.{last_integer}
 use Rattle.structured.proofs.Readback.{read_size}
 use Rattle.signatures.specs.Components.{value_of}

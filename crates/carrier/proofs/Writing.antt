@@ -14,8 +14,8 @@ use Rattle.cells.proofs.Digits.{decimal_length}
 use Rattle.names.specs.Extra.{extra_names as listed}
 use Rattle.hashes.specs.declared.Hash.TheVariants.{Sha256}
 use Rattle.hmac.proofs.Output.{length_hmac}
-use Rattle.base64.specs.Encoding.{encoded}
-use Rattle.base64.proofs.Encoded.{length_encoded}
+use Rattle.base_64.specs.Encoding.{encoded}
+use Rattle.base_64.proofs.Encoded.{length_encoded}
 use Rattle.structured.proofs.Texts.{list_size, escaped_size, string_length}
 use Rattle.signatures.specs.Base.{params, base, code_of}
 use Rattle.signatures.specs.Fields.{input_value, signature_text, signature_value, field_lines}

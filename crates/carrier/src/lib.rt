@@ -1,5 +1,7 @@
 // Signing calls to a carrier, and verifying what comes back in the same form: document 02, K13, by RFC 9421 under hmac-sha256.
 // Each call takes any numbers and bytes.
+#![tactic(auto)]
+
 ghost use Rattle.std.specs.Prelude.{◌≡◌};
 ghost use Rattle.carrier.specs.Asked.{asked_of, answer};
 ghost use Rattle.carrier.specs.Sign.{signed};

@@ -45,6 +45,6 @@ pub fn put_code(out: &mut [u8], at: usize, label: &[u8], code: [u8; 64]) -> usiz
     ensures { Laid out.old out.new at result (signature_value label.now (take 32 code)) }
 {
     let mut text = [0u8; 44];
-    base64::encode(&code[..32], &mut text);
+    base_64::encode(&code[..32], &mut text);
     signatures::put_signature(out, at, label, &text)
 }

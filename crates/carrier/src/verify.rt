@@ -11,7 +11,7 @@ use super::{asked, sign};
 use signatures::reading;
 
 // What is refused, or 0, and when the signature is said to have been created.
-#[derive(Drop)]
+#[derive(Clone, Copy)]
 pub struct Verdict {
     pub number: u32,
     pub created: u64,

@@ -2,7 +2,7 @@
 ghost use Rattle.cells.specs.Decimal.{Shown};
 
 // The decimal digits of a number, at the end of an array: they start at byte start.
-#[derive(Drop)]
+#[derive(Clone, Copy)]
 pub struct Decimal {
     pub all: [u8; 20],
     pub start: usize,

@@ -1,4 +1,6 @@
 // Byte runs: numbers in them, parts of them written over, and whether two are the same.
+#![tactic(auto)]
+
 ghost use Rattle.std.specs.Prelude.{◌≡◌, [], ◌∷◌, ◌+◌, ◌≤◌, length};
 ghost use Rattle.cells.specs.Runs as R;
 ghost use Rattle.cells.specs.Runs.{spliced, fronted, part};

@@ -11,8 +11,8 @@ use lib.ListN.{length}
 use borrow.Author.Tests.{eqb-true, eqb-false, eq-eqb, ne_eqb}
 use Rattle.cells.specs.Runs.{Bytes, cut, same}
 use Rattle.cells.proofs.Equality.{same_self, same_not, same_equal}
-use Rattle.base64.specs.Encoding.{encoded}
-use Rattle.base64.proofs.Exactly.{encoded_injective}
+use Rattle.base_64.specs.Encoding.{encoded}
+use Rattle.base_64.proofs.Exactly.{encoded_injective}
 use Rattle.armor.specs.declared.Answer.{Answer}
 use Rattle.armor.specs.declared.Request.{Request}
 use Rattle.hashes.specs.Hashes.{digest_size, named, allowed_one}

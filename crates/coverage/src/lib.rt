@@ -1,7 +1,9 @@
 // Whether a request covers what the orders say.
+#![tactic(auto)]
+
 ghost use Rattle.std.specs.Prelude.{◌≡◌, true, ◌≤◌, length};
 ghost use Rattle.cells.specs.Runs.{same};
-ghost use Rattle.base64.specs.Encoding.{encoded};
+ghost use Rattle.base_64.specs.Encoding.{encoded};
 ghost use Rattle.armor.specs.Value.{carried};
 ghost use Rattle.armor.specs.Fields.{request_fields};
 ghost use Rattle.armor.specs.InnerAnswers.{Holds};
@@ -32,6 +34,6 @@ fn is_text_of(text: &[u8], bytes: &[u8]) -> bool
     ensures { result ≡ same text.now (encoded bytes.now) }
 {
     let mut out = [0u8; 172];
-    let len = base64::encode(bytes, &mut out);
+    let len = base_64::encode(bytes, &mut out);
     cells::same(text, &out[..len])
 }

@@ -7,7 +7,7 @@ use Prim.Native.Nat.{ℕ}
 use lib.Dec.{lit≤}
 use Rattle.hashes.specs.declared.Hash.TheVariants.{Sha512}
 use Rattle.cells.specs.Numbers.{number}
-use Rattle.base64.specs.Decoding.{bytes, decoded}
+use Rattle.base_64.specs.Decoding.{bytes, decoded}
 use Rattle.netstring.specs.Netstring.{netstring}
 use Rattle.netstring.proofs.Examples.{nothing}
 use Rattle.armor.specs.Numerals.{number_bytes, mask_bytes, mask_of}

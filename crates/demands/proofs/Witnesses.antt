@@ -16,8 +16,8 @@ use Rattle.cells.specs.Runs.{same}
 use Rattle.cells.specs.Numbers.{bytes_of, number}
 use Rattle.gcm.specs.Gcm.{tag_of, crypted, given, opened}
 use Rattle.gcm.proofs.Opening.{length_crypted}
-use Rattle.base64.specs.Alphabet.{counted, alphabet, place_in, six_bits}
-use Rattle.base64.specs.Decoding.{coded, full, two, one, ending, decoded}
+use Rattle.base_64.specs.Alphabet.{counted, alphabet, place_in, six_bits}
+use Rattle.base_64.specs.Decoding.{coded, full, two, one, ending, decoded}
 use Rattle.cells.specs.Decimal.{decimal}
 use Rattle.netstring.specs.Netstring.{netstring, netstrings}
 use Rattle.armor.specs.Numerals.{shortest, plain, number_bytes, is_numeral, is_number, mask_bytes, is_mask, mask_of}

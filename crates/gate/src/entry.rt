@@ -12,7 +12,7 @@ use orders::{Checked, Limits, Numbers};
 use table::rule;
 
 // The number that the checks come to, and where it is 0 the limits.
-#[derive(Drop)]
+#[derive(Clone, Copy)]
 pub struct Entry {
     pub number: u32,
     pub limits: Limits,

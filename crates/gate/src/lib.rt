@@ -1,6 +1,8 @@
 // The login gate: setting up a session, judging a request, ending a session, and making an index anew, for a proxy written in C; and trying a
 // client's request.
 // Each call takes any numbers and bytes, and answers its number plus 256 times the reply's length.
+#![tactic(auto)]
+
 ghost use Rattle.std.specs.Prelude.{◌≡◌, []};
 ghost use Rattle.table.specs.Record.{record_bytes};
 ghost use Rattle.orders.specs.Orders.{orders_of};

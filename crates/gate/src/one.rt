@@ -22,7 +22,7 @@ use table::{rule, session};
 use window::time::Time;
 
 // What the call answers, and the session's record after it.
-#[derive(Drop)]
+#[derive(Clone, Copy)]
 pub struct Judged {
     pub answer: u32,
     pub next: Record,

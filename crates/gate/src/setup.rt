@@ -20,7 +20,7 @@ use table::{place, session};
 use window::time::Time;
 
 // The place that the new session takes, its hash and its expiry; or the number of the refusal.
-#[derive(Drop)]
+#[derive(Clone, Copy)]
 pub enum Start {
     At(usize, Hash, Time),
     Refused(u32),
@@ -65,7 +65,7 @@ pub fn decide(
     }
 }
 
-#[derive(Drop)]
+#[derive(Clone, Copy)]
 enum Offer {
     Until(Hash, Time),
     Refused(u32),

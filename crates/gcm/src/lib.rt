@@ -1,4 +1,6 @@
 // AES-256-GCM (NIST SP 800-38D) with IVs of 96 bits, tags of 128 bits and no associated data.
+#![tactic(auto)]
+
 ghost use Rattle.std.specs.Prelude.{◌≡◌, List, [], ◌++◌, ℕ, ◌+◌, ◌-◌, ◌*◌, ◌/◌, ◌^◌, ◌≤◌, ◌<◌, min, length, replicate};
 ghost use Rattle.std.specs.Int.Bits.{bit_xor};
 ghost use Rattle.aes.specs.Cipher.{key_expansion, cipher};
@@ -10,14 +12,14 @@ ghost use Rattle.gcm.specs.Gcm as S;
 ghost use Rattle.gcm.specs.InnerCode.{whole, Stepped, BitsFrom, answer, left};
 
 // A block of 128 bits, the left half in high.
-#[derive(Drop)]
+#[derive(Clone, Copy)]
 struct Block {
     high: u64,
     low: u64,
 }
 
 // Z and V of the multiplication.
-#[derive(Drop)]
+#[derive(Clone, Copy)]
 struct Turn {
     z: Block,
     v: Block,
@@ -260,7 +262,7 @@ pub fn seal(key: &[u8], iv: &[u8], text: &[u8], out: &mut [u8], tag: &mut [u8])
     tag_of(&keys, iv, out, tag);
 }
 
-#[derive(Drop)]
+#[derive(Clone, Copy)]
 pub enum Opened {
     Text,
     Wrong,

@@ -1,8 +1,10 @@
 // The two hashes that a session's codes may be made with, and the masks that name them: document 001, Table 5.1, and document 02, K2.
+#![tactic(auto)]
+
 ghost use Rattle.std.specs.Prelude.{◌≡◌};
 ghost use Rattle.hashes.specs.Hashes.{hash_mask, digest_size, named, names_one, good_allowed, allowed_one, in_common, chosen};
 
-#[derive(Drop)]
+#[derive(Clone, Copy)]
 pub enum Hash {
     Sha256,
     Sha512,

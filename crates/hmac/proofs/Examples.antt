@@ -3,10 +3,10 @@
 use mathlib.Core.Path.{◌≡◌, refl}
 use Rattle.cells.specs.Numbers.{number, bytes_of}
 use Rattle.hashes.specs.declared.Hash.TheVariants.{Sha256, Sha512}
-use Rattle.sha2.specs.Word.{Ch, Maj, Σ0, Σ1, σ0, σ1}
-use Rattle.sha2.specs.Constants.{K, initial}
-use Rattle.sha2.specs.Block.{mix, schedule, T1, T2, round_of, rounds, sum_of, after_block}
-use Rattle.sha2.specs.Hash.{padding, after_blocks, digest, sha2}
+use Rattle.sha_2.specs.Word.{Ch, Maj, Σ0, Σ1, σ0, σ1}
+use Rattle.sha_2.specs.Constants.{K, initial}
+use Rattle.sha_2.specs.Block.{mix, schedule, T1, T2, round_of, rounds, sum_of, after_block}
+use Rattle.sha_2.specs.Hash.{padding, after_blocks, digest, sha2}
 use Rattle.hmac.specs.Hmac.{key_block, xored, hmac, hmac_of}
 
 -- 4.3, "Jefe" and "what do ya want for nothing?"

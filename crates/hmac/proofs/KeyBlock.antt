@@ -13,7 +13,7 @@ use Rattle.cells.specs.Runs.{fronted}
 use Rattle.hashes.specs.declared.Hash.{Hash}
 use Rattle.hashes.specs.declared.Hash.TheVariants.{Sha256, Sha512}
 use Rattle.hashes.specs.Hashes.{digest_size}
-use Rattle.sha2.specs.Hash.{block_size}
+use Rattle.sha_2.specs.Hash.{block_size}
 use Rattle.hmac.specs.Hmac.{filled, xored}
 
 drop_replicate : (n m a : ℕ) → drop n (replicate m a) ≡ replicate (m - n) a

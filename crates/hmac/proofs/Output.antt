@@ -11,8 +11,8 @@ use Rattle.hashes.specs.declared.Hash.{Hash}
 use Rattle.hashes.specs.declared.Hash.TheVariants.{Sha256, Sha512}
 use Rattle.hashes.specs.Hashes.{digest_size}
 use Rattle.hashes.proofs.Hashes.{digest_fits}
-use Rattle.sha2.specs.Hash.{block_size, sha2}
-use Rattle.sha2.proofs.Output.{length_sha2, bytes_sha2}
+use Rattle.sha_2.specs.Hash.{block_size, sha2}
+use Rattle.sha_2.proofs.Output.{length_sha2, bytes_sha2}
 use Rattle.hmac.specs.Hmac.{inner_key, outer_key, hmac, hmac_of}
 
 -- the first n bytes of an array, lent

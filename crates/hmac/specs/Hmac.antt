@@ -3,7 +3,7 @@
 use Rattle.std.specs.Prelude.{Bool, true, false, List, ◌++◌, map, ℕ, ◌-◌, ltb, length, replicate}
 use Rattle.std.specs.Int.Bits.{bit_xor}
 use Rattle.hashes.specs.declared.Hash.{Hash}
-use Rattle.sha2.specs.Hash.{block_size, sha2}
+use Rattle.sha_2.specs.Hash.{block_size, sha2}
 
 abbrev pick : Bool → List ℕ → List ℕ → List ℕ
 pick true x y = x

@@ -1,12 +1,14 @@
 // HMAC over SHA-256 or SHA-512 and a text that arrives in parts: RFC 2104.
+#![tactic(auto)]
+
 ghost use Rattle.std.specs.Prelude.{◌≡◌, List, ◌++◌, ℕ, ◌^◌, ◌≤◌, ◌<◌, length, take};
 ghost use Rattle.hashes.specs.Hashes.{digest_size};
-ghost use Rattle.sha2.specs.Hash.{block_size, sha2};
-ghost use Rattle.sha2.specs.InnerTaken.{Taken};
+ghost use Rattle.sha_2.specs.Hash.{block_size, sha2};
+ghost use Rattle.sha_2.specs.InnerTaken.{Taken};
 ghost use Rattle.hmac.specs.Hmac.{key_block, xored, inner_key, hmac_of};
 
 use hashes::Hash;
-use sha2::State;
+use sha_2::State;
 
 // The key in a block, at the front.
 fn key_block(hash: Hash, key: &[u8]) -> [u8; 128]
@@ -14,7 +16,7 @@ fn key_block(hash: Hash, key: &[u8]) -> [u8; 128]
     ensures { take (block_size hash) result ≡ key_block (sha2 hash) (block_size hash) key.now }
 {
     let mut block = [0u8; 128];
-    if sha2::block_size(hash) < key.len() {
+    if sha_2::block_size(hash) < key.len() {
         let s = State::new(hash);
         let t = s.absorb(key);
         let d = t.finish();
@@ -44,7 +46,7 @@ fn padded(hash: Hash, block: [u8; 128], pad: u8) -> State
     ensures { (result.length ≤ 128) × Taken hash result (xored pad (take (block_size hash) block)) }
 {
     let bytes = xor_all(block, pad);
-    let size = sha2::block_size(hash);
+    let size = sha_2::block_size(hash);
     let fresh = State::new(hash);
     fresh.absorb(&bytes[..size])
 }

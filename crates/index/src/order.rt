@@ -8,7 +8,7 @@ ghost use Rattle.index.specs.InnerEntries.{worth, used_at, low_at};
 use table::session::SIZE;
 
 // An IV as one number, in two parts: two of them are compared sooner than twelve bytes.
-#[derive(Drop)]
+#[derive(Clone, Copy)]
 pub struct Key(pub u64, pub u32);
 
 // The IV that stands in some bytes from byte at on.

@@ -12,7 +12,7 @@ use table::rule;
 use table::session::SIZE;
 
 // How many records are used, where all are sound.
-#[derive(Drop)]
+#[derive(Clone, Copy)]
 enum Tallied {
     Used(usize),
     Unsound,

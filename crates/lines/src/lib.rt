@@ -1,4 +1,6 @@
 // Header lines: where covered names stand in a block, and their values.
+#![tactic(auto)]
+
 ghost use Rattle.std.specs.Prelude.{◌≡◌, ◌≤◌, ◌%◌, length, get_or};
 ghost use Rattle.cells.specs.Spans.{all, Spans, Passed};
 ghost use Rattle.lines.specs.Lines.{value_byte, good_block};
@@ -78,7 +80,7 @@ pub fn value_at<'a>(block: &'a [u8], at: usize) -> &'a [u8]
     &block[start..stop]
 }
 
-#[derive(Drop)]
+#[derive(Clone, Copy)]
 pub enum Found {
     // Where the line starts.
     At(usize),
@@ -114,7 +116,7 @@ pub fn find(block: &[u8], at: usize, name: &[u8]) -> Found
     Found::Missing
 }
 
-#[derive(Drop)]
+#[derive(Clone, Copy)]
 enum Place {
     // The colon stands at colon, and CR LF at end.
     Whole { colon: usize, end: usize },
@@ -195,7 +197,7 @@ fn value_byte(b: u8) -> bool
     (b == 9) | ((32 <= b) & (b != 127))
 }
 
-#[derive(Drop)]
+#[derive(Clone, Copy)]
 struct Span {
     start: usize,
     end: usize,

@@ -12,7 +12,7 @@ use names::sheet;
 
 // Whether both blocks are lines; where they are, whether a covered name that is no list field stands twice in one; and how many names are
 // covered.
-#[derive(Drop)]
+#[derive(Clone, Copy)]
 pub struct Noted {
     pub good: bool,
     pub twice: bool,

@@ -11,7 +11,7 @@ use crate::search::find;
 
 // The counts by status of the lines that have ended, those unread at 0, and the line that is begun: its bytes, and how many they are. It is
 // unread where they are more than 8,192; then size is 8,193.
-#[derive(Drop)]
+#[derive(Clone, Copy)]
 pub struct State {
     pub counts: [u64; 600],
     pub begun: [u8; 8192],

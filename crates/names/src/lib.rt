@@ -1,4 +1,6 @@
 // Names of header fields: the 55 of the mask, whether two are the same, and going through those of a run.
+#![tactic(auto)]
+
 ghost use Rattle.std.specs.Prelude.{◌≡◌, ◌≤◌, length};
 ghost use Rattle.cells.specs.Spans.{Spans};
 ghost use Rattle.names.specs.Names.{lower, same_name, has_name};
@@ -72,7 +74,7 @@ pub fn known() -> [u8; 632]
     NAMES
 }
 
-#[derive(Drop)]
+#[derive(Clone, Copy)]
 pub enum Next {
     // Where the name starts, where it ends, and the bits for the names after it.
     Name(usize, usize, u64),

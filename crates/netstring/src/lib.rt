@@ -1,4 +1,6 @@
 // Netstrings: the length in decimal, a colon, the bytes, and a comma.
+#![tactic(auto)]
+
 ghost use Rattle.std.specs.Prelude.{◌+◌, ◌≤◌, length};
 ghost use Rattle.cells.specs.InnerLaid.{Laid};
 ghost use Rattle.netstring.specs.Netstring.{netstring};
@@ -11,7 +13,7 @@ mod reading;
 pub use reading::{Part, read};
 
 // What stands before the contents, their length in decimal and a colon, at the end of an array: it starts at byte start.
-#[derive(Drop)]
+#[derive(Clone, Copy)]
 pub struct Prefix {
     pub all: [u8; 21],
     pub start: usize,

@@ -3,14 +3,14 @@ ghost use Rattle.std.specs.Prelude.{◌+◌, ◌≤◌, ◌<◌, length, get_or,
 ghost use Rattle.netstring.specs.InnerReading.{LengthIs, PartIs, ReadSo};
 
 // A length in decimal and the place of the colon after it.
-#[derive(Drop)]
+#[derive(Clone, Copy)]
 pub enum Length {
     Is(usize, usize),
     Bad,
 }
 
 // Where a part starts and ends, and the place after its comma.
-#[derive(Drop)]
+#[derive(Clone, Copy)]
 pub enum Part {
     At(usize, usize, usize),
     Bad,

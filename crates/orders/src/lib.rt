@@ -1,4 +1,6 @@
 // The orders: whether what a site asks is good, and its limits.
+#![tactic(auto)]
+
 ghost use Rattle.std.specs.Prelude.{◌≡◌};
 ghost use Rattle.names.specs.InnerWalk.{Known};
 ghost use Rattle.orders.specs.Orders.{orders, or_default, checked_orders};
@@ -6,7 +8,7 @@ ghost use Rattle.orders.specs.Orders.{orders, or_default, checked_orders};
 use names::extra;
 
 // The orders, the extra names apart, as a host lends them: a limit of 0 stands for its default.
-#[derive(Drop)]
+#[derive(Clone, Copy)]
 pub struct Numbers {
     pub mask: u64,
     pub hashes: u64,
@@ -16,14 +18,14 @@ pub struct Numbers {
 }
 
 // The limits in seconds, with the defaults put in.
-#[derive(Drop)]
+#[derive(Clone, Copy)]
 pub struct Limits {
     pub request_life: u32,
     pub idle: u32,
     pub session_life: u32,
 }
 
-#[derive(Drop)]
+#[derive(Clone, Copy)]
 pub enum Checked {
     Good(Limits),
     Bad,

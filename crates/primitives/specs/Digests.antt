@@ -3,7 +3,7 @@
 use Rattle.std.specs.Prelude.{Bool, ◌&&◌, List, ℕ, ◌^◌, eqb, ltb, length}
 use Rattle.hashes.specs.declared.Hash.{Hash}
 use Rattle.hashes.specs.Hashes.{digest_size}
-use Rattle.sha2.specs.Hash.{sha2}
+use Rattle.sha_2.specs.Hash.{sha2}
 use Rattle.hmac.specs.Hmac.{hmac_of}
 use Rattle.primitives.specs.Answer.{Answer, where_fits}
 

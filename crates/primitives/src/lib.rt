@@ -1,5 +1,7 @@
 // The primitives by themselves, for outside vectors and benchmarks: exported to C, no call asks anything of its caller.
 // Each answers 0 when it is done, and 1 where a size does not fit, with every byte as it was.
+#![tactic(auto)]
+
 ghost use Rattle.std.specs.Prelude.{◌≡◌};
 ghost use Rattle.hashes.specs.declared.Hash.TheVariants.{Sha256, Sha512};
 ghost use Rattle.primitives.specs.Answer.{answer};
@@ -8,7 +10,7 @@ ghost use Rattle.primitives.specs.Sealing.{sizes_fit, seal_answer, seal_call, op
 
 use gcm::Opened;
 use hashes::Hash;
-use sha2::State;
+use sha_2::State;
 
 // 2 ^ 60: a text to hash is shorter, which is far above what memory holds.
 const LIMIT: usize = 1152921504606846976;

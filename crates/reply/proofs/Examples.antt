@@ -3,8 +3,8 @@
 use mathlib.Core.Path.{◌≡◌, refl}
 use Prim.Native.String.{String}
 use Rattle.cells.specs.Numbers.{bytes_of}
-use Rattle.base64.specs.Alphabet.{counted, alphabet, character}
-use Rattle.base64.specs.Encoding.{encoded}
+use Rattle.base_64.specs.Alphabet.{counted, alphabet, character}
+use Rattle.base_64.specs.Encoding.{encoded}
 use Rattle.cells.specs.Text.{codes}
 use Rattle.hashes.specs.declared.Hash.{Hash}
 use Rattle.hashes.specs.declared.Hash.TheVariants.{Sha256, Sha512}

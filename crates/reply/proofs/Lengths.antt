@@ -6,7 +6,7 @@ use Prim.Native.Nat.{ℕ, ◌+◌, ◌*◌, ◌/◌, ◌≤◌}
 use native.Mathlib.Omega.{arith}
 use lib.ListN.{length, length-append}
 use Rattle.cells.specs.Numbers.{bytes_of}
-use Rattle.base64.proofs.Encoded.{length_encoded}
+use Rattle.base_64.proofs.Encoded.{length_encoded}
 use Rattle.hashes.specs.declared.Hash.{Hash}
 use Rattle.hashes.specs.declared.Hash.TheVariants.{Sha256, Sha512}
 use Rattle.hashes.specs.Hashes.{hash_mask}

@@ -1,4 +1,6 @@
 // The replies that the gate writes: that of a setup, which is read back too, and the invalidation of a session.
+#![tactic(auto)]
+
 ghost use Rattle.std.specs.Prelude.{◌≡◌, ◌++◌, ◌+◌, ◌≤◌, length};
 ghost use Rattle.cells.specs.Runs.{fronted};
 ghost use Rattle.cells.specs.InnerLaid.{Laid};

@@ -1,6 +1,8 @@
 // A client's own side of a session, for hand scanners: document 02, K14. It begins a session with the reply to a setup, makes the X-S-Armor
 // value of each request, and believes an invalidation if it is the session's own.
 // Each call takes any numbers and bytes. What is kept between two calls lies in bytes that the host lends.
+#![tactic(auto)]
+
 ghost use Rattle.std.specs.Prelude.{◌≡◌};
 ghost use Rattle.scanner.specs.Begin.{answer, begun};
 ghost use Rattle.scanner.specs.Sign.{draft_of, outcome, signed};

@@ -30,7 +30,7 @@ pub fn fits(method: &[u8], head: &[u8], path: &[u8], body: &[u8], out: &[u8]) ->
 }
 
 // Whether a gate would take method and lines, and at the front of 64 bytes the code.
-#[derive(Drop)]
+#[derive(Clone, Copy)]
 pub struct Made {
     pub good: bool,
     pub code: [u8; 64],

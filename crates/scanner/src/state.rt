@@ -13,7 +13,7 @@ use window::time::Time;
 pub const SIZE: usize = 329;
 
 // The numbers of a state.
-#[derive(Drop)]
+#[derive(Clone, Copy)]
 pub struct Held {
     pub s_len: usize,
     pub eah_len: usize,
@@ -23,7 +23,7 @@ pub struct Held {
     pub next: u64,
 }
 
-#[derive(Drop)]
+#[derive(Clone, Copy)]
 pub struct Kept {
     pub good: bool,
     pub held: Held,

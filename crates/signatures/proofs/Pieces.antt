@@ -16,8 +16,8 @@ use Rattle.names.specs.InnerWalk.{no_comma, names_from}
 use Rattle.names.proofs.Walk.{names_first, names_past, extra_none}
 use Rattle.names.proofs.Joined.{rejoined, names_in_joined}
 use Rattle.lines.proofs.Joined.{joined_one, joined_short}
-use Rattle.sha2.specs.declared.State.{State}
-use Rattle.sha2.specs.InnerTaken.{TookIn}
+use Rattle.sha_2.specs.declared.State.{State}
+use Rattle.sha_2.specs.InnerTaken.{TookIn}
 use Rattle.structured.specs.Texts.{string, escaped}
 use Rattle.structured.specs.Lists.{every}
 use Rattle.signatures.specs.Components.{Message, is_component, all_components, values_of, value_of}

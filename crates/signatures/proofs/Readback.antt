@@ -18,10 +18,10 @@ use Rattle.cells.proofs.Equality.{same_self, same_equal}
 use Rattle.names.specs.Names.{has_byte}
 use Rattle.names.specs.Extra.{extra_names as listed}
 use Rattle.lines.specs.Lines.{colon}
-use Rattle.base64.specs.Encoding.{encoded}
-use Rattle.base64.specs.Decoding.{decoded}
-use Rattle.base64.proofs.Exactly.{decoded_exactly}
-use Rattle.base64.proofs.Encoded.{length_encoded}
+use Rattle.base_64.specs.Encoding.{encoded}
+use Rattle.base_64.specs.Decoding.{decoded}
+use Rattle.base_64.proofs.Exactly.{decoded_exactly}
+use Rattle.base_64.proofs.Encoded.{length_encoded}
 use Rattle.structured.specs.Texts.{opening, closing, quote, key_start, key_byte, is_key, printable, escaped, string, strings, inner_list}
 use Rattle.structured.specs.Reading.{unescaped, unlisted, last_integer, digits_in, other, but_last}
 use Rattle.structured.proofs.Texts.{plain_byte, plain, all_strings}

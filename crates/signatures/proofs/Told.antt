@@ -18,9 +18,9 @@ use Rattle.cells.proofs.Tests.{tested, both}
 use Rattle.cells.proofs.Runs.{front_spliced, length_spliced}
 use Rattle.cells.proofs.Digits.{decimal_length}
 use Rattle.names.specs.Extra.{extra_names as listed}
-use Rattle.base64.specs.Decoding.{Decoding, nothing, bytes, decoded}
-use Rattle.base64.specs.InnerAnswers.{size_of, measured}
-use Rattle.base64.specs.declared.Measured.{Measured}
+use Rattle.base_64.specs.Decoding.{Decoding, nothing, bytes, decoded}
+use Rattle.base_64.specs.InnerAnswers.{size_of, measured}
+use Rattle.base_64.specs.declared.Measured.{Measured}
 use Rattle.structured.specs.Texts.{is_key, printable}
 use Rattle.structured.specs.Reading.{unescaped, unlisted, digit, digits_in, other, but_last, IntegerIs}
 use Rattle.structured.specs.declared.reading.Integer.{Integer}

@@ -7,8 +7,8 @@ use Rattle.cells.specs.Spans.{all, leading}
 use Rattle.cells.specs.Decimal.{value_after}
 use Rattle.names.specs.Extra.{extra_names as listed}
 use Rattle.lines.specs.Lines.{colon, CR, LF}
-use Rattle.base64.specs.Encoding.{encoded}
-use Rattle.base64.specs.Decoding.{Decoding, nothing, bytes, decoded}
+use Rattle.base_64.specs.Encoding.{encoded}
+use Rattle.base_64.specs.Decoding.{Decoding, nothing, bytes, decoded}
 use Rattle.structured.specs.Texts.{closing, is_key, printable}
 use Rattle.structured.specs.Reading.{unescaped, unlisted, digits_in, other, but_last}
 use Rattle.signatures.specs.Components.{all_components}

@@ -64,7 +64,7 @@ fn is_derived(name: &[u8]) -> bool
 }
 
 // What is found of a list: whether the values are printable, whether a name stands twice, and whether the message lacks a component.
-#[derive(Drop)]
+#[derive(Clone, Copy)]
 pub struct Looked {
     pub printable: bool,
     pub twice: bool,
@@ -105,7 +105,7 @@ pub fn look(method: &[u8], authority: &[u8], path: &[u8], block: &[u8], names: &
 }
 
 // Whether the message has a component, and how long its value is.
-#[derive(Drop)]
+#[derive(Clone, Copy)]
 pub struct Value {
     pub found: bool,
     pub size: usize,

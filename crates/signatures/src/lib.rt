@@ -1,9 +1,11 @@
 // HTTP message signatures under hmac-sha256: RFC 9421. The signature base, which is never gathered, its code, and the values of the two fields.
+#![tactic(auto)]
+
 ghost use Rattle.std.specs.Prelude.{◌≡◌, true, ◌+◌, ◌^◌, ◌≤◌, ◌<◌, length, take};
 ghost use Rattle.cells.specs.InnerLaid.{Laid};
 ghost use Rattle.cells.specs.Decimal.{decimal};
 ghost use Rattle.names.specs.Extra.{extra_names as listed};
-ghost use Rattle.sha2.specs.InnerTaken.{TookIn};
+ghost use Rattle.sha_2.specs.InnerTaken.{TookIn};
 ghost use Rattle.signatures.specs.Components.{message_of, all_components};
 ghost use Rattle.signatures.specs.Base.{component_line, component_lines, base_with, code_of};
 ghost use Rattle.signatures.specs.Fields.{input_value, signature_text};
@@ -11,7 +13,7 @@ ghost use Rattle.signatures.specs.InnerAnswers.{ShortMessage, Quoted};
 
 use cells::decimal;
 use hashes::Hash;
-use sha2::State;
+use sha_2::State;
 
 pub mod components;
 pub mod reading;

@@ -1,15 +1,15 @@
 // Reading the values of the two fields: what they tell, and whether they are what is written of that.
 ghost use Rattle.std.specs.Prelude.{◌≡◌, ◌≤◌, length, take};
-ghost use Rattle.base64.specs.Decoding.{decoded};
+ghost use Rattle.base_64.specs.Decoding.{decoded};
 ghost use Rattle.signatures.specs.Fields.{label_in, of_digest, good_input, good_signature};
 ghost use Rattle.signatures.specs.InnerAnswers.{Tells, ToldIs};
 
 use super::{components, put_input, put_signature};
-use base64::Measured;
+use base_64::Measured;
 use structured::reading;
 
 // How long the label, the names joined by commas and the key id are that a value of Signature-Input tells, and when it was created.
-#[derive(Drop)]
+#[derive(Clone, Copy)]
 pub struct Told {
     pub label: usize,
     pub names: usize,
@@ -86,7 +86,7 @@ fn front(run: &[u8], n: usize) -> &[u8]
 fn of_digest(text: &[u8]) -> bool
     ensures { result ≡ of_digest (decoded text.now) }
 {
-    match base64::measure(text) {
+    match base_64::measure(text) {
         Measured::Bytes(n) => n == 32,
         Measured::Bad => false,
     }

@@ -5,9 +5,9 @@ use mathlib.Core.List.{List, [], ◌∷◌, ◌++◌, append_assoc, append-nil}
 use Prim.Native.Nat.{ℕ, ◌+◌, ◌-◌}
 use native.Mathlib.Omega.{arith}
 use lib.ListN.{length, take, drop, length-append}
-use Rattle.sha2.specs.declared.State.{State}
-use Rattle.sha2.specs.InnerTaken.{TookIn}
-use Rattle.sha2.proofs.Streaming.{took_in_turn}
+use Rattle.sha_2.specs.declared.State.{State}
+use Rattle.sha_2.specs.InnerTaken.{TookIn}
+use Rattle.sha_2.proofs.Streaming.{took_in_turn}
 use Rattle.netstring.specs.Netstring.{comma, netstring, netstrings}
 use Rattle.netstring.specs.InnerOpening.{Opens}
 use Rattle.netstring.specs.declared.Prefix.{Prefix}

@@ -1,8 +1,8 @@
 -- How the code's contracts say that a state took in parts of the signed text.
 -- Assumes nothing.
 use Rattle.std.specs.Prelude.{List, [], ◌∷◌, ◌++◌, ℕ, ◌+◌, ◌^◌, ◌<◌, length}
-use Rattle.sha2.specs.InnerTaken.{TookIn}
-use Rattle.sha2.specs.declared.State.{State}
+use Rattle.sha_2.specs.InnerTaken.{TookIn}
+use Rattle.sha_2.specs.declared.State.{State}
 use Rattle.netstring.specs.Netstring.{netstrings}
 use Rattle.hashes.specs.declared.Hash.{Hash}
 use Rattle.hashes.specs.Hashes.{hash_mask}

@@ -1,4 +1,6 @@
 // The code of a request: the HMAC of its signed text, which is never gathered, and how two codes are compared.
+#![tactic(auto)]
+
 ghost use Rattle.std.specs.Prelude.{◌≡◌, true, [], ◌∷◌, ◌+◌, ◌^◌, ◌<◌, ◌≤◌, length, take};
 ghost use Rattle.cells.specs.Runs.{same};
 ghost use Rattle.hashes.specs.Hashes.{digest_size};
@@ -9,13 +11,13 @@ ghost use Rattle.names.specs.Covered.{covered_names};
 ghost use Rattle.lines.specs.Values.{joined};
 ghost use Rattle.lines.specs.InnerPlaces.{Stands, own_at};
 ghost use Rattle.lines.specs.InnerNotes.{PlaceIn, Placed, value_by, values_by, NotesOn};
-ghost use Rattle.sha2.specs.InnerTaken.{TookIn};
+ghost use Rattle.sha_2.specs.InnerTaken.{TookIn};
 ghost use Rattle.signed.specs.SignedText.{carried, nonce_of, request_text};
 ghost use Rattle.signed.specs.InnerStreamed.{Room, TookParts, opening_parts};
 
 use hashes::Hash;
 use lines::Found;
-use sha2::State;
+use sha_2::State;
 use window::Nonce;
 use window::time::Time;
 

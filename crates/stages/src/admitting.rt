@@ -10,7 +10,7 @@ use window::time::Time;
 use window::{Nonce, Verdict, time};
 
 // The number that the checks come to, and where it is 0 and nonces are ordered the next record.
-#[derive(Drop)]
+#[derive(Clone, Copy)]
 pub struct Admitted {
     pub number: u32,
     pub next: Record,

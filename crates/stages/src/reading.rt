@@ -16,7 +16,7 @@ use orders::Numbers;
 
 // The number that the checks come to, and where it is 0 what the value carries, its byte fields in the run that armor tells of, and how many
 // names are covered, with as many notes on each block.
-#[derive(Drop)]
+#[derive(Clone, Copy)]
 pub struct Reading {
     pub number: u32,
     pub request: Request,
@@ -67,7 +67,7 @@ fn unread(number: u32, request: Request) -> Reading
     }
 }
 
-#[derive(Drop)]
+#[derive(Clone, Copy)]
 struct Compared {
     number: u32,
     covered: usize,

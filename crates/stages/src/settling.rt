@@ -14,7 +14,7 @@ use token::Unsealed;
 use window::time::Time;
 
 // The number, and what its effect needs: the session's place, key, id and hash, and where nonces are ordered its next record.
-#[derive(Drop)]
+#[derive(Clone, Copy)]
 pub struct Decision {
     pub number: u32,
     pub place: Place,

@@ -14,7 +14,7 @@ use token::Unsealed;
 use window::time::Time;
 
 // The number that the checks of a token come to, and the token unless it is 9.
-#[derive(Drop)]
+#[derive(Clone, Copy)]
 pub struct Opened {
     pub number: u32,
     pub token: Unsealed,

@@ -1,4 +1,6 @@
 // Counts the lines of an access log by status, from standard input to standard output: document 02, K5.
+#![tactic(auto)]
+
 ghost use Rattle.std.specs.Prelude.{◌^◌, ◌<◌};
 ghost use Rattle.logs.specs.Counts.{sum};
 

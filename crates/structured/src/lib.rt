@@ -1,4 +1,6 @@
 // Texts of structured fields: RFC 8941. Here keys, strings and inner lists of strings; what such texts tell is read in `reading`.
+#![tactic(auto)]
+
 ghost use Rattle.std.specs.Prelude.{◌≡◌, [], ◌∷◌, ◌+◌, ◌≤◌, length};
 ghost use Rattle.cells.specs.Spans.{all};
 ghost use Rattle.cells.specs.InnerLaid.{Laid};

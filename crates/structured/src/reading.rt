@@ -40,7 +40,7 @@ pub fn unlist(text: &[u8], out: &mut [u8]) -> usize
 }
 
 // How many digits an integer has at the front of a run, at most 15, and its value.
-#[derive(Drop)]
+#[derive(Clone, Copy)]
 pub struct Integer {
     pub digits: usize,
     pub value: u64,

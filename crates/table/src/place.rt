@@ -6,7 +6,7 @@ ghost use Rattle.table.specs.Table.{places, record_at, records, first_from, hold
 use super::session::SIZE;
 use window::time::Time;
 
-#[derive(Drop)]
+#[derive(Clone, Copy)]
 pub enum Place {
     At(usize),
     Nowhere,

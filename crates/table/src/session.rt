@@ -11,7 +11,7 @@ use window::{Nonce, Window};
 
 // The marks and the mask of the hash are bytes, since a host may lend any.
 #[repr(C)]
-#[derive(Drop)]
+#[derive(Clone, Copy)]
 pub struct Record {
     pub used: u8,
     pub iv: [u8; 12],

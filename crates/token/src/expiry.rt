@@ -6,7 +6,7 @@ ghost use Rattle.token.specs.InnerExpiry.{ExpiryIs};
 use cells::decimal;
 use window::time::Time;
 
-#[derive(Drop)]
+#[derive(Clone, Copy)]
 pub enum Expiry {
     Is(Time),
     Bad,

@@ -1,4 +1,6 @@
 // The token: session key, session id and expiry as three netstrings, sealed under the server's key.
+#![tactic(auto)]
+
 ghost use Rattle.std.specs.Prelude.{◌≡◌, false, [], ◌∷◌, ◌≤◌, length};
 ghost use Rattle.cells.specs.InnerLaid.{Laid};
 ghost use Rattle.netstring.specs.Netstring.{netstrings};
@@ -14,7 +16,7 @@ mod expiry;
 use expiry::Expiry;
 
 // What an opened token holds, where it is good.
-#[derive(Drop)]
+#[derive(Clone, Copy)]
 pub struct Unsealed {
     pub good: bool,
     pub key: [u8; 32],
@@ -23,7 +25,7 @@ pub struct Unsealed {
     pub expiry: Time,
 }
 
-#[derive(Drop)]
+#[derive(Clone, Copy)]
 pub struct SealedToken {
     pub s: [u8; 118],
     pub s_len: usize,

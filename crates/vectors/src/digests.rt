@@ -3,7 +3,7 @@ ghost use Rattle.std.specs.Prelude.{◌+◌, ◌*◌, ◌≤◌, length};
 
 use crate::print;
 use hashes::Hash;
-use sha2::State;
+use sha_2::State;
 
 // The digest of a message, at the front, by the call that is exported for the hash.
 fn digest(hash: Hash, message: &[u8]) -> [u8; 64] {

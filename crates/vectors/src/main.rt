@@ -2,6 +2,8 @@
 // A line is a kind, which is told by its first letter, and words in hexadecimal, each after a comma. A digest's kind has a
 // small letter for SHA-512 and a capital for SHA-256. A line of no kind, as one that names a source, gives an empty line.
 // No line is tested for its form: a wrong one shows by a wrong answer.
+#![tactic(auto)]
+
 mod ciphers;
 mod digests;
 mod texts;
@@ -41,7 +43,7 @@ fn line(text: &[u8], at: usize, end: usize)
 }
 
 // The place up to which a line is decoded, where its last four words start among its bytes, and where they end.
-#[derive(Drop)]
+#[derive(Clone, Copy)]
 struct Words {
     at: usize,
     first: usize,

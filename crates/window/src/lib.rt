@@ -1,4 +1,6 @@
 // The window of a session's nonces: the highest accepted, and a bit for it and for each of the 63 below it.
+#![tactic(auto)]
+
 ghost use Rattle.std.specs.Prelude.{◌≡◌};
 ghost use Rattle.window.specs.Window.{fresh, accepted, refused, above, below, step_of};
 
@@ -6,10 +8,10 @@ pub mod time;
 
 // A host lends a record that holds one.
 #[repr(C)]
-#[derive(Drop)]
+#[derive(Clone, Copy)]
 pub struct Nonce(pub u32);
 
-#[derive(Drop)]
+#[derive(Clone, Copy)]
 pub struct Window {
     // Whether a nonce was accepted yet.
     pub any: bool,
@@ -18,14 +20,14 @@ pub struct Window {
     pub bits: u64,
 }
 
-#[derive(Drop)]
+#[derive(Clone, Copy)]
 pub enum Verdict {
     Accepted,
     TooOld,
     Seen,
 }
 
-#[derive(Drop)]
+#[derive(Clone, Copy)]
 pub struct Stepped {
     pub window: Window,
     pub verdict: Verdict,

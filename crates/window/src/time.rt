@@ -7,7 +7,7 @@ const MOST_AHEAD: u32 = 30;
 
 // Seconds, as a request or the host tells them; a record that a host lends holds one.
 #[repr(C)]
-#[derive(Drop)]
+#[derive(Clone, Copy)]
 pub struct Time(pub u32);
 
 // From `earlier` to `later`, below zero where the clock that told `earlier` runs ahead.

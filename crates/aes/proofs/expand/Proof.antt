@@ -10,28 +10,28 @@ use Rattle.aes.proofs.Schedule.{begun, whole, length_next, extended}
 use Rattle.aes.proofs.expand.Statement.{statement}
 use Rattle.aes.proofs.expand.Tie as tie
 
-abbrev invariant-loop : tie.invariant-loop
+abbrev invariant-loop : tie.invariant-loop-i
 invariant-loop key table w₀ i₀ w i = (8 ≤ i) × (i ≤ 60) × (length w ≡ 240) × (take (4 * i) w ≡ expanded key (i - 8))
 
-abbrev decreases-loop : tie.decreases-loop
+abbrev decreases-loop : tie.decreases-loop-i
 decreases-loop key table w₀ i₀ w i = 60 - i
 
-loop-holds : tie.Need-loop-init invariant-loop decreases-loop
+loop-holds : tie.Need-loop-i-init invariant-loop decreases-loop
 loop-holds c =
-    let key = c.before.before.before.before.before.args.key.now in
-    let e = c.before.put_front.ensures in
-    let size : length key ≡ 32 = c.before.before.before.before.before.requires in
+    let key = c.args.key.now in
+    let e = c.put_front.ensures in
+    let size : length key ≡ 32 = c.requires in
     (omega arith, omega arith, ap length e ∙ length_fronted key _ (omega arith), ap (take 32) e ∙ begun key _ size)
 
 extend-requires : tie.Need-extend-requires invariant-loop decreases-loop
-extend-requires c κs = (omega arith, omega arith, c.before.before.before.loop.invariant.2, c.before.before.before.before.before.before.before.sbox.ensures)
+extend-requires c κs = (omega arith, omega arith, c.loop-i.invariant.2, c.sbox-table.ensures)
 
-loop-again : tie.Need-loop-preserved invariant-loop decreases-loop
+loop-again : tie.Need-loop-i-preserved invariant-loop decreases-loop
 loop-again c =
-    let key = c.before.before.before.before.before.before.before.before.before.before.args.key.now in
-    let w = c.before.before.before.before.loop.w in
-    let i = c.before.before.before.before.loop.i in
-    let inv = c.before.before.before.before.loop.invariant in
+    let key = c.args.key.now in
+    let w = c.loop-i.w in
+    let i = c.loop-i.i in
+    let inv = c.loop-i.invariant in
     let size : length w ≡ 240 = inv.2 in (
       omega arith,
       omega arith,
@@ -41,9 +41,8 @@ loop-again c =
 
 returns : tie.Need-returns invariant-loop decreases-loop
 returns c =
-    whole _ c.before.loop.w c.before.loop.i (omega arith) c.before.loop.invariant.2 c.before.loop.invariant.3
+    whole _ c.loop-i.w c.loop-i.i (omega arith) c.loop-i.invariant.2 c.loop-i.invariant.3
 
 pub expand_spec : {M : Type 1} → statement M
 expand_spec =
-    tie.close (tie.spec invariant-loop decreases-loop (λ c κs. tt) (λ c. refl) (λ c κs. omega arith) loop-holds extend-requires (λ c. omega arith)
-    (λ c. omega arith) loop-again returns)
+    tie.close (tie.spec invariant-loop decreases-loop (λ c κs. tt) (λ c. refl) (λ c κs. omega arith) loop-holds extend-requires (λ c. omega arith) (λ c. omega arith) loop-again returns)

@@ -16,14 +16,12 @@ use Rattle.aes.proofs.extend.Tie as tie
 returns : tie.Need-returns
 unfolding next_word
 returns c =
-    let start = c.before.before.before.before.before.before in
+    let start = c.before.before.before.before.before in
     let w = start.args.w.now in
     let i = start.args.i in
-    simp towards_suc (stored w (bytes c.xor.result) (4 * i) (omega (arith, start.requires)))
-    ∙ ap (spliced w (4 * i)) (c.xor.ensures ∙ ap₂ xor_word c.before.before.before.before.word.ensures (c.before.temp.ensures ∙ ap (λ (t : List ℕ). temp t i) c.before.before.word2.ensures))
+    simp towards_suc (stored w (bytes c.xor-x.result) (4 * i) (omega (arith, start.requires)))
+    ∙ ap (spliced w (4 * i)) (c.xor-x.ensures ∙ ap₂ xor_word c.word.ensures (c.temp.ensures ∙ ap (λ (t : List ℕ). temp t i) c.word-2.ensures))
 
 pub extend_spec : {M : Type 1} → statement M
 extend_spec =
-    tie.close (tie.spec (λ c. search rules) (λ c κs. search rules) (λ c. search rules) (λ c κs. search rules) (λ c κs. search rules)
-    (λ c κs. search rules) (λ c. search rules) (λ c. search rules) (λ c. search rules) (λ c. search rules) (λ c. search rules) (λ c. search rules)
-    (λ c. search rules) (λ c. search rules) (λ c. search rules) (λ c. search rules) (λ c. search rules) returns)
+    tie.close (tie.spec (λ c. search rules) (λ c κs. search rules) (λ c. search rules) (λ c κs. search rules) (λ c κs. search rules) (λ c κs. search rules) (λ c. search rules) (λ c. search rules) (λ c. search rules) (λ c. search rules) (λ c. search rules) (λ c. search rules) (λ c. search rules) (λ c. search rules) (λ c. search rules) (λ c. search rules) (λ c. search rules) returns)

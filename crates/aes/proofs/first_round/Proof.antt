@@ -11,13 +11,11 @@ returns : tie.Need-returns
 unfolding add_round_key scheduled word_at xor_word
 returns c =
     columns
-    (c.before.before.before.before.before.before.before.before.before.xor.ensures ∙ ap₂ xor_word c.before.before.before.before.before.before.before.before.before.before.before.loaded.ensures c.before.before.before.before.before.before.before.before.before.before.word.ensures)
-    (c.before.before.before.before.before.before.xor2.ensures ∙ ap₂ xor_word c.before.before.before.before.before.before.before.before.loaded2.ensures c.before.before.before.before.before.before.before.word2.ensures)
-    (c.before.before.before.xor3.ensures ∙ ap₂ xor_word c.before.before.before.before.before.loaded3.ensures c.before.before.before.before.word3.ensures)
-    (c.xor4.ensures ∙ ap₂ xor_word c.before.before.loaded4.ensures c.before.word4.ensures)
+    (c.xor.ensures ∙ ap₂ xor_word c.loaded.ensures c.word.ensures)
+    (c.xor-2.ensures ∙ ap₂ xor_word c.loaded-2.ensures c.word-2.ensures)
+    (c.xor-3.ensures ∙ ap₂ xor_word c.loaded-3.ensures c.word-3.ensures)
+    (c.xor-4.ensures ∙ ap₂ xor_word c.loaded-4.ensures c.word-4.ensures)
 
 pub first_round_spec : {M : Type 1} → statement M
 first_round_spec =
-    tie.close (tie.spec (λ c κs. search rules) (λ c κs. search rules) (λ c κs. search rules) (λ c κs. search rules) (λ c κs. search rules)
-    (λ c κs. search rules) (λ c κs. search rules) (λ c κs. search rules) (λ c κs. search rules) (λ c κs. search rules) (λ c κs. search rules)
-    (λ c κs. search rules) returns)
+    tie.close (tie.spec (λ c κs. search rules) (λ c κs. search rules) (λ c κs. search rules) (λ c κs. search rules) (λ c κs. search rules) (λ c κs. search rules) (λ c κs. search rules) (λ c κs. search rules) (λ c κs. search rules) (λ c κs. search rules) (λ c κs. search rules) (λ c κs. search rules) returns)

@@ -8,7 +8,7 @@ use Rattle.aes.proofs.full_column.Statement.{statement}
 use Rattle.aes.proofs.full_column.Tie as tie
 
 returns : tie.Need-returns
-returns c = c.xor.ensures ∙ ap₂ xor_word (c.before.before.mix.ensures ∙ ap mix_word c.before.before.before.sub_word.ensures) c.before.word.ensures
+returns c = c.xor.ensures ∙ ap₂ xor_word (c.mix.ensures ∙ ap mix_word c.sub_word.ensures) c.word.ensures
 
 pub full_column_spec : {M : Type 1} → statement M
 full_column_spec =

@@ -7,7 +7,7 @@ use Rattle.aes.proofs.last_column.Statement.{statement}
 use Rattle.aes.proofs.last_column.Tie as tie
 
 returns : tie.Need-returns
-returns c = c.xor.ensures ∙ ap₂ xor_word c.before.before.sub_word.ensures c.before.word.ensures
+returns c = c.xor.ensures ∙ ap₂ xor_word c.sub_word.ensures c.word.ensures
 
 pub last_column_spec : {M : Type 1} → statement M
 last_column_spec =

@@ -9,8 +9,8 @@ use Rattle.aes.proofs.last_round.Tie as tie
 returns : tie.Need-returns
 unfolding sub_bytes shift_rows add_round_key word_at xor_word sub_word
 returns c =
-    columns c.before.before.before.last-column.ensures c.before.before.last-column2.ensures
-    c.before.last-column3.ensures c.last-column4.ensures
+    columns c.last_column.ensures c.last_column-2.ensures
+    c.last_column-3.ensures c.last_column-4.ensures
 
 pub last_round_spec : {M : Type 1} → statement M
 last_round_spec =

@@ -7,7 +7,7 @@ use Rattle.aes.proofs.mix.Tie as tie
 
 returns : tie.Need-returns
 unfolding mix_word
-returns c = simp (c.before.before.before.mixed.ensures, c.before.before.mixed2.ensures, c.before.mixed3.ensures, c.mixed4.ensures)
+returns c = simp (c.mixed.ensures, c.mixed-2.ensures, c.mixed-3.ensures, c.mixed-4.ensures)
 
 pub mix_spec : {M : Type 1} → statement M
 mix_spec =

@@ -8,7 +8,7 @@ use Rattle.aes.proofs.mixed.Tie as tie
 
 returns : tie.Need-returns
 unfolding mixed
-returns c = simp (times_two, times_three, c.before.double.ensures, c.double2.ensures)
+returns c = simp (times_two, times_three, c.double.ensures, c.double-2.ensures)
 
 pub mixed_spec : {M : Type 1} → statement M
 mixed_spec = tie.close (tie.spec (λ c κs. search rules) (λ c κs. search rules) returns)

@@ -5,7 +5,7 @@ use Rattle.aes.proofs.sub.Statement.{statement}
 use Rattle.aes.proofs.sub.Tie as tie
 
 returns : tie.Need-returns
-returns c = c.before.requires.at _ (search rules)
+returns c = c.requires.at _ (search rules)
 
 pub sub_spec : {M : Type 1} → statement M
 sub_spec = tie.close (tie.spec (λ c. search rules) returns)

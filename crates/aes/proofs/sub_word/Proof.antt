@@ -7,7 +7,7 @@ use Rattle.aes.proofs.sub_word.Tie as tie
 
 returns : tie.Need-returns
 unfolding sub_word
-returns c = simp (c.before.before.before.sub.ensures, c.before.before.sub2.ensures, c.before.sub3.ensures, c.sub4.ensures)
+returns c = simp (c.sub.ensures, c.sub-2.ensures, c.sub-3.ensures, c.sub-4.ensures)
 
 pub sub_word_spec : {M : Type 1} → statement M
 sub_word_spec =

@@ -10,21 +10,21 @@ use Rattle.aes.proofs.Schedule.{constant_added}
 use Rattle.aes.proofs.temp.Statement.{statement}
 use Rattle.aes.proofs.temp.Tie as tie
 
-returns : tie.Need-returns
+returns : tie.Need-returns-then-i-eq0
 unfolding temp rot_word rcon
 returns c =
-    let s = c.before.before.sub_word.result in
-    rw (eq-eqb _ _ c.before.before.before.if1.true)
-    (constant_added s.a s.b s.c s.d c.before.round-constant.result
-    ∙ ap₂ xor_word c.before.before.sub_word.ensures (ap (λ (k : ℕ). k ∷ 0 ∷ 0 ∷ 0 ∷ []) c.before.round-constant.ensures))
+    let s = c.sub_word-s.result in
+    rw (eq-eqb _ _ c.if-i-eq0.true)
+    (constant_added s.a s.b s.c s.d c.round_constant.result
+    ∙ ap₂ xor_word c.sub_word-s.ensures (ap (λ (k : ℕ). k ∷ 0 ∷ 0 ∷ 0 ∷ []) c.round_constant.ensures))
 
-returns-2 : tie.Need-returns-2
+returns-2 : tie.Need-returns-then-i-eq4
 unfolding temp
-returns-2 c = rw (ne_eqb _ _ c.before.before.if1.false, eq-eqb _ _ c.before.if2.true) c.sub-word2.ensures
+returns-2 c = rw (ne_eqb _ _ c.if-i-eq0.false, eq-eqb _ _ c.if-i-eq4.true) c.sub_word.ensures
 
-returns-3 : tie.Need-returns-3
+returns-3 : tie.Need-returns
 unfolding temp
-returns-3 c = rw (ne_eqb _ _ c.before.if1.false, ne_eqb _ _ c.if2.false) refl
+returns-3 c = rw (ne_eqb _ _ c.if-i-eq0.false, ne_eqb _ _ c.if-i-eq4.false) refl
 
 pub temp_spec : {M : Type 1} → statement M
 temp_spec =

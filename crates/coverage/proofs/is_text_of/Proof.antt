@@ -6,8 +6,8 @@ use lib.ListN.{replicate}
 use lib.Seq.{length-take-le}
 use borrow.Author.Rules.{rules}
 use Rattle.cells.specs.Runs.{same}
-use Rattle.base64.specs.Encoding.{encoded}
-use Rattle.base64.proofs.Encoded.{length_encoded}
+use Rattle.base_64.specs.Encoding.{encoded}
+use Rattle.base_64.proofs.Encoded.{length_encoded}
 use Rattle.armor.proofs.Texts.{front_taken}
 use Rattle.coverage.proofs.is_text_of.Statement.{statement}
 use Rattle.coverage.proofs.is_text_of.Tie as tie

@@ -15,9 +15,9 @@ use Rattle.cells.proofs.Numbers.{bytes_bytes_of}
 use Rattle.cells.proofs.Equality.{same_self}
 use Rattle.hashes.specs.Hashes.{in_common}
 use Rattle.hashes.specs.Hashes as Hashes
-use Rattle.base64.specs.Alphabet.{counted, alphabet, place_in, six_bits}
-use Rattle.base64.specs.Decoding as Decoding
-use Rattle.base64.specs.Decoding.{coded, full, two, one, decoded}
+use Rattle.base_64.specs.Alphabet.{counted, alphabet, place_in, six_bits}
+use Rattle.base_64.specs.Decoding as Decoding
+use Rattle.base_64.specs.Decoding.{coded, full, two, one, decoded}
 use Rattle.armor.specs.Numerals.{plain, is_numeral, is_mask, mask_of}
 use Rattle.armor.specs.Keys.{obeys, keys, rank_of, key_number, rule_at, rule_of}
 use Rattle.armor.specs.Pieces

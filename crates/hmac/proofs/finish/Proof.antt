@@ -6,7 +6,7 @@ use mathlib.Core.List.{List, ◌++◌}
 use Prim.Native.Nat.{ℕ}
 use native.Mathlib.Omega.{arith}
 use lib.ListN.{take}
-use Rattle.sha2.specs.Hash.{block_size, sha2}
+use Rattle.sha_2.specs.Hash.{block_size, sha2}
 use Rattle.hmac.specs.Hmac.{outer_key, hmac}
 use Rattle.hmac.proofs.Output.{Front, digest_front}
 use Rattle.hmac.proofs.finish.Statement.{statement}

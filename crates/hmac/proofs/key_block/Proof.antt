@@ -7,9 +7,9 @@ use Prim.Native.Nat.{ℕ, ◌≤◌, ◌<◌}
 use native.Mathlib.Omega.{arith}
 use borrow.Author.Tests.{lt-ltb, le-ltb}
 use lib.ListN.{length, take}
-use Rattle.sha2.specs.Hash.{block_size, sha2}
-use Rattle.sha2.proofs.Output.{length_sha2}
-use Rattle.sha2.proofs.Streaming.{counts}
+use Rattle.sha_2.specs.Hash.{block_size, sha2}
+use Rattle.sha_2.proofs.Output.{length_sha2}
+use Rattle.sha_2.proofs.Streaming.{counts}
 use Rattle.hmac.specs.Hmac.{key_block}
 use Rattle.hmac.proofs.KeyBlock.{front_filled, digest_within}
 use Rattle.hmac.proofs.Output.{digest_front}

@@ -5,8 +5,8 @@ use mathlib.Core.Path.{◌≡◌, subst}
 use mathlib.Core.List.{[]}
 use native.Mathlib.Omega.{arith}
 use lib.ListN.{take}
-use Rattle.sha2.specs.Hash.{block_size}
-use Rattle.sha2.specs.InnerTaken.{Taken}
+use Rattle.sha_2.specs.Hash.{block_size}
+use Rattle.sha_2.specs.InnerTaken.{Taken}
 use Rattle.hmac.specs.Hmac.{xored}
 use Rattle.hmac.proofs.KeyBlock.{front_xored}
 use Rattle.hmac.proofs.Output.{Front, block_front}

@@ -6,8 +6,8 @@ use mathlib.Core.List.{List, [], ◌∷◌}
 use Prim.Native.Nat.{ℕ, ◌+◌}
 use native.Mathlib.Omega.{arith}
 use lib.ListN.{length}
-use Rattle.sha2.specs.InnerTaken.{TookIn}
-use Rattle.sha2.proofs.Streaming.{took_in_turn}
+use Rattle.sha_2.specs.InnerTaken.{TookIn}
+use Rattle.sha_2.proofs.Streaming.{took_in_turn}
 use Rattle.signatures.specs.Base.{component_line}
 use Rattle.signatures.proofs.Pieces.{line_pieces, line_size}
 use Rattle.signatures.proofs.absorb_line.Statement.{statement}

@@ -11,9 +11,9 @@ use lib.Seq.{length-take-le}
 use Rattle.cells.specs.Runs.{cut}
 use Rattle.names.specs.Extra.{extra_names as listed}
 use Rattle.names.specs.InnerWalk.{names_from}
-use Rattle.sha2.specs.declared.State.{State}
-use Rattle.sha2.specs.InnerTaken.{TookIn}
-use Rattle.sha2.proofs.Streaming.{took_in_turn}
+use Rattle.sha_2.specs.declared.State.{State}
+use Rattle.sha_2.specs.InnerTaken.{TookIn}
+use Rattle.sha_2.proofs.Streaming.{took_in_turn}
 use Rattle.signatures.specs.Components.{Message, message_of, is_component, all_components, value_of}
 use Rattle.signatures.specs.Base.{component_line, component_lines}
 use Rattle.signatures.proofs.Names.{component_quoted}

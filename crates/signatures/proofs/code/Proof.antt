@@ -9,9 +9,9 @@ use lib.ListN.{length}
 use Rattle.cells.specs.Text.{codes}
 use Rattle.names.specs.Extra.{extra_names as listed}
 use Rattle.hashes.specs.declared.Hash.TheVariants.{Sha256}
-use Rattle.sha2.specs.Hash.{block_size, sha2}
-use Rattle.sha2.specs.InnerTaken.{Taken}
-use Rattle.sha2.proofs.Streaming.{took_in_turn}
+use Rattle.sha_2.specs.Hash.{block_size, sha2}
+use Rattle.sha_2.specs.InnerTaken.{Taken}
+use Rattle.sha_2.proofs.Streaming.{took_in_turn}
 use Rattle.hmac.specs.Hmac.{inner_key}
 use Rattle.signatures.specs.Components.{Message, message_of}
 use Rattle.signatures.specs.Base.{component_lines, base_with, code_of}

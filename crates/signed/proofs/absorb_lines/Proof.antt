@@ -6,9 +6,9 @@ use mathlib.Core.List.{List, [], ◌∷◌, ◌++◌}
 use Prim.Native.Nat.{ℕ, ◌+◌, ◌-◌, ◌^◌, ◌<◌}
 use native.Mathlib.Omega.{arith}
 use lib.ListN.{length, length-append}
-use Rattle.sha2.specs.declared.State.{State}
-use Rattle.sha2.specs.InnerTaken.{TookIn}
-use Rattle.sha2.proofs.Streaming.{took_in_turn}
+use Rattle.sha_2.specs.declared.State.{State}
+use Rattle.sha_2.specs.InnerTaken.{TookIn}
+use Rattle.sha_2.proofs.Streaming.{took_in_turn}
 use Rattle.names.specs.Extra.{comma}
 use Rattle.lines.specs.Values.{space, joined}
 use Rattle.lines.specs.InnerPlaces.{Stands, own_at, AgainIs}

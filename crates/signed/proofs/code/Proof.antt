@@ -5,8 +5,8 @@ use mathlib.Core.Path.{◌≡◌, sym, ap, subst, ◌∙◌}
 use mathlib.Core.List.{List, [], ◌∷◌, ◌++◌}
 use Prim.Native.Nat.{ℕ, ◌+◌, ◌≤◌}
 use native.Mathlib.Omega.{arith}
-use Rattle.sha2.specs.Hash.{block_size, sha2}
-use Rattle.sha2.specs.InnerTaken.{Taken}
+use Rattle.sha_2.specs.Hash.{block_size, sha2}
+use Rattle.sha_2.specs.InnerTaken.{Taken}
 use Rattle.hmac.specs.Hmac.{inner_key}
 use Rattle.lines.specs.InnerNotes.{values_by}
 use Rattle.lines.proofs.Notes.{values_noted, placed_noted}

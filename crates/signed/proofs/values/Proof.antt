@@ -8,7 +8,7 @@ use native.Mathlib.Numerals.{add-one}
 use native.Mathlib.Omega.{arith}
 use lib.ListN.{length, get_or, drop, drop_of_length-le}
 use lib.Seq.{drop-cons}
-use Rattle.sha2.specs.declared.State.{State}
+use Rattle.sha_2.specs.declared.State.{State}
 use Rattle.lines.specs.InnerNotes.{value_by, values_by}
 use Rattle.signed.specs.InnerStreamed.{Room, TookParts}
 use Rattle.signed.proofs.Streaming.{room_first, room_rest, took_none, took_then}

@@ -7,7 +7,7 @@ use native.Mathlib.Omega.{arith}
 use lib.ListN.{length}
 use borrow.Author.Rules.{rules}
 use Rattle.cells.specs.Runs.{fronted}
-use Rattle.base64.specs.declared.Decoded.{Decoded}
+use Rattle.base_64.specs.declared.Decoded.{Decoded}
 use Rattle.armor.specs.Value.{carried}
 use Rattle.armor.specs.Fields.{the}
 use Rattle.armor.proofs.Texts.{decoded_fits, bytes_same}

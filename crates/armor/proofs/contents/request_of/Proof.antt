@@ -9,7 +9,7 @@ use lib.ListN.{length, get_or, take, drop}
 use borrow.Author.Rules.{rules}
 use Rattle.cells.specs.Runs.{cut, part}
 use Rattle.cells.proofs.Runs.{length_part}
-use Rattle.base64.proofs.Exactly.{decoded_exactly, decoded_bytes}
+use Rattle.base_64.proofs.Exactly.{decoded_exactly, decoded_bytes}
 use Rattle.armor.specs.Keys.{key_s, key_c, key_iv, key_tag, key_eah}
 use Rattle.armor.specs.Value.{carried}
 use Rattle.armor.specs.Fields.{times, the}

@@ -5,8 +5,8 @@ use Prim.Native.Nat.{ℕ}
 use native.Mathlib.Omega.{arith}
 use lib.ListN.{length}
 use borrow.Author.Rules.{rules}
-use Rattle.base64.specs.declared.Measured.{Measured}
-use Rattle.base64.specs.InnerAnswers.{size_of, measured}
+use Rattle.base_64.specs.declared.Measured.{Measured}
+use Rattle.base_64.specs.InnerAnswers.{size_of, measured}
 use Rattle.armor.specs.Value.{carried}
 use Rattle.armor.specs.Fields.{the}
 use Rattle.armor.proofs.contents.size.Statement.{statement}

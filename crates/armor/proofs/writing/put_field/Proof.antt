@@ -4,8 +4,8 @@ use borrow.Author.Rules.{rules}
 use mathlib.Core.Path.{refl}
 use native.Mathlib.Omega.{arith}
 use lib.ListN.{length}
-use Rattle.base64.specs.Encoding.{encoded}
-use Rattle.base64.proofs.Encoded.{length_encoded}
+use Rattle.base_64.specs.Encoding.{encoded}
+use Rattle.base_64.proofs.Encoded.{length_encoded}
 use Rattle.cells.proofs.Laid.{lent_rest}
 use Rattle.armor.proofs.Laying.{laid_field}
 use Rattle.armor.proofs.writing.put_field.Statement.{statement}

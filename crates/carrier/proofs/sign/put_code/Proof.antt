@@ -5,7 +5,7 @@ use mathlib.Core.Path.{◌≡◌, refl, sym}
 use native.Mathlib.Omega.{arith}
 use lib.ListN.{length, take}
 use lib.Seq.{length-take-le}
-use Rattle.base64.specs.Encoding.{encoded}
+use Rattle.base_64.specs.Encoding.{encoded}
 use Rattle.signatures.specs.Fields.{signature_value}
 use Rattle.carrier.proofs.Writing.{digest_text}
 use Rattle.carrier.proofs.sign.put_code.Statement.{statement}

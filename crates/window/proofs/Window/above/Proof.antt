@@ -12,4 +12,4 @@ above_spec =
     tie.close (tie.spec (search rules)
     (λ c. simp (c.accepted.ensures, le-leb 64 c.before.before.args.up (omega arith)))
     (search rules) (search rules)
-    (λ c. simp (c.accepted2.ensures, lt-leb 64 c.before.before.args.up (omega arith))))
+    (λ c. simp (c.accepted-2.ensures, lt-leb 64 c.before.before.args.up (omega arith))))

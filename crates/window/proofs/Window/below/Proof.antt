@@ -13,8 +13,8 @@ below_spec =
     tie.close (tie.spec (search rules)
     (λ c. simp (c.refused.ensures, le-leb 64 c.before.before.before.args.down (omega arith)))
     (search rules) (search rules)
-    (λ c. simp (c.refused2.ensures, lt-leb 64 c.before.before.before.before.args.down (omega arith), eq-eqb _ _ c.before.if2.true))
+    (λ c. simp (c.refused-then-bits-down-eq1.ensures, lt-leb 64 c.before.before.before.before.args.down (omega arith), eq-eqb _ _ c.before.if-bits-down-eq1.true))
     (search rules) (search rules)
     (λ c.
     let down = c.before.before.before.before.args.down in
-    simp (c.accepted.ensures, lt-leb 64 down (omega arith), ne_eqb _ _ c.before.if2.false, one_moved down (omega arith))))
+    simp (c.accepted.ensures, lt-leb 64 down (omega arith), ne_eqb _ _ c.before.if-bits-down-eq1.false, one_moved down (omega arith))))

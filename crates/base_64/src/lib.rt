@@ -1,0 +1,167 @@
+// Base64 as RFC 4648, section 4, has it: padded, the spare bits zero.
+#![tactic(auto)]
+
+ghost use Rattle.std.specs.Prelude.{◌≡◌, ◌+◌, ◌*◌, ◌/◌, ◌≤◌, ◌<◌, length};
+ghost use Rattle.cells.specs.Runs.{fronted};
+ghost use Rattle.base_64.specs.Alphabet.{six_bits};
+ghost use Rattle.base_64.specs.Encoding.{encoded};
+ghost use Rattle.base_64.specs.Decoding.{decoded};
+ghost use Rattle.base_64.specs.InnerAnswers.{measured, outcome, decoded_into};
+ghost use Rattle.base_64.specs.InnerSteps.{Lists, content, full_of, one_of, two_of, size_first, eight_of, byte_of};
+
+use tables::{alphabet, character, reverse, six_bits};
+
+mod tables;
+
+// How many bytes a text encodes.
+#[derive(Clone, Copy)]
+pub enum Measured {
+    Bytes(usize),
+    Bad,
+}
+
+// What decoding came to: so many bytes at the front of the buffer; no encoding; or one of more bytes than the buffer holds.
+#[derive(Clone, Copy)]
+pub enum Decoded {
+    Bytes(usize),
+    Bad,
+    TooLong,
+}
+
+// Whether all four values of a group are those of characters.
+fn full(w: u8, x: u8, y: u8, z: u8) -> bool
+    ensures { result ≡ full_of w x y z }
+{
+    (w < 64) & ((x < 64) & ((y < 64) & (z < 64)))
+}
+
+// Whether a text is a last group with one byte, whose second character has four spare bits.
+fn one(text: &[u8], w: u8, x: u8) -> bool
+    requires { 4 ≤ length text.now }
+    ensures { result ≡ one_of text.now w x }
+{
+    (text.len() == 4)
+        & ((text[3] == b'=') & ((text[2] == b'=') & ((w < 64) & ((x < 64) & (x % 16 == 0)))))
+}
+
+// Whether a text is a last group with two bytes, whose third character has two spare bits.
+fn two(text: &[u8], w: u8, x: u8, y: u8) -> bool
+    requires { 4 ≤ length text.now }
+    ensures { result ≡ two_of text.now w x y }
+{
+    (text.len() == 4)
+        & ((text[3] == b'=')
+            & ((text[2] != b'=') & ((w < 64) & ((x < 64) & ((y < 64) & (y % 4 == 0))))))
+}
+
+// How many bytes the first group of a text has, which are fewer than three only where nothing follows it; 0 where it is none.
+fn group_size(table: &[u8; 256], text: &[u8]) -> usize
+    requires { Lists six_bits 256 table.now × (4 ≤ length text.now) }
+    ensures { (result ≡ size_first text.now) × (result ≤ 3) }
+{
+    let w = six_bits(table, text, 0);
+    let x = six_bits(table, text, 1);
+    let y = six_bits(table, text, 2);
+    let z = six_bits(table, text, 3);
+    if full(w, x, y, z) {
+        return 3;
+    }
+    if one(text, w, x) {
+        return 1;
+    }
+    if two(text, w, x, y) {
+        return 2;
+    }
+    0
+}
+
+fn size(table: &[u8; 256], text: &[u8]) -> Measured
+    requires { Lists six_bits 256 table.now }
+    ensures { result ≡ measured text.now }
+{
+    let mut at = 0;
+    let mut n = 0;
+    while at + 4 <= text.len() {
+        let k = group_size(table, &text[at..]);
+        if k == 0 {
+            return Measured::Bad;
+        }
+        n += k;
+        at += 4;
+    }
+    if at != text.len() {
+        return Measured::Bad;
+    }
+    Measured::Bytes(n)
+}
+
+// How many bytes a text encodes, if it encodes any. The empty text encodes the empty run.
+pub fn measure(text: &[u8]) -> Measured
+    ensures { result ≡ measured text.now }
+{
+    let table = reverse();
+    size(&table, text)
+}
+
+// Eight bits of two six-bit values in a row: those of byte k of a group.
+fn eight(a: u8, b: u8, k: usize) -> u8
+    requires { k < 3 }
+    ensures { result ≡ eight_of a b k }
+{
+    ((((a as u32) * 64 + (b as u32)) >> (4 - 2 * k)) % 256) as u8
+}
+
+// Byte i of those that a text encodes.
+fn byte(table: &[u8; 256], text: &[u8], i: usize) -> u8
+    requires { Lists six_bits 256 table.now × (i + i / 3 + 1 < length text.now) }
+    ensures { result ≡ byte_of text.now i }
+{
+    let at = i + i / 3;
+    eight(
+        six_bits(table, text, at),
+        six_bits(table, text, at + 1),
+        i % 3,
+    )
+}
+
+// The bytes of a text that encodes n of them.
+fn fill(table: &[u8; 256], text: &[u8], n: usize, out: &mut [u8])
+    requires { Lists six_bits 256 table.now × (measured text.now ≡ Measured.Bytes n) × (n ≤ length out.old) }
+    ensures { out.new ≡ fronted (content (decoded text.now)) out.old }
+{
+    let mut i = 0;
+    while i < n {
+        out[i] = byte(table, text, i);
+        i += 1;
+    }
+}
+
+// The bytes that a text encodes, at the front of the buffer; a buffer that they do not fit in, or a text that encodes none, keeps every byte.
+pub fn decode(text: &[u8], out: &mut [u8]) -> Decoded
+    ensures { outcome result out.new ≡ decoded_into text.now out.old }
+{
+    let table = reverse();
+    let Measured::Bytes(n) = size(&table, text) else {
+        return Decoded::Bad;
+    };
+    if out.len() < n {
+        return Decoded::TooLong;
+    }
+    fill(&table, text, n, out);
+    Decoded::Bytes(n)
+}
+
+// The text of a byte run, at the front of the buffer, and its length.
+pub fn encode(bytes: &[u8], out: &mut [u8]) -> usize
+    requires { 4 * ((length bytes.now + 2) / 3) ≤ length out.old }
+    ensures { (result ≡ length (encoded bytes.now)) × (out.new ≡ fronted (encoded bytes.now) out.old) }
+{
+    let table = alphabet();
+    let n = (bytes.len() + 2) / 3 * 4;
+    let mut i = 0;
+    while i < n {
+        out[i] = character(&table, bytes, i);
+        i += 1;
+    }
+    n
+}

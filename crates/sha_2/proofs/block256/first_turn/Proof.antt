@@ -1,0 +1,22 @@
+-- `sha2::block256::first_turn` meets its contract: a word of the block's own, and its round.
+-- Assumes nothing.
+use Rattle.std.proofs.Common.{arith, rules}
+use Rattle.hashes.specs.declared.Hash.TheVariants.{Sha256}
+use Rattle.sha_2.specs.InnerWords.{wide}
+use Rattle.sha_2.proofs.Rounds.{first_turned}
+use Rattle.sha_2.proofs.block256.first_turn.Statement.{statement}
+use Rattle.sha_2.proofs.block256.first_turn.Tie as tie
+
+returns : tie.Need-returns
+returns c v0 before =
+    let start = c.before.before.before in
+    let t = start.args.t in
+    first_turned Sha256 start.args.block.now v0 t (wide start.args.v) (wide c.round.result) start.args.w.now start.args.k c.load32-x.result before start.requires.2
+    c.round.ensures
+    (omega arith)
+    start.requires.0
+    c.load32-x.ensures
+
+pub first_turn_spec : {M : Type 1} → statement M
+first_turn_spec =
+    tie.close (tie.spec (λ c. search rules) (λ c κs. search rules) (λ c. search rules) (λ c. search rules) (λ c κs. search rules) returns)

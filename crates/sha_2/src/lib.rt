@@ -1,0 +1,237 @@
+// SHA-256 and SHA-512 over a message that arrives in parts: FIPS 180-4.
+#![tactic(auto)]
+
+ghost use Rattle.std.specs.Prelude.{◌≡◌, ℕ, ◌+◌, ◌*◌, ◌/◌, ◌%◌, ◌^◌, ◌<◌, ◌≤◌, List, [], length, take};
+ghost use Rattle.hashes.specs.declared.Hash as Declared;
+ghost use Rattle.hashes.specs.Hashes.{digest_size};
+ghost use Rattle.sha_2.specs.Constants.{initial};
+ghost use Rattle.sha_2.specs.Hash.{block_size, zeros, after_blocks, digest, sha2};
+ghost use Rattle.sha_2.specs.InnerTaken.{Taken, TookIn};
+ghost use Rattle.sha_2.specs.InnerWords.{Fit};
+
+use hashes::Hash;
+
+mod block256;
+mod block512;
+mod word256;
+mod word512;
+
+// Eight words: a hash value, or the working variables. Those of SHA-256 have 32 bits.
+#[derive(Clone, Copy)]
+pub struct Words {
+    pub a: u64,
+    pub b: u64,
+    pub c: u64,
+    pub d: u64,
+    pub e: u64,
+    pub f: u64,
+    pub g: u64,
+    pub h: u64,
+}
+
+// The hash value after the whole blocks of a message, the bytes after them, and the message's length.
+#[derive(Clone, Copy)]
+pub struct State {
+    pub hash: Hash,
+    pub value: Words,
+    pub tail: [u8; 128],
+    pub length: u64,
+}
+
+// Bytes in a block.
+pub fn block_size(hash: Hash) -> usize
+    ensures { result ≡ block_size hash }
+{
+    match hash {
+        Hash::Sha256 => 64,
+        Hash::Sha512 => 128,
+    }
+}
+
+// Bytes of a message after its whole blocks. A division by a size that is known when the code is made is a shift.
+fn begun(hash: Hash, length: u64) -> usize
+    ensures { result ≡ length % block_size hash }
+{
+    match hash {
+        Hash::Sha256 => (length % 64) as usize,
+        Hash::Sha512 => (length % 128) as usize,
+    }
+}
+
+// Whole blocks in n bytes.
+fn blocks_in(hash: Hash, n: usize) -> usize
+    ensures { result ≡ n / block_size hash }
+{
+    match hash {
+        Hash::Sha256 => n / 64,
+        Hash::Sha512 => n / 128,
+    }
+}
+
+// 5.1: the zero bytes after a message.
+fn zeros(hash: Hash, length: u64) -> usize
+    ensures { result ≡ zeros hash length }
+{
+    match hash {
+        Hash::Sha256 => (119 - (length % 64) as usize) % 64,
+        Hash::Sha512 => (239 - (length % 128) as usize) % 128,
+    }
+}
+
+// 5.3.3 and 5.3.5.
+fn initial(hash: Hash) -> Words
+    ensures { result ≡ initial hash }
+{
+    match hash {
+        Hash::Sha256 => Words {
+            a: 0x6a09e667,
+            b: 0xbb67ae85,
+            c: 0x3c6ef372,
+            d: 0xa54ff53a,
+            e: 0x510e527f,
+            f: 0x9b05688c,
+            g: 0x1f83d9ab,
+            h: 0x5be0cd19,
+        },
+        Hash::Sha512 => Words {
+            a: 0x6a09e667f3bcc908,
+            b: 0xbb67ae8584caa73b,
+            c: 0x3c6ef372fe94f82b,
+            d: 0xa54ff53a5f1d36f1,
+            e: 0x510e527fade682d1,
+            f: 0x9b05688c2b3e6c1f,
+            g: 0x1f83d9abfb41bd6b,
+            h: 0x5be0cd19137e2179,
+        },
+    }
+}
+
+// The hash value v after the first n blocks of m.
+fn after_blocks(hash: Hash, v: Words, m: &[u8], n: usize) -> Words
+    requires { block_size hash * n ≤ length m.now }
+    ensures { Fit hash v → result ≡ after_blocks hash v m.now n }
+{
+    match hash {
+        Hash::Sha256 => block256::after_blocks(v, m, n),
+        Hash::Sha512 => block512::after_blocks(v, m, n),
+    }
+}
+
+// The hash value as bytes, at the front.
+fn digest(hash: Hash, v: Words) -> [u8; 64]
+    ensures { Fit hash v → take (digest_size hash) result ≡ digest hash v }
+{
+    match hash {
+        Hash::Sha256 => block256::digest(v),
+        Hash::Sha512 => block512::digest(v),
+    }
+}
+
+impl State {
+    // The state that has taken in nothing.
+    pub fn new(hash: Hash) -> State
+        ensures { (result.length ≡ 0) × Taken hash result [] }
+    {
+        State {
+            hash,
+            value: initial(hash),
+            tail: [0u8; 128],
+            length: 0,
+        }
+    }
+
+    // Part ends before the block that was begun does.
+    fn keep(self, part: &[u8]) -> State
+        requires { (self.length % block_size self.hash + length part.now < block_size self.hash) × (self.length + length part.now < 2 ^ 61) }
+        ensures { TookIn self part.now result }
+    {
+        let hash = self.hash;
+        let value = self.value;
+        let length = self.length;
+        let mut tail = self.tail;
+        cells::put_at(&mut tail, begun(hash, length), part);
+        State {
+            hash,
+            value,
+            tail,
+            length: length + part.len() as u64,
+        }
+    }
+
+    // Part ends with the block that was begun.
+    fn complete(self, part: &[u8]) -> State
+        requires { (self.length % block_size self.hash + length part.now ≡ block_size self.hash) × (self.length + length part.now < 2 ^ 61) }
+        ensures { TookIn self part.now result }
+    {
+        let hash = self.hash;
+        let value = self.value;
+        let length = self.length;
+        let mut tail = self.tail;
+        cells::put_at(&mut tail, begun(hash, length), part);
+        let next = after_blocks(hash, value, &tail, 1);
+        State {
+            hash,
+            value: next,
+            tail,
+            length: length + part.len() as u64,
+        }
+    }
+
+    // No block is begun: part's whole blocks are hashed where they lie.
+    fn whole(self, part: &[u8]) -> State
+        requires { (self.length % block_size self.hash ≡ 0) × (self.length + length part.now < 2 ^ 61) }
+        ensures { TookIn self part.now result }
+    {
+        let hash = self.hash;
+        let value = self.value;
+        let length = self.length;
+        let mut tail = self.tail;
+        let n = blocks_in(hash, part.len());
+        let next = after_blocks(hash, value, part, n);
+        let at = block_size(hash) * n;
+        cells::put_at(&mut tail, 0, &part[at..]);
+        State {
+            hash,
+            value: next,
+            tail,
+            length: length + part.len() as u64,
+        }
+    }
+
+    // The state that has taken in part too.
+    pub fn absorb(self, part: &[u8]) -> State
+        requires { self.length + length part.now < 2 ^ 61 }
+        ensures { TookIn self part.now result }
+    {
+        let hash = self.hash;
+        let begun = begun(hash, self.length);
+        if begun == 0 {
+            return self.whole(part);
+        }
+        let missing = block_size(hash) - begun;
+        if part.len() < missing {
+            return self.keep(part);
+        }
+        let s = self.complete(&part[..missing]);
+        s.whole(&part[missing..])
+    }
+
+    // The hash of the message that was taken in, at the front. The block that was begun and the padding lie side by side: no state takes in the padding.
+    pub fn finish(self) -> [u8; 64]
+        requires { self.length < 2 ^ 61 }
+        ensures { (h : Declared.Hash) (m : List ℕ) → Taken h self m → take (digest_size h) result ≡ sha2 h m }
+    {
+        let hash = self.hash;
+        let length = self.length;
+        let value = self.value;
+        let tail = self.tail;
+        let begun = begun(hash, length);
+        let end = begun + 1 + zeros(hash, length) + block_size(hash) / 8;
+        let mut last = [0u8; 256];
+        cells::put_front(&mut last, &tail[..begun]);
+        last[begun] = 128;
+        cells::put64(&mut last, end - 8, 8 * length);
+        let closed = after_blocks(hash, value, &last, blocks_in(hash, end));
+        digest(hash, closed)
+    }
+}
