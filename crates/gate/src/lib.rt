@@ -32,8 +32,7 @@ mod sizes;
 mod trying;
 
 // Sets up a session.
-#[unsafe(no_mangle)]
-pub extern "C" fn gate_setup(
+pub fn gate_setup(
     mask: u64,
     hashes: u64,
     extra: &[u8],
@@ -94,8 +93,7 @@ pub extern "C" fn gate_setup(
 }
 
 // Judges a request.
-#[unsafe(no_mangle)]
-pub extern "C" fn gate_judge<'a>(
+pub fn gate_judge<'a>(
     mask: u64,
     hashes: u64,
     extra: &[u8],
@@ -145,8 +143,7 @@ pub extern "C" fn gate_judge<'a>(
 }
 
 // Judges a request over one session's record, which the host lends: the new record stands there afterwards.
-#[unsafe(no_mangle)]
-pub extern "C" fn gate_judge_one<'a>(
+pub fn gate_judge_one<'a>(
     mask: u64,
     hashes: u64,
     extra: &[u8],
@@ -190,8 +187,7 @@ pub extern "C" fn gate_judge_one<'a>(
 }
 
 // Ends the session that has this IV.
-#[unsafe(no_mangle)]
-pub extern "C" fn gate_end(iv: &[u8], table: &mut [u8], index: &mut [u8]) -> u32
+pub fn gate_end(iv: &[u8], table: &mut [u8], index: &mut [u8]) -> u32
     ensures { outcome result [] (holding table.new index.new) ≡ ended iv.now (holding table.old index.old) }
 {
     let fits = sizes::end_fits(iv, table, index);
@@ -211,8 +207,7 @@ pub extern "C" fn gate_end(iv: &[u8], table: &mut [u8], index: &mut [u8]) -> u32
 }
 
 // Makes the index that fits a table, whatever stands in it.
-#[unsafe(no_mangle)]
-pub extern "C" fn gate_index(table: &[u8], index: &mut [u8]) -> u32
+pub fn gate_index(table: &[u8], index: &mut [u8]) -> u32
     ensures { outcome result [] (holding table.now index.new) ≡ remade (holding table.now index.old) }
 {
     if !sizes::state_fits(table, index) {
@@ -226,8 +221,7 @@ pub extern "C" fn gate_index(table: &[u8], index: &mut [u8]) -> u32
 }
 
 // Tries a client: whether its request fits the reply to its setup, and otherwise the first rule that it breaks.
-#[unsafe(no_mangle)]
-pub extern "C" fn gate_fits<'a>(
+pub fn gate_fits<'a>(
     setup_reply: &[u8],
     value: &[u8],
     method: &[u8],

@@ -34,16 +34,14 @@ fn digest(hash: Hash, text: &[u8], out: &mut [u8]) -> u32
 }
 
 // SHA-256 of text into out, which has 32 bytes.
-#[unsafe(no_mangle)]
-pub extern "C" fn prim_sha256(text: &[u8], out: &mut [u8]) -> u32
+pub fn prim_sha256(text: &[u8], out: &mut [u8]) -> u32
     ensures { answer result out.new ≡ digest_call Sha256 text.now out.old }
 {
     digest(Hash::Sha256, text, out)
 }
 
 // SHA-512 of text into out, which has 64 bytes.
-#[unsafe(no_mangle)]
-pub extern "C" fn prim_sha512(text: &[u8], out: &mut [u8]) -> u32
+pub fn prim_sha512(text: &[u8], out: &mut [u8]) -> u32
     ensures { answer result out.new ≡ digest_call Sha512 text.now out.old }
 {
     digest(Hash::Sha512, text, out)
@@ -71,16 +69,14 @@ fn code(hash: Hash, key: &[u8], text: &[u8], out: &mut [u8]) -> u32
 }
 
 // HMAC-SHA-256 of text under key into out, which has 32 bytes.
-#[unsafe(no_mangle)]
-pub extern "C" fn prim_hmac_sha256(key: &[u8], text: &[u8], out: &mut [u8]) -> u32
+pub fn prim_hmac_sha256(key: &[u8], text: &[u8], out: &mut [u8]) -> u32
     ensures { answer result out.new ≡ hmac_call Sha256 key.now text.now out.old }
 {
     code(Hash::Sha256, key, text, out)
 }
 
 // HMAC-SHA-512 of text under key into out, which has 64 bytes.
-#[unsafe(no_mangle)]
-pub extern "C" fn prim_hmac_sha512(key: &[u8], text: &[u8], out: &mut [u8]) -> u32
+pub fn prim_hmac_sha512(key: &[u8], text: &[u8], out: &mut [u8]) -> u32
     ensures { answer result out.new ≡ hmac_call Sha512 key.now text.now out.old }
 {
     code(Hash::Sha512, key, text, out)
@@ -94,8 +90,7 @@ fn sizes_fit(key: usize, iv: usize, text: usize, tag: usize, out: usize) -> bool
 }
 
 // AES-256-GCM with no associated data: the sealed text into out, which is as long as text, and the tag's 16 bytes.
-#[unsafe(no_mangle)]
-pub extern "C" fn prim_gcm_seal(
+pub fn prim_gcm_seal(
     key: &[u8],
     iv: &[u8],
     text: &[u8],
@@ -112,8 +107,7 @@ pub extern "C" fn prim_gcm_seal(
 }
 
 // The text of a sealed one into out, which is as long; 2 where the tag is wrong, with every byte as it was.
-#[unsafe(no_mangle)]
-pub extern "C" fn prim_gcm_open(
+pub fn prim_gcm_open(
     key: &[u8],
     iv: &[u8],
     text: &[u8],
