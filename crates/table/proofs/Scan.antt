@@ -34,7 +34,7 @@ module _ {A : Type 0} {f : ℕ → List Record → A} {bytes : List ℕ} {start 
   pub along_ends : {n i : ℕ} → Along f bytes start n i → n ≤ i → f start (drop start (records bytes)) ≡ f i []
   along_ends {n} {i} s h = s.same ∙ ap (f i) (drop_of_length-le (records bytes) {i = i} (omega (arith, length_records bytes, s.count)))
 
-module _ {test : Record → Bool} {bytes : List ℕ} {start n i : ℕ} (s : Along (first_from test) bytes start n i) where
+module _ (test : Record → Bool) {bytes : List ℕ} {start n i : ℕ} (s : Along (first_from test) bytes start n i) where
   -- the test holds at a place: that is the one
   pub scan_stops : i < n → test (record_at bytes i) ≡ true → Placed (first_from test start (drop start (records bytes))) (places bytes) (At i)
   scan_stops h e = record { is = sym (along_here s h ∙ rw e); within = omega (arith, s.count) }

@@ -7,13 +7,9 @@ use Rattle.table.proofs.Scan.{Along, along_begins, scan_stops, scan_goes, scan_e
 use Rattle.table.proofs.place.first_lapsed.Statement.{statement}
 use Rattle.table.proofs.place.first_lapsed.Tie as tie
 
-abbrev invariant-loop : tie.invariant-loop
+abbrev invariant-loop : tie.invariant-loop-i
 invariant-loop table clock n i₀ i = Along (first_from (lapsed clock.0)) table 0 n i
 
 pub first_lapsed_spec : {M : Type 1} → statement M
 first_lapsed_spec =
-    tie.close (tie.spec invariant-loop (λ table clock n i₀ i. n - i) (λ c. along_begins (omega arith)) (λ c κs. omega arith)
-    (λ c. scan_stops c.before.before.before.loop.invariant c.before.before.loop-test.true (sym c.before.has-lapsed.ensures ∙ c.if1.true))
-    (λ c. omega arith) (λ c. omega arith)
-    (λ c. scan_goes c.before.before.before.loop.invariant c.before.before.loop-test.true (sym c.before.has-lapsed.ensures ∙ c.if1.false))
-    (λ c. scan_ends c.before.loop.invariant c.loop-test.false))
+    tie.close (tie.spec invariant-loop (λ table clock n i₀ i. n - i) (λ c. along_begins (omega arith)) (λ c κs. omega arith) (λ c. scan_stops _ c.loop-i.invariant c.loop-i-test.true (sym c.has_lapsed.ensures ∙ c.if-has_lapsed.true)) (λ c. omega arith) (λ c. omega arith) (λ c. scan_goes _ c.loop-i.invariant c.loop-i-test.true (sym c.has_lapsed.ensures ∙ c.if-has_lapsed.false)) (λ c. scan_ends _ c.loop-i.invariant c.loop-i-test.false))

@@ -6,24 +6,20 @@ use Rattle.table.proofs.Ivs.{other_length, other_number, second_decides}
 use Rattle.table.proofs.place.same_iv.Statement.{statement}
 use Rattle.table.proofs.place.same_iv.Tie as tie
 
-returns-3 : tie.Need-returns-3
+returns-3 : tie.Need-returns
 returns-3 c =
     let told = c.before.before.before in
     let start = told.before.before.before.before.before in
-    ap₂ eqb c.before.load32.ensures c.load322.ensures
+    ap₂ eqb c.load32.ensures c.load32-2.ensures
     ∙ second_decides start.args.table.now start.args.iv.now start.args.at start.requires
-    (λ i. (told.before.before.before.before.shared-slice-known.given i).fits)
-    (λ i. (told.before.before.before.shared-slice-known2.given i).fits)
-    told.before.before.if1.false
-    (sym told.before.load64.ensures ∙ c.before.before.if2.false ∙ told.load642.ensures)
+    (λ i. (told.shared_slice_known-1.given i).fits)
+    (λ i. (told.shared_slice_known-2-1.given i).fits)
+    told.if-iv-ne12.false
+    (sym told.load64.ensures ∙ c.if-load64.false ∙ told.load64-2.ensures)
 
 pub same_iv_spec : {M : Type 1} → statement M
 same_iv_spec =
-    tie.close (tie.spec
-    (λ c. let start = c.before.before.before in
-    other_length start.args.table.now start.args.iv.now start.args.at start.requires c.if1.true)
-    (λ c κs. search rules) (λ c κs. search rules)
-    (λ c. let start = c.before.before.before.before.before.before in
+    tie.close (tie.spec (λ c. let start = c.before.before.before in
+    other_length start.args.table.now start.args.iv.now start.args.at start.requires c.if-iv-ne12.true) (λ c κs. search rules) (λ c κs. search rules) (λ c. let start = c.before.before.before.before.before.before in
     other_number start.args.table.now start.args.iv.now start.args.at start.requires
-    (λ e. c.if2.true (c.before.before.load64.ensures ∙ e ∙ sym c.before.load642.ensures)))
-    (λ c. search rules) (λ c κs. search rules) (λ c κs. search rules) returns-3)
+    (λ e. c.if-load64.true (c.load64.ensures ∙ e ∙ sym c.load64-2.ensures))) (λ c. search rules) (λ c κs. search rules) (λ c κs. search rules) returns-3)

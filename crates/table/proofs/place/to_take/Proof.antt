@@ -5,19 +5,17 @@ use Rattle.table.specs.Table.{taken}
 use Rattle.table.proofs.place.to_take.Statement.{statement}
 use Rattle.table.proofs.place.to_take.Tie as tie
 
-returns-2 : tie.Need-returns-2
+returns-2 : tie.Need-returns
 unfolding taken
 returns-2 c =
-    let free = c.before.before.before.first-free.ensures in
+    let free = c.first_free.ensures in
     record {
-      is = c.first-lapsed.ensures.is ∙ simp (← free.is, c.before.enum_told.given.1);
-      within = c.first-lapsed.ensures.within;
+      is = c.first_lapsed.ensures.is ∙ simp (← free.is, c.in_default.is);
+      within = c.first_lapsed.ensures.within;
     }
 
 pub to_take_spec : {M : Type 1} → statement M
 unfolding taken
 to_take_spec =
-    tie.close (tie.spec (λ c κs. search rules) (λ c. search rules)
-    (λ c. let free = c.before.before.before.first-free.ensures in
-    record { is = simp (← free.is, c.before.i.given.1); within = rw c.before.i.given.1 at free.within })
-    (λ c. search rules) (λ c κs. search rules) returns-2)
+    tie.close (tie.spec (λ c κs. search rules) (λ c. search rules) (λ c. let free = c.first_free.ensures in
+    record { is = simp (← free.is, c.in-At.is); within = rw c.in-At.is at free.within }) (λ c. search rules) (λ c κs. search rules) returns-2)

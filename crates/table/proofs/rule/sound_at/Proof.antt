@@ -12,18 +12,16 @@ use Rattle.table.proofs.Fitting.{sound_usual, both_one}
 use Rattle.table.proofs.rule.sound_at.Statement.{statement}
 use Rattle.table.proofs.rule.sound_at.Tie as tie
 
-returns-2 : tie.Need-returns-2
+returns-2 : tie.Need-returns
 returns-2 c =
     let start = c.before.before.before.before.before.before.before in
     let a = start.args in
-    let one = both_one _ _ c.before.before.before.if1.false in
+    let one = both_one _ _ c.if-table-at.false in
     ap₂ (λ (s t : Bool). s && t)
-    (c.before.names-one.ensures ∙ ap names_one (sym (hash_at a.table.now a.place start.requires)))
+    (c.names_one.ensures ∙ ap names_one (sym (hash_at a.table.now a.place start.requires)))
     (ap (λ (n : ℕ). eqb n 1) (sym (lowest_at a.table.now a.place start.requires)))
     ∙ sym (sound_usual _ (used_at_lem a.table.now a.place start.requires ∙ one.0) (any_at a.table.now a.place start.requires ∙ one.1))
 
 pub sound_at_spec : {M : Type 1} → statement M
 sound_at_spec =
-    tie.close (tie.spec (λ c. search rules) (λ c. search rules) (λ c. search rules) (λ c. search rules) (λ c κs. search rules) (λ c κs. search rules)
-    (λ c. c.record-sound.ensures ∙ ap sound c.before.read.ensures)
-    (λ c. search rules) (λ c. search rules) (λ c. omega (arith, c.shared-slice-known4.given (31 * c.before.before.before.before.before.args.place + 30))) (λ c κs. search rules) (λ c. search rules) (λ c. search rules) returns-2)
+    tie.close (tie.spec (λ c. search rules) (λ c. search rules) (λ c. search rules) (λ c. search rules) (λ c κs. search rules) (λ c κs. search rules) (λ c. c.record_sound.ensures ∙ ap sound c.read.ensures) (λ c. search rules) (λ c. search rules) (λ c. omega (arith, c.shared_slice_known-4-1.given (31 * c.args.place + 30))) (λ c κs. search rules) (λ c. search rules) (λ c. search rules) returns-2)

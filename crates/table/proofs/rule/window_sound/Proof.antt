@@ -7,6 +7,4 @@ use Rattle.table.proofs.rule.window_sound.Tie as tie
 
 pub window_sound_spec : {M : Type 1} → statement M
 window_sound_spec =
-    tie.close (tie.spec (λ c κs. search rules)
-    (λ c. simp (c.no-trace.ensures, eq-eqb _ _ c.before.if1.true))
-    (λ c. simp (ne_eqb _ _ c.before.before.if1.false, lowest)))
+    tie.close (tie.spec (λ c κs. search rules) (λ c. simp (c.no_trace.ensures, eq-eqb _ _ c.if-session-eq0.true)) (λ c. simp (ne_eqb _ _ c.if-session-eq0.false, lowest)))

@@ -6,7 +6,4 @@ use Rattle.table.proofs.session.put.Tie as tie
 
 pub put_spec : {M : Type 1} → statement M
 put_spec =
-    tie.close (tie.spec (λ c. search rules) (λ c. search rules) (λ c. search rules)
-    (λ c κs. rw c.before.before.place.given.1 at c.before.before.before.before.before.requires)
-    (λ c. search rules)
-    (λ c. rw c.before.before.before.before.before.place.given.1 c.before.before.store.ensures))
+    tie.close (tie.spec (λ c. search rules) (λ c. search rules) (λ c. search rules) (λ c κs. rw c.in-At.is at c.requires) (λ c. search rules) (λ c. rw c.in-At.is c.store.ensures))

@@ -8,5 +8,4 @@ use Rattle.table.proofs.session.put_byte.Tie as tie
 
 pub put_byte_spec : {M : Type 1} → statement M
 put_byte_spec =
-    tie.close (tie.spec (λ c. search rules) (λ c. search rules)
-    (λ c. let a = c.args in stored a.out.now (a.x ∷ []) a.at (omega arith)))
+    tie.close (tie.spec (λ c. search rules) (λ c. search rules) (λ c. let a = c.args in stored a.out.now (a.x ∷ []) a.at (omega arith)))

@@ -8,5 +8,4 @@ use Rattle.table.proofs.session.twelve.Tie as tie
 
 pub twelve_spec : {M : Type 1} → statement M
 twelve_spec =
-    tie.close (tie.spec (λ c. search rules) (λ c κs. search rules)
-    (λ c. c.before.put_front.ensures ∙ fronted_whole _ _ (omega arith)))
+    tie.close (tie.spec (λ c. search rules) (λ c κs. search rules) (λ c. c.put_front.ensures ∙ fronted_whole _ _ (omega arith)))

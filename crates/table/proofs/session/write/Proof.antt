@@ -7,8 +7,8 @@ use Rattle.table.proofs.Records.{written}
 use Rattle.table.proofs.session.write.Statement.{statement}
 use Rattle.table.proofs.session.write.Tie as tie
 
-iv-long : (start : tie.Start) → length start.args.session.iv ≡ 12
-iv-long start = search rules
+iv_long : (start : tie.Start) → length start.args.session.iv ≡ 12
+iv_long start = search rules
 
 returns : tie.Need-returns
 returns c =
@@ -20,13 +20,10 @@ returns c =
     let used = iv.before.before.before.before.before in
     let start = used.before.before.before.before in
     let a = start.args in
-    written a.session a.out.now start.requires (iv-long start)
-    used.put_byte.ensures iv.put-at.ensures.is expiry.put32.ensures any.put-byte2.ensures highest.put322.ensures
-    bits.put64.ensures c.before.before.put-byte3.ensures
+    written a.session a.out.now start.requires (iv_long start)
+    used.put_byte.ensures iv.put_at.ensures.is expiry.put32.ensures any.put_byte-2.ensures highest.put32-2.ensures
+    bits.put64.ensures c.put_byte-3.ensures
 
 pub write_spec : {M : Type 1} → statement M
 write_spec =
-    tie.close (tie.spec (λ c κs. search rules) (λ c. search rules)
-    (λ c κs. omega (arith, iv-long c.before.before.before.before.before.before.before.before))
-    (λ c κs. search rules) (λ c κs. search rules) (λ c κs. search rules) (λ c κs. search rules) (λ c κs. search rules) (λ c. search rules)
-    returns)
+    tie.close (tie.spec (λ c κs. search rules) (λ c. search rules) (λ c κs. omega (arith, iv_long c.before.before.before.before.before.before.before.before)) (λ c κs. search rules) (λ c κs. search rules) (λ c κs. search rules) (λ c κs. search rules) (λ c κs. search rules) (λ c. search rules) returns)
