@@ -13,21 +13,19 @@ use Rattle.hmac.proofs.finish.Statement.{statement}
 use Rattle.hmac.proofs.finish.Tie as tie
 
 -- the inner hash at the front of its array
-front : (c : tie.After-size) → Front c.size.result c.before.finish.result
-front c = digest_front c.before.before.before.args.hash _ c.before.finish.result c.size.ensures (search rules)
+front : (c : tie.After-size-n) → Front c.size-n.result c.finish-d.result
+front c = digest_front c.args.hash _ c.finish-d.result c.size-n.ensures (search rules)
 
 returns : tie.Need-returns
 unfolding hmac
 returns c text taken =
     let start = c.before.before.before.before.before.before.before in
     let h = start.args.hash in
-    let d = c.before.before.before.before.before.finish in
-    c.finish2.ensures h _ (c.before.absorb.ensures.appended h _ c.before.before.before.keyed.ensures.1)
+    let d = c.finish-d in
+    c.finish.ensures h _ (c.absorb-s.ensures.appended h _ c.keyed-outer.ensures.1)
     ∙ ap (λ (l : List ℕ). sha2 h (outer_key (sha2 h) (block_size h) start.args.key.now ++ l))
-    (ap (λ (n : ℕ). take n d.result) c.before.before.before.before.size.ensures ∙ d.ensures h _ taken)
+    (ap (λ (n : ℕ). take n d.result) c.size-n.ensures ∙ d.ensures h _ taken)
 
 pub finish_spec : {M : Type 1} → statement M
 finish_spec =
-    tie.close (tie.spec (λ c κs. search rules) (λ c κs. search rules) (λ c κs. search rules) (λ c. (front c.before).fits) (λ c. (front c.before.before).long)
-    (λ c κs. omega (arith, c.before.keyed.ensures.0, front c.before.before))
-    (λ c κs. omega (arith, c.absorb.ensures.counted, c.before.before.keyed.ensures.0, front c.before.before.before)) returns)
+    tie.close (tie.spec (λ c κs. search rules) (λ c κs. search rules) (λ c κs. search rules) (λ c. (front c.before).fits) (λ c. (front c.before.before).long) (λ c κs. omega (arith, c.keyed-outer.ensures.0, front c.before.before)) (λ c κs. omega (arith, c.absorb-s.ensures.counted, c.keyed-outer.ensures.0, front c.before.before.before)) returns)

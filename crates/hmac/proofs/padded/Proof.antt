@@ -14,16 +14,16 @@ use Rattle.hmac.proofs.padded.Statement.{statement}
 use Rattle.hmac.proofs.padded.Tie as tie
 
 -- a block at the front of its array
-front : (c : tie.After-block-size) → Front c.block_size.result c.before.xor_all.result
-front c = block_front c.before.before.args.hash _ c.before.xor_all.result c.block_size.ensures (search rules)
+front : (c : tie.After-block_size-size) → Front c.block_size-size.result c.xor_all-bytes.result
+front c = block_front c.args.hash _ c.xor_all-bytes.result c.block_size-size.ensures (search rules)
 
 returns : tie.Need-returns
 returns c =
     let start = c.before.before.before.before.before in
     let h = start.args.hash in
-    let size = c.before.before.before.block_size in
-    let fresh = c.before.before.new.ensures in
-    let bytes = c.before.before.before.before.xor_all in
+    let size = c.block_size-size in
+    let fresh = c.new-fresh.ensures in
+    let bytes = c.xor_all-bytes in
     let first : take size.result bytes.result ≡ xored start.args.pad (take (block_size h) start.args.block) =
     rw (size.ensures, bytes.ensures) (front_xored start.args.pad (block_size h) start.args.block)
     in (
@@ -33,5 +33,4 @@ returns c =
 
 pub padded_spec : {M : Type 1} → statement M
 padded_spec =
-    tie.close (tie.spec (λ c κs. search rules) (λ c κs. search rules) (λ c κs. search rules) (λ c. (front c.before).fits) (λ c. (front c.before.before).long)
-    (λ c κs. omega (arith, c.before.new.ensures.0, front c.before.before)) returns)
+    tie.close (tie.spec (λ c κs. search rules) (λ c κs. search rules) (λ c κs. search rules) (λ c. (front c.before).fits) (λ c. (front c.before.before).long) (λ c κs. omega (arith, c.new-fresh.ensures.0, front c.before.before)) returns)

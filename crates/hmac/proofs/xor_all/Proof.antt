@@ -11,25 +11,24 @@ use Rattle.hmac.proofs.KeyBlock.{xored_more, xored_all}
 use Rattle.hmac.proofs.xor_all.Statement.{statement}
 use Rattle.hmac.proofs.xor_all.Tie as tie
 
-abbrev invariant-loop : tie.invariant-loop
+abbrev invariant-loop : tie.invariant-loop-i
 invariant-loop x block out₀ i₀ out i = (i ≤ 128) × (out ≡ xored x (take i block) ++ drop i block)
 
-abbrev decreases-loop : tie.decreases-loop
+abbrev decreases-loop : tie.decreases-loop-i
 decreases-loop x block out₀ i₀ out i = 128 - i
 
-loop-again : tie.Need-loop-preserved invariant-loop decreases-loop
+loop-again : tie.Need-loop-i-preserved invariant-loop decreases-loop
 loop-again c =
     let start = c.before.before in
-    let loop = c.before.loop in
-    (omega arith, xored_more start.args.x start.args.t1 loop.out loop.i loop.invariant.1 (omega arith))
+    let loop = c.loop-i in
+    (omega arith, xored_more start.args.x start.args.block loop.out loop.i loop.invariant.1 (omega arith))
 
 returns : tie.Need-returns invariant-loop decreases-loop
 returns c =
     let start = c.before.before in
-    c.before.loop.invariant.1 ∙ xored_all start.args.x start.args.t1 c.before.loop.i (omega arith)
+    c.loop-i.invariant.1 ∙ xored_all start.args.x start.args.block c.loop-i.i (omega arith)
 
 pub xor_all_spec : {M : Type 1} → statement M
 unfolding xored
 xor_all_spec =
-    tie.close (tie.spec invariant-loop decreases-loop (λ c. (omega arith, refl)) (search rules) (search rules) (search rules)
-    (search rules) loop-again returns)
+    tie.close (tie.spec invariant-loop decreases-loop (λ c. (omega arith, refl)) (search rules) (search rules) (search rules) (search rules) loop-again returns)
