@@ -6,5 +6,4 @@ use Rattle.gcm.proofs.absorbed.Tie as tie
 
 pub absorbed_spec : {M : Type 1} → statement M
 absorbed_spec =
-    tie.close (tie.spec (search rules) (search rules) (search rules)
-    (λ c. simp (c.multiply.ensures, c.before.xor.ensures, c.before.before.filled.ensures)))
+    tie.close (tie.spec (search rules) (search rules) (search rules) (λ c. simp (c.multiply.ensures, c.xor.ensures, c.filled.ensures)))

@@ -14,19 +14,19 @@ use Rattle.gcm.proofs.Addition.{added_more}
 use Rattle.gcm.proofs.add.Statement.{statement}
 use Rattle.gcm.proofs.add.Tie as tie
 
-abbrev invariant-loop : tie.invariant-loop
+abbrev invariant-loop : tie.invariant-loop-i
 invariant-loop text stream out₀ i₀ out i =
     (i ≤ length text) × (length out ≡ length text) × (take i out ≡ added (take i text) stream)
 
-abbrev decreases-loop : tie.decreases-loop
+abbrev decreases-loop : tie.decreases-loop-i
 decreases-loop text stream out₀ i₀ out i = length text - i
 
-loop-again : tie.Need-loop-preserved invariant-loop decreases-loop
+loop-again : tie.Need-loop-i-preserved invariant-loop decreases-loop
 loop-again c =
     let start = c.before.before.before.before in
-    let i = c.before.before.before.loop.i in
-    let inv = c.before.before.before.loop.invariant in
-    let out = c.before.before.before.loop.out in (
+    let i = c.loop-i.i in
+    let inv = c.loop-i.invariant in
+    let out = c.loop-i.out in (
       omega arith,
       length-set out i _ ∙ inv.1,
       rw add-one
@@ -36,13 +36,12 @@ loop-again c =
 
 returns : tie.Need-returns invariant-loop decreases-loop
 returns c =
-    let text = c.before.before.args.text.now in
-    let i = c.before.loop.i in
-    sym (take_all i c.before.loop.out (omega arith)) ∙ c.before.loop.invariant.2
-    ∙ ap (λ (l : List ℕ). added l c.before.before.args.stream.now) (take_all i text (omega arith))
+    let text = c.args.text.now in
+    let i = c.loop-i.i in
+    sym (take_all i c.loop-i.out (omega arith)) ∙ c.loop-i.invariant.2
+    ∙ ap (λ (l : List ℕ). added l c.args.stream.now) (take_all i text (omega arith))
 
 pub add_spec : {M : Type 1} → statement M
 unfolding added
 add_spec =
-    tie.close (tie.spec invariant-loop decreases-loop (λ c. (omega arith, c.requires.1, refl)) (search rules) (search rules)
-    (search rules) (search rules) (search rules) loop-again (search rules) returns)
+    tie.close (tie.spec invariant-loop decreases-loop (λ c. (omega arith, c.requires.1, refl)) (search rules) (search rules) (search rules) (search rules) (search rules) loop-again (search rules) returns)

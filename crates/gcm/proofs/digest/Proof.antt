@@ -8,5 +8,4 @@ use Rattle.gcm.proofs.digest.Tie as tie
 
 pub digest_spec : {M : Type 1} → statement M
 digest_spec =
-    tie.close (tie.spec (search rules) (search rules) (search rules) (search rules)
-    (λ c. simp (c.multiply.ensures, c.before.xor.ensures, zero-add) (digested _ _ c.before.before.before.before.requires c.before.before.hash.ensures)))
+    tie.close (tie.spec (search rules) (search rules) (search rules) (search rules) (λ c. simp (c.multiply.ensures, c.xor.ensures, zero-add) (digested _ _ c.requires c.hash-y.ensures)))

@@ -12,32 +12,31 @@ use Rattle.gcm.proofs.Hashing.{hashed_more}
 use Rattle.gcm.proofs.hash.Statement.{statement}
 use Rattle.gcm.proofs.hash.Tie as tie
 
-abbrev invariant-loop : tie.invariant-loop
+abbrev invariant-loop : tie.invariant-loop-n
 invariant-loop h s m y₀ n₀ y n = (n ≤ m) × (whole y ≡ hashed (whole h) (padded s) n)
 
-abbrev decreases-loop : tie.decreases-loop
+abbrev decreases-loop : tie.decreases-loop-n
 decreases-loop h s m y₀ n₀ y n = m - n
 
-absorbed-requires : tie.Need-absorbed-requires invariant-loop decreases-loop
+absorbed-requires : tie.Need-absorbed-y-requires invariant-loop decreases-loop
 absorbed-requires c κs =
-    omega (arith, length_lent c.before.before.before.before.before.before.args.s.now (16 * c.before.before.before.loop.n) c.before.end.result c.before.end.ensures)
+    omega (arith, length_lent c.args.s.now (16 * c.loop-n.n) c.end-e.result c.end-e.ensures)
 
-loop-again : tie.Need-loop-preserved invariant-loop decreases-loop
+loop-again : tie.Need-loop-n-preserved invariant-loop decreases-loop
 loop-again c =
     let start = c.before.before.before.before.before.before.before in
-    let n = c.before.before.before.before.loop.n in (
+    let n = c.loop-n.n in (
       omega arith,
-      c.absorbed.ensures
-          ∙ hashed_more (whole start.args.h) start.args.s.now n c.before.before.end.result (omega arith) c.before.before.end.ensures c.before.before.before.before.loop.invariant.1,
+      c.absorbed-y.ensures
+          ∙ hashed_more (whole start.args.h) start.args.s.now n c.end-e.result (omega arith) c.end-e.ensures c.loop-n.invariant.1,
     )
 
 returns : tie.Need-returns invariant-loop decreases-loop
 returns c =
-    let e : c.before.loop.n ≡ c.before.before.count.result = omega arith in
-    c.before.loop.invariant.1 ∙ ap (hashed _ _) (e ∙ c.before.before.count.ensures)
+    let e : c.loop-n.n ≡ c.count-m.result = omega arith in
+    c.loop-n.invariant.1 ∙ ap (hashed _ _) (e ∙ c.count-m.ensures)
 
 pub hash_spec : {M : Type 1} → statement M
 unfolding hashed
 hash_spec =
-    tie.close (tie.spec invariant-loop decreases-loop (search rules) (λ c. (omega arith, refl)) (search rules) (search rules)
-    (search rules) (search rules) (search rules) absorbed-requires (search rules) (search rules) loop-again returns)
+    tie.close (tie.spec invariant-loop decreases-loop (search rules) (λ c. (omega arith, refl)) (search rules) (search rules) (search rules) (search rules) (search rules) absorbed-requires (search rules) (search rules) loop-again returns)

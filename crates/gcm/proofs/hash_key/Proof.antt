@@ -9,4 +9,4 @@ use Rattle.gcm.proofs.hash_key.Tie as tie
 pub hash_key_spec : {M : Type 1} → statement M
 unfolding hash_key
 hash_key_spec =
-    tie.close (tie.spec (search rules) (search rules) (search rules) (λ c key e. simp (c.loaded.ensures, c.before.before.encrypt.ensures, e, cipher_expanded)))
+    tie.close (tie.spec (search rules) (search rules) (search rules) (λ c key e. simp (c.loaded.ensures, c.encrypt-h.ensures, e, cipher_expanded)))

@@ -7,5 +7,4 @@ use Rattle.gcm.proofs.loaded.Tie as tie
 
 pub loaded_spec : {M : Type 1} → statement M
 loaded_spec =
-    tie.close (tie.spec (search rules) (search rules)
-    (λ c. simp (c.before.load64.ensures, c.load642.ensures) (number_parts _ 8 8 c.before.before.before.requires)))
+    tie.close (tie.spec (search rules) (search rules) (λ c. simp (c.load64.ensures, c.load64-2.ensures) (number_parts _ 8 8 c.requires)))

@@ -6,5 +6,4 @@ use Rattle.gcm.proofs.mask.Tie as tie
 
 pub mask_spec : {M : Type 1} → statement M
 mask_spec =
-    tie.close (tie.spec (search rules) (search rules) (search rules) (search rules) (search rules)
-    (λ c. simp (c.before.before.add.ensures, c.before.before.before.before.before.encrypt.ensures, c.before.before.before.before.before.before.bytes.ensures)))
+    tie.close (tie.spec (search rules) (search rules) (search rules) (search rules) (search rules) (λ c. simp (c.add.ensures, c.encrypt-stream.ensures, c.bytes.ensures)))

@@ -12,11 +12,11 @@ use Rattle.gcm.proofs.multiply.Tie as tie
 returns : tie.Need-returns
 unfolding product z_at v_at
 returns c =
-    let x = c.before.before.before.args.x in
-    let y = c.before.before.before.args.y in
+    let x = c.args.x in
+    let y = c.args.y in
     let below : x.low < 2 ^ 64 = search rules in
-    let p = c.before.before.half.ensures (whole x) (whole y) 0 (λ i h. bit_high x.high x.low i below h) (refl, refl) in
-    (c.before.half2.ensures (whole x) (whole y) 64 (λ i h. bit_low x.high x.low i below h) p).0
+    let p = c.half-s.ensures (whole x) (whole y) 0 (λ i h. bit_high x.high x.low i below h) (refl, refl) in
+    (c.half-t.ensures (whole x) (whole y) 64 (λ i h. bit_low x.high x.low i below h) p).0
 
 pub multiply_spec : {M : Type 1} → statement M
 multiply_spec = tie.close (tie.spec (search rules) (search rules) returns)

@@ -8,14 +8,13 @@ use Rattle.gcm.proofs.seal.Tie as tie
 returns : tie.Need-returns
 unfolding crypted sealed
 returns c =
-    let key = c.before.before.before.before.before.before.before.before.before.before.before.before.before.before.before.before.before.before.before.args.key.now in
-    let expands = c.before.before.before.before.before.before.before.before.before.before.before.before.before.expand.ensures in
-    let next = c.before.before.before.before.before.before.before.before.before.before.next.ensures in
-    let first = c.before.before.before.before.before.before.before.before.before.before.before.pre-counter.ensures in
-    let crypts = c.before.before.before.before.before.before.before.before.stream.ensures key expands in
-    (simp (crypts, next, first), simp (c.before.before.tag_of.ensures key expands, crypts, next, first))
+    let key = c.args.key.now in
+    let expands = c.expand-keys.ensures in
+    let next = c.next.ensures in
+    let first = c.pre_counter.ensures in
+    let crypts = c.stream.ensures key expands in
+    (simp (crypts, next, first), simp (c.tag_of.ensures key expands, crypts, next, first))
 
 pub seal_spec : {M : Type 1} → statement M
 seal_spec =
-    tie.close (tie.spec (search rules) (search rules) (search rules) (search rules) (search rules) (search rules)
-    (search rules) returns)
+    tie.close (tie.spec (search rules) (search rules) (search rules) (search rules) (search rules) (search rules) (search rules) returns)

@@ -18,45 +18,45 @@ use Rattle.gcm.proofs.Masking.{length_lent, length_added_lent, masked_more, mask
 use Rattle.gcm.proofs.stream.Statement.{statement}
 use Rattle.gcm.proofs.stream.Tie as tie
 
-abbrev invariant-loop : tie.invariant-loop
+abbrev invariant-loop : tie.invariant-loop-n
 invariant-loop keys text out₀ m counter₀ n₀ out counter n =
     (n ≤ m)
     × (length out ≡ length text)
     × (whole counter ≡ counter_at (whole counter₀) n)
     × ((key : List ℕ) → keys ≡ key_expansion key → take (min (16 * n) (length text)) out ≡ masked key (whole counter₀) text n)
 
-abbrev decreases-loop : tie.decreases-loop
+abbrev decreases-loop : tie.decreases-loop-n
 decreases-loop keys text out₀ m counter₀ n₀ out counter n = m - n
 
 mask-requires : tie.Need-mask-requires invariant-loop decreases-loop
 mask-requires c κs =
-    let text = c.before.before.before.before.before.before.before.before.args.text.now in
-    let out = c.before.before.before.before.loop.out in
-    let at = 16 * c.before.before.before.before.loop.n in
-    let e = c.before.before.end.result in
-    let ends = c.before.before.end.ensures in
-    let same : length out ≡ length text = c.before.before.before.before.loop.invariant.1 in
+    let text = c.args.text.now in
+    let out = c.loop-n.out in
+    let at = 16 * c.loop-n.n in
+    let e = c.end-e.result in
+    let ends = c.end-e.ensures in
+    let same : length out ≡ length text = c.loop-n.invariant.1 in
     (omega (arith, length_lent text at e ends), length_lent out at e (ends ∙ omega arith) ∙ sym (length_lent text at e ends))
 
-loop-again : tie.Need-loop-preserved invariant-loop decreases-loop
+loop-again : tie.Need-loop-n-preserved invariant-loop decreases-loop
 unfolding counter_at
 loop-again c =
     let start = c.before.before.before.before.before.before.before.before.before.before.before.before in
-    let loop = c.before.before.before.before.before.before.before.before.loop in
+    let loop = c.loop-n in
     let text = start.args.text.now in
     let keys = start.args.keys.now in
     let icb = whole start.args.first in
     let n = loop.n in
     let out = loop.out in
-    let e = c.before.before.before.before.before.before.end.result in
-    let ends = c.before.before.before.before.before.before.end.ensures in
+    let e = c.end-e.result in
+    let ends = c.end-e.ensures in
     let stream = cipher keys (bytes_of 16 (whole loop.counter)) in
     let x = added (take (e - 16 * n) (drop (16 * n) text)) stream in
     let size : length x ≡ e - 16 * n = length_added_lent text stream (16 * n) e ends (length_cipher keys _) in
-    let laid = lent out x (16 * n) e c.before.before.before.mask.ensures (sym size) in (
+    let laid = lent out x (16 * n) e c.mask.ensures (sym size) in (
       omega arith,
       ap length laid ∙ length_spliced out x (16 * n) (omega arith) ∙ loop.invariant.1,
-      rw add-one (c.next.ensures ∙ ap inc32 loop.invariant.2),
+      rw add-one (c.next-counter.ensures ∙ ap inc32 loop.invariant.2),
       λ key expands.
           ap (take (min (16 * (n + 1)) (length text))) laid
           ∙ masked_more key icb text n out x (omega arith) loop.invariant.1 (mask_expanded key text keys icb n e (whole loop.counter) expands loop.invariant.2 ends)
@@ -67,13 +67,11 @@ returns : tie.Need-returns invariant-loop decreases-loop
 returns c key e =
     let start = c.before.before.before.before.before in
     let text = start.args.text.now in
-    let last : c.before.loop.n ≡ c.before.before.count.result = omega arith in
-    masked_all key (whole start.args.first) text c.before.loop.n c.before.loop.out (last ∙ c.before.before.count.ensures)
-    c.before.loop.invariant.1 (c.before.loop.invariant.3 key e)
+    let last : c.loop-n.n ≡ c.count-m.result = omega arith in
+    masked_all key (whole start.args.first) text c.loop-n.n c.loop-n.out (last ∙ c.count-m.ensures)
+    c.loop-n.invariant.1 (c.loop-n.invariant.3 key e)
 
 pub stream_spec : {M : Type 1} → statement M
 unfolding counter_at masked
 stream_spec =
-    tie.close (tie.spec invariant-loop decreases-loop (search rules) (λ c. (omega arith, omega arith, refl, λ key e. rw zero-min))
-    (search rules) (search rules) (search rules) (search rules) (search rules) (search rules) (search rules)
-    (search rules) mask-requires (search rules) (search rules) (search rules) loop-again (search rules) returns)
+    tie.close (tie.spec invariant-loop decreases-loop (search rules) (λ c. (omega arith, omega arith, refl, λ key e. rw zero-min)) (search rules) (search rules) (search rules) (search rules) (search rules) (search rules) (search rules) (search rules) mask-requires (search rules) (search rules) (search rules) loop-again (search rules) returns)

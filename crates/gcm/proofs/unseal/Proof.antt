@@ -4,13 +4,12 @@ use mathlib.Core.Bool.{true, false}
 use mathlib.Core.List.{[]}
 use mathlib.Core.Path.{◌≡◌, sym, ap, ◌∙◌}
 use borrow.Author.Rules.{rules}
-use borrow.Author.Tests.{not-true, not-false}
 use Rattle.gcm.specs.Gcm.{crypted, tag_of, opened}
 use Rattle.cells.specs.Runs.{same}
 use Rattle.gcm.proofs.unseal.Statement.{statement}
 use Rattle.gcm.proofs.unseal.Tie as tie
 
-returns : tie.Need-returns
+returns : tie.Need-returns-then-not-same
 unfolding opened
 returns c =
     let start = c.before.before.before.before.before.before.before.before.before.before.before.before.before in
@@ -18,13 +17,13 @@ returns c =
     let iv = start.args.iv.now in
     let cipher = start.args.cipher.now in
     let tag = start.args.tag.now in
-    let right = c.before.before.before.before.tag_of.ensures key c.before.before.before.before.before.before.before.expand.ensures in
+    let right = c.tag_of.ensures key c.expand-keys.ensures in
     let wrong : same tag (tag_of key iv [] cipher) ≡ false =
-    sym (c.before.same.ensures ∙ ap (same tag) right) ∙ not-true c.before.same.result c.if1.true
+    sym (c.same.ensures ∙ ap (same tag) right) ∙ c.if-not-same.true
     in
     (rw wrong, rw wrong)
 
-returns-2 : tie.Need-returns-2
+returns-2 : tie.Need-returns
 unfolding crypted opened
 returns-2 c =
     let start = c.before.before.before.before.before.before.before.before.before.before.before.before.before.before.before.before.before.before.before.before in
@@ -32,14 +31,13 @@ returns-2 c =
     let iv = start.args.iv.now in
     let cipher = start.args.cipher.now in
     let tag = start.args.tag.now in
-    let expands = c.before.before.before.before.before.before.before.before.before.before.before.before.before.before.expand.ensures in
-    let right = c.before.before.before.before.before.before.before.before.before.before.before.tag_of.ensures key expands in
+    let expands = c.expand-keys.ensures in
+    let right = c.tag_of.ensures key expands in
     let found : same tag (tag_of key iv [] cipher) ≡ true =
-    sym (c.before.before.before.before.before.before.before.before.same.ensures ∙ ap (same tag) right) ∙ not-false c.before.before.before.before.before.before.before.before.same.result c.before.before.before.before.before.before.before.if1.false
+    sym (c.same.ensures ∙ ap (same tag) right) ∙ c.if-not-same.false
     in
-    (rw found, rw found (simp (c.before.before.stream.ensures key expands, c.before.before.before.before.next.ensures, c.before.before.before.before.before.pre-counter.ensures)))
+    (rw found, rw found (simp (c.stream.ensures key expands, c.next.ensures, c.pre_counter.ensures)))
 
 pub unseal_spec : {M : Type 1} → statement M
 unseal_spec =
-    tie.close (tie.spec (search rules) (search rules) (search rules) (search rules) (search rules) returns
-    (search rules) (search rules) (search rules) (search rules) returns-2)
+    tie.close (tie.spec (search rules) (search rules) (search rules) (search rules) (search rules) returns (search rules) (search rules) (search rules) (search rules) returns-2)

@@ -9,5 +9,5 @@ use Rattle.gcm.proofs.xor.Tie as tie
 pub xor_spec : {M : Type 1} → statement M
 xor_spec =
     tie.close (tie.spec (λ c.
-    let a = c.before.before.before.before.args in
+    let a = c.args in
     sym (xor_block 64 a.x.high a.y.high a.x.low a.y.low (search rules) (search rules))))
