@@ -8,6 +8,4 @@ use Rattle.logs.proofs.line.past_date.Tie as tie
 
 pub past_date_spec : {M : Type 1} → statement M
 past_date_spec =
-    tie.close (tie.spec (λ c κs. search rules) (λ c. date_none _ _ _ c.before.find.ensures c.if1.true)
-    (λ c. omega (arith, c.before.before.find.ensures.is)) (λ c. search rules) (λ c κs. omega (arith, c.before.before.find.ensures.within))
-    (λ c. date_past _ _ _ _ c.before.before.before.find.ensures (omega (arith, c.before.before.before.find.ensures.within)) c.past-space.ensures))
+    tie.close (tie.spec (λ c κs. search rules) (λ c. date_none _ _ _ c.find-end.ensures c.if-end-line.true) (λ c. omega (arith, c.find-end.ensures.is)) (λ c. search rules) (λ c κs. omega (arith, c.find-end.ensures.within)) (λ c. date_past _ _ _ _ c.find-end.ensures (omega (arith, c.find-end.ensures.within)) c.past_space.ensures))

@@ -7,6 +7,4 @@ use Rattle.logs.proofs.line.past_space.Tie as tie
 
 pub past_space_spec : {M : Type 1} → statement M
 past_space_spec =
-    tie.close (tie.spec (λ c. space_none _ c.before.args.good _ c.if1.true) (λ c. search rules) (λ c. search rules)
-    (λ c. space_there _ c.before.before.before.args.good _ (search rules) c.if2.true)
-    (λ c. space_missing _ c.before.before.before.args.good _ (search rules) c.if2.false))
+    tie.close (tie.spec (λ c. space_none _ c.args.good _ c.if-end-line.true) (λ c. search rules) (λ c. search rules) (λ c. space_there _ c.args.good _ (search rules) c.if-good-line.true) (λ c. space_missing _ c.args.good _ (search rules) c.if-good-line.false))

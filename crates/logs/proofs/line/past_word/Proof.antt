@@ -7,4 +7,4 @@ use Rattle.logs.proofs.line.past_word.Tie as tie
 
 pub past_word_spec : {M : Type 1} → statement M
 past_word_spec =
-    tie.close (tie.spec (λ c κs. search rules) (λ c κs. search rules) (λ c. word_past _ _ _ _ c.before.find.ensures c.past-space.ensures))
+    tie.close (tie.spec (λ c κs. search rules) (λ c κs. search rules) (λ c. word_past _ _ _ _ c.find-end.ensures c.past_space.ensures))

@@ -11,19 +11,18 @@ use Rattle.logs.specs.Line.{other}
 use Rattle.logs.proofs.search.all_other.Statement.{statement}
 use Rattle.logs.proofs.search.all_other.Tie as tie
 
-abbrev invariant-loop : tie.invariant-loop
+abbrev invariant-loop : tie.invariant-loop-i
 invariant-loop run b good₀ i₀ good i = all (other b) run ≡ (good && all (other b) (drop i run))
 
-abbrev decreases-loop : tie.decreases-loop
+abbrev decreases-loop : tie.decreases-loop-i
 decreases-loop run b good₀ i₀ good i = length run - i
 
-loop-again : tie.Need-loop-preserved invariant-loop decreases-loop
+loop-again : tie.Need-loop-i-preserved invariant-loop decreases-loop
 unfolding other
 loop-again c =
-    let turn = c.before.before.loop in
-    turn.invariant ∙ rw (all_from (other _) _ turn.i c.before.loop-test.true) (sym (and_assoc turn.good _ _))
+    let turn = c.loop-i in
+    turn.invariant ∙ rw (all_from (other _) _ turn.i c.loop-i-test.true) (sym (and_assoc turn.good _ _))
 
 pub all_other_spec : {M : Type 1} → statement M
 all_other_spec =
-    tie.close (tie.spec invariant-loop decreases-loop (λ c. refl) (λ c. search rules) (λ c. search rules) (λ c. search rules) loop-again
-    (λ c. sym (c.before.loop.invariant ∙ all_past (other _) _ c.before.loop.good c.before.loop.i c.loop-test.false)))
+    tie.close (tie.spec invariant-loop decreases-loop (λ c. refl) (λ c. search rules) (λ c. search rules) (λ c. search rules) loop-again (λ c. sym (c.loop-i.invariant ∙ all_past (other _) _ c.loop-i.good c.loop-i.i c.loop-i-test.false)))

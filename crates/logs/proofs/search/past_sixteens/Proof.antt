@@ -4,7 +4,6 @@ use mathlib.Core.Path.{sym, ◌∙◌}
 use Prim.Native.Nat.{◌+◌, ◌-◌}
 use native.Mathlib.Omega.{arith}
 use borrow.Author.Rules.{rules}
-use borrow.Author.Tests.{not-false}
 use lib.ListN.{length}
 use Rattle.cells.specs.Spans.{Passed}
 use Rattle.cells.proofs.Spans.{passed_none, passed_part}
@@ -12,20 +11,18 @@ use Rattle.logs.specs.Line.{other}
 use Rattle.logs.proofs.search.past_sixteens.Statement.{statement}
 use Rattle.logs.proofs.search.past_sixteens.Tie as tie
 
-abbrev invariant-loop : tie.invariant-loop
+abbrev invariant-loop : tie.invariant-loop-i
 invariant-loop run at b i₀ i = Passed (other b) run at i
 
-abbrev decreases-loop : tie.decreases-loop
+abbrev decreases-loop : tie.decreases-loop-i
 decreases-loop run at b i₀ i = length run - i
 
-loop-again : tie.Need-loop-preserved invariant-loop decreases-loop
+loop-again : tie.Need-loop-i-preserved invariant-loop decreases-loop
 loop-again c =
-    let turn = c.before.before.before.before.loop in
-    passed_part (other _) _ _ turn.i (turn.i + 16) turn.invariant (omega arith) (omega (arith, c.before.before.before.loop-test.true))
-    (sym c.before.all_other.ensures ∙ not-false _ c.if1.false)
+    let turn = c.loop-i in
+    passed_part (other _) _ _ turn.i (turn.i + 16) turn.invariant (omega arith) (omega (arith, c.loop-i-test.true))
+    (sym c.all_other.ensures ∙ c.if-not-all_other.false)
 
 pub past_sixteens_spec : {M : Type 1} → statement M
 past_sixteens_spec =
-    tie.close (tie.spec invariant-loop decreases-loop (λ c. passed_none (other _) _ _ c.before.requires) (λ c. search rules) (λ c. search rules) (λ c. search rules)
-    (λ c. search rules) (λ c. search rules) (λ c κs. search rules) (λ c. c.before.before.before.before.loop.invariant) (λ c. search rules)
-    (λ c. search rules) loop-again (λ c. c.before.loop.invariant))
+    tie.close (tie.spec invariant-loop decreases-loop (λ c. passed_none (other _) _ _ c.requires) (λ c. search rules) (λ c. search rules) (λ c. search rules) (λ c. search rules) (λ c. search rules) (λ c κs. search rules) (λ c. c.loop-i.invariant) (λ c. search rules) (λ c. search rules) loop-again (λ c. c.loop-i.invariant))

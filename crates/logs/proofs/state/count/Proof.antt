@@ -9,13 +9,13 @@ use Rattle.logs.proofs.Counting.{entry_within}
 use Rattle.logs.proofs.state.count.Statement.{statement}
 use Rattle.logs.proofs.state.count.Tie as tie
 
-add-counts : tie.Need-overflow-add-counts
-add-counts c = omega (arith, entry_within c.before.before.before.args.counts.now c.before.status.result)
+add-counts : tie.Need-overflow_add-counts
+add-counts c = omega (arith, entry_within c.args.counts.now c.status-s.result)
 
 returns : tie.Need-returns
 returns c =
-    let counts = c.before.before.before.args.counts.now in
-    ap (λ (n : ℕ). set counts n (get_or counts n 0 + 1)) c.before.status.ensures.0
+    let counts = c.args.counts.now in
+    ap (λ (n : ℕ). set counts n (get_or counts n 0 + 1)) c.status-s.ensures.0
 
 pub count_spec : {M : Type 1} → statement M
 count_spec =

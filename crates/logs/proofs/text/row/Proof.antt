@@ -14,18 +14,17 @@ returns c =
     let numbered = c.before.before.before.before.before.before.before in
     let spaced = numbered.before.before.before.before.before.before in
     let named = spaced.before.before.before.before.before in
-    let shown = named.before.before.before.digits in
+    let shown = named.digits-shown in
     let start = named.before.before.before.before.before.before in
     let a = start.args in
-    let first = named.put-at.ensures in
-    let second = spaced.put-at2.ensures in
-    let third = rw (shown_piece a.n shown.result shown.ensures) at numbered.put-at3.ensures in
-    let fourth = c.before.before.put-at4.ensures in
+    let first = named.put_at-after_name.ensures in
+    let second = spaced.put_at-number.ensures in
+    let third = rw (shown_piece a.n shown.result shown.ensures) at numbered.put_at-end.ensures in
+    let fourth = c.put_at.ensures in
     let digits = decimal_length 19 a.n (omega (arith, start.ranges.n)) in
-    let short : c.before.before.put-at4.result ≤ a.at + length a.name.now + 22 = omega (arith, digits, first.ends, second.ends, third.ends, fourth.ends) in
+    let short : c.put_at.result ≤ a.at + length a.name.now + 22 = omega (arith, digits, first.ends, second.ends, third.ends, fourth.ends) in
     (short, laid_row a.name.now a.n first second third fourth (omega (arith, start.requires)))
 
 pub row_spec : {M : Type 1} → statement M
 row_spec =
-    tie.close (tie.spec (λ c κs. search rules) (λ c κs. search rules) (λ c. search rules) (λ c κs. search rules) (λ c. search rules)
-    (λ c. search rules) (λ c. search rules) (λ c κs. search rules) (λ c. search rules) (λ c κs. search rules) (λ c. search rules) returns)
+    tie.close (tie.spec (λ c. search rules) (λ c. search rules) (λ c. search rules) (λ c. search rules) (λ c. search rules) (λ c. search rules) (λ c. search rules) (λ c. search rules) (λ c. search rules) returns)

@@ -11,25 +11,25 @@ use Rattle.logs.specs.Printed.{status_row}
 use Rattle.logs.proofs.text.status_row.Statement.{statement}
 use Rattle.logs.proofs.text.status_row.Tie as tie
 
-returns : tie.Need-returns
+returns : tie.Need-returns-then-n-eq0
 unfolding status_row
 returns c =
-    let a = c.before.before.args in
-    (omega arith, rw (eq-eqb a.n 0 c.if1.true) (laid_none a.out.now a.at))
+    let a = c.args in
+    (omega arith, rw (eq-eqb a.n 0 c.if-n-eq0.true) (laid_none a.out.now a.at))
 
 row-requires : tie.Need-row-requires
 row-requires c κs =
-    let shown = c.before.before.before.before.digits in
-    let s = c.before.before.before.before.before.before.before.args.s in
+    let shown = c.digits-shown in
+    let s = c.args.s in
     omega (arith, ap length (shown_piece s shown.result shown.ensures), decimal_length 2 s (omega arith))
 
-returns-2 : tie.Need-returns-2
+returns-2 : tie.Need-returns
 unfolding status_row
 returns-2 c =
-    let shown = c.before.before.before.before.before.before.before in
-    let a = shown.before.before.before.args in
-    let laid = rw (shown_piece a.s shown.digits.result shown.digits.ensures) at c.before.before.row.ensures in
-    (omega (arith, laid.0, decimal_length 2 a.s (omega arith)), rw (ne_eqb a.n 0 shown.before.if1.false) laid.1)
+    let shown = c.digits-shown in
+    let a = c.args in
+    let laid = rw (shown_piece a.s shown.result shown.ensures) at c.row.ensures in
+    (omega (arith, laid.0, decimal_length 2 a.s (omega arith)), rw (ne_eqb a.n 0 c.if-n-eq0.false) laid.1)
 
 pub status_row_spec : {M : Type 1} → statement M
 status_row_spec =

@@ -6,13 +6,13 @@ use Rattle.logs.proofs.States.{told_all, told_last}
 use Rattle.logs.proofs.state.State.finish.Statement.{statement}
 use Rattle.logs.proofs.state.State.finish.Tie as tie
 
-returns : tie.Need-returns
-returns c = (λ text h. told_all _ text c.before.if1.true h, omega arith)
+returns : tie.Need-returns-then-self-eq0
+returns c = (λ text h. told_all _ text c.if-self-eq0.true h, omega arith)
 
-returns-2 : tie.Need-returns-2
+returns-2 : tie.Need-returns
 returns-2 c =
-    let ended = c.before.end_line.ensures in
-    (λ text h. told_last _ c.before.end_line.result text (omega (arith, c.before.before.if1.false)) ended.0 ended.1 h, omega (arith, ended.0.most))
+    let ended = c.end_line-s.ensures in
+    (λ text h. told_last _ c.end_line-s.result text (omega (arith, c.if-self-eq0.false)) ended.0 ended.1 h, omega (arith, ended.0.most))
 
 pub finish_spec : {M : Type 1} → statement M
 finish_spec = tie.close (tie.spec returns (λ c κs. search rules) returns-2)

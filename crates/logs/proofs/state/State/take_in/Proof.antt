@@ -18,34 +18,34 @@ use Rattle.logs.proofs.States.{took_more}
 use Rattle.logs.proofs.state.State.take_in.Statement.{statement}
 use Rattle.logs.proofs.state.State.take_in.Tie as tie
 
-returns : tie.Need-returns
+returns : tie.Need-returns-then-end-part
 returns c =
-    let args = c.before.before.before.before.before.args in
+    let args = c.args in
     let part : List ℕ = args.part.now in
-    subst (λ (text : List ℕ). TookIn args.self text c.before.keep.result) (take_all c.before.before.before.find.result part (omega arith)) c.before.keep.ensures
+    subst (λ (text : List ℕ). TookIn args.self text c.keep-s.result) (take_all c.find-end.result part (omega arith)) c.keep-s.ensures
 
-end-line-requires : tie.Need-end-line-requires
+end-line-requires : tie.Need-end_line-t-requires
 end-line-requires c κs =
-    let find = c.before.before.before.find in
-    omega (arith, c.before.keep.ensures.most, length-take-le find.result c.before.before.before.before.before.args.part.now find.ensures.within)
+    let find = c.find-end in
+    omega (arith, c.keep-s.ensures.most, length-take-le find.result c.args.part.now find.ensures.within)
 
 whole-requires : tie.Need-whole-requires
 whole-requires c κs =
-    let part : List ℕ = c.before.before.before.before.before.before.before.args.part.now in
-    let find = c.before.before.before.before.before.find in
-    let ended = c.before.end_line.ensures in (
+    let part : List ℕ = c.args.part.now in
+    let find = c.find-end in
+    let ended = c.end_line-t.ensures in (
       ended.1,
-      rw (cut_rest part (find.result + 1)) (omega (arith, ended.0.most, c.before.before.before.keep.ensures.most, length-take-le find.result part find.ensures.within, length-drop (find.result + 1) part)),
+      rw (cut_rest part (find.result + 1)) (omega (arith, ended.0.most, c.keep-s.ensures.most, length-take-le find.result part find.ensures.within, length-drop (find.result + 1) part)),
     )
 
-returns-2 : tie.Need-returns-2
+returns-2 : tie.Need-returns
 returns-2 c =
-    let args = c.before.before.before.before.before.before.before.before.args in
+    let args = c.args in
     let part : List ℕ = args.part.now in
-    let find = c.before.before.before.before.before.before.find in
+    let find = c.find-end in
     let end = find.result in
-    let kept = c.before.before.before.before.keep in
-    let ended = c.before.before.end_line in
+    let kept = c.keep-s in
+    let ended = c.end_line-t in
     let more : end < length part = omega (arith, find.ensures.within) in
     subst (λ (text : List ℕ). TookIn args.self text c.whole.result)
     (ap (λ (text : List ℕ). text ++ drop (end + 1) part) (sym (rw (sub-zero end) at (next_line part 0 end find.ensures more))) ∙ take-append-drop (end + 1) part)
@@ -55,6 +55,4 @@ returns-2 c =
 
 pub take_in_spec : {M : Type 1} → statement M
 take_in_spec =
-    tie.close (tie.spec (λ c κs. search rules) (λ c. sym (length-take-le _ _ c.before.find.ensures.within))
-    (λ c κs. rw (sub-zero c.before.find.result) at (span_all (other LF) _ 0 _ c.before.find.ensures)) returns end-line-requires (λ c. search rules)
-    (λ c. search rules) (λ c. search rules) (λ c. search rules) whole-requires returns-2)
+    tie.close (tie.spec (λ c κs. search rules) (λ c. sym (length-take-le _ _ c.find-end.ensures.within)) (λ c κs. rw (sub-zero c.find-end.result) at (span_all (other LF) _ 0 _ c.find-end.ensures)) returns end-line-requires (λ c. search rules) (λ c. search rules) (λ c. search rules) (λ c. search rules) whole-requires returns-2)

@@ -16,8 +16,8 @@ use Rattle.logs.proofs.state.State.whole.Tie as tie
 
 keep-requires : tie.Need-keep-requires
 keep-requires c κs =
-    let part : List ℕ = c.before.before.before.before.before.before.args.part.now in
-    let lines = c.before.count-lines in
+    let part : List ℕ = c.args.part.now in
+    let lines = c.count_lines-at in
     ap (all (other LF)) (cut_rest part lines.result) ∙ lines.ensures.unended
 
 returns : tie.Need-returns
@@ -25,7 +25,7 @@ returns c =
     let start = c.before.before.before.before.before.before.before in
     let self = start.args.self in
     let part : List ℕ = start.args.part.now in
-    let lines = c.before.before.count-lines in
+    let lines = c.count_lines-at in
     let at = lines.result in
     subst (λ (text : List ℕ). TookIn self text c.keep.result) (take-append-drop at part)
     (took_more self _ c.keep.result (take at part) (drop at part) (took_lines self _ part at start.requires.0 start.requires.0 lines.ensures)
