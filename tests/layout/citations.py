@@ -10,7 +10,7 @@ PAGES = [ROOT / "README.md", *sorted((ROOT / "docs").rglob("*.md"))]
 CRATES = {path.name for path in (ROOT / "crates").iterdir()}
 
 PATH = re.compile(r"\b(?:crates|tests|docs|include|examples)(?:/[A-Za-z0-9_.-]+)+")
-EDIT = re.compile(r"(?<![/\w])([a-z0-9]+)/([a-z0-9_]+)(?![/\w.])")
+EDIT = re.compile(r"(?<![/\w])([a-z0-9_]+)/([a-z0-9_]+)(?![/\w.])")
 NAMES = re.compile(r"([\w/]+\.antt): ((?:`[^`]+`(?:, )?)+)")
 
 

@@ -17,12 +17,14 @@ THEOREMS = [
     "crates/signatures/proofs/Alike.antt",
     "crates/carrier/proofs/Theorems.antt",
 ]
-USE = re.compile(r"^(?:ghost )?use Rattle·(\w+)(?:·specs)?\.specs\.([\w.-]+?)(?: as (\w+))?(?:\.\{([^}]*)\})?;?$", re.M)
+# today's libraries are trusted as a whole, as the checker is
+LIBRARY = {"std", "core"}
+USE = re.compile(r"^(?:ghost )?use Rattle\.(\w+)\.specs\.([\w.-]+?)(?: as (\w+))?(?:\.\{([^}]*)\})?;?$", re.M)
 
 
 def spec_file(crate, module):
     """The file of a spec module, or None for what is declared in code."""
-    if module.startswith("declared"):
+    if crate in LIBRARY or module.startswith("declared"):
         return None
     return CRATES / crate / "specs" / (module.split(".")[0] + ".antt")
 
