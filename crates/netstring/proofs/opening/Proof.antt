@@ -7,11 +7,11 @@ use Rattle.netstring.proofs.opening.Tie as tie
 
 returns : tie.Need-returns
 returns c =
-    let shown = c.before.before.before.before.before.digits in
+    let shown = c.digits-shown in
     record {
       whole = search rules;
       within = shown.ensures.within;
-      is = opened _ shown.result shown.ensures c.before.put_front.ensures;
+      is = opened _ shown.result shown.ensures c.put_front.ensures;
     }
 
 pub opening_spec : {M : Type 1} → statement M

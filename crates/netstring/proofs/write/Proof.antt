@@ -14,24 +14,24 @@ use Rattle.netstring.proofs.write.Statement.{statement}
 use Rattle.netstring.proofs.write.Tie as tie
 
 -- the pieces have room
-room : (c : tie.After-put-at-arg2)
-    → let start = c.before.before.before.before.before.before.before in
-    let made = c.before.before.before.before.opening.result in
+room : (c : tie.After-put_at-arg-2-1)
+    → let start = c.before.before.before.before.before.before in
+    let made = c.opening-open.result in
     start.args.at + length (take (21 - made.start) (drop made.start made.all)) + length start.args.part.now + 1 ≤ length start.args.out.now
 room c =
-    let start = c.before.before.before.before.before.before.before in
-    let made = c.before.before.before.before.opening in
+    let start = c.before.before.before.before.before.before in
+    let made = c.opening-open in
     omega (arith, start.requires, length_pieces start.args.part.now (opening_piece _ made.result made.ensures))
 
 returns : tie.Need-returns
 returns c =
-    let sent = c.before.before.before.before.before.before.before.before.before.before.before.before in
-    let start = sent.before.before.before.before.before.before.before in
-    let made = sent.before.before.before.before.opening in
+    let sent = c.before.before.before.before.before.before.before.before.before.before.before.before.before in
+    let start = sent.before.before.before.before.before.before in
+    let made = sent.opening-open in
     let part = start.args.part.now in
-    let first = c.before.before.before.before.before.before.before.before.before.before.before.put-at.ensures in
-    let second = c.before.before.before.before.before.before.before.put-at2.ensures in
-    let third = c.before.before.put-at3.ensures in
+    let first = c.put_at-contents.ensures in
+    let second = c.put_at-end.ensures in
+    let third = c.put_at.ensures in
     let h = room sent in
     subst (Laid _ _ _ _) (ap (λ (l : List ℕ). (l ++ part) ++ (comma ∷ [])) (opening_piece _ made.result made.ensures) ∙ netstring_pieces part)
     (laid_more (laid_more first second (omega arith)) third (omega arith))
@@ -40,6 +40,5 @@ pub write_spec : {M : Type 1} → statement M
 write_spec =
     tie.close (tie.spec (λ c κs. search rules) (λ c. search rules) (λ c. search rules) (λ c. search rules) (λ c κs. omega (arith, room c))
     (λ c κs. omega (arith, room c.before.before.before.before))
-    (λ c. search rules)
-    (λ c κs. omega (arith, room c.before.before.before.before.before.before.before.before.before))
+    (λ c κs. omega (arith, room c.before.before.before.before.before.before.before.before.before.before))
     (λ c. search rules) returns)

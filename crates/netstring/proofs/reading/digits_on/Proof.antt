@@ -9,27 +9,18 @@ use Rattle.netstring.proofs.Scanned.{found, no_digit, too_large, run_ended, one_
 use Rattle.netstring.proofs.reading.digits_on.Statement.{statement}
 use Rattle.netstring.proofs.reading.digits_on.Tie as tie
 
-abbrev invariant-loop : tie.invariant-loop
+abbrev invariant-loop : tie.invariant-loop-i
 invariant-loop run at first value₀ i₀ value i = ReadSo run at i value
 
-abbrev decreases-loop : tie.decreases-loop
+abbrev decreases-loop : tie.decreases-loop-i
 decreases-loop run at first value₀ i₀ value i = length run - i
 
-loop-again : tie.Need-loop-preserved invariant-loop decreases-loop
+loop-again : tie.Need-loop-i-preserved invariant-loop decreases-loop
 loop-again c =
-    one_more _ _ _ _ c.before.before.before.before.before.before.loop.invariant c.before.before.before.before.before.loop-test.true
-    c.before.before.if2.false
-    c.before.if3.false
+    one_more _ _ _ _ c.loop-i.invariant c.loop-i-test.true
+    c.if-b-lt48.false
+    c.if-b-gt57.false
 
 pub digits_on_spec : {M : Type 1} → statement M
 digits_on_spec =
-    tie.close (tie.spec invariant-loop decreases-loop (λ c. search rules) (λ c. c.requires) (λ c. search rules)
-    (λ c. found _ _ _ _ c.before.before.before.loop.invariant c.before.before.loop-test.true c.if1.true)
-    (λ c. no_digit _ _ _ _ c.before.before.before.before.loop.invariant c.before.if1.false (λ low high. omega (arith, c.if2.true)))
-    (λ c. no_digit _ _ _ _ c.before.before.before.before.before.loop.invariant c.before.before.if1.false (λ low high. omega (arith, c.if3.true)))
-    (λ c. too_large _ _ _ _ c.before.before.before.before.before.before.loop.invariant c.before.before.before.if1.false c.if4.true)
-    (λ c. search rules)
-    (λ c. omega (arith, c.before.before.before.before.shared-slice-known.given c.before.before.before.before.before.before.loop.i))
-    (λ c. omega (arith, c.before.before.before.before.shared-slice-known.given c.before.before.before.before.before.before.loop.i))
-    (λ c. search rules) (λ c. search rules) loop-again
-    (λ c. run_ended _ _ _ _ c.before.loop.invariant c.loop-test.false))
+    tie.close (tie.spec invariant-loop decreases-loop (λ c. search rules) (λ c. c.requires) (λ c. search rules) (λ c. found _ _ _ _ c.loop-i.invariant c.loop-i-test.true c.if-b-eq58.true) (λ c. no_digit _ _ _ _ c.loop-i.invariant c.if-b-eq58.false (λ low high. omega (arith, c.if-b-lt48.true))) (λ c. no_digit _ _ _ _ c.loop-i.invariant c.if-b-eq58.false (λ low high. omega (arith, c.if-b-gt57.true))) (λ c. too_large _ _ _ _ c.loop-i.invariant c.if-b-eq58.false c.if-run-value.true) (λ c. search rules) (λ c. omega (arith, c.shared_slice_known-1.given c.loop-i.i)) (λ c. omega (arith, c.shared_slice_known-1.given c.loop-i.i)) (λ c. search rules) (λ c. search rules) loop-again (λ c. run_ended _ _ _ _ c.loop-i.invariant c.loop-i-test.false))
