@@ -12,15 +12,12 @@ use Rattle.cells.proofs.Spans.{passed_none, passed_more, passed_stop, passed_end
 use Rattle.names.proofs.name_end.Statement.{statement}
 use Rattle.names.proofs.name_end.Tie as tie
 
-abbrev invariant-loop : tie.invariant-loop
+abbrev invariant-loop : tie.invariant-loop-i
 invariant-loop run at i₀ i = Passed no_comma run at i
 
-abbrev decreases-loop : tie.decreases-loop
+abbrev decreases-loop : tie.decreases-loop-i
 decreases-loop run at i₀ i = length run - i
 
 pub name_end_spec : {M : Type 1} → statement M
 name_end_spec =
-    tie.close (tie.spec invariant-loop decreases-loop (λ c. passed_none no_comma _ _ c.requires) (λ c. search rules)
-    (λ c. passed_stop no_comma _ _ _ c.before.before.before.loop.invariant (search rules) (ap not (eq-eqb _ _ c.if1.true))) (λ c. search rules)
-    (λ c. search rules) (λ c. passed_more no_comma _ _ _ c.before.before.before.loop.invariant (search rules) (ap not (ne_eqb _ _ c.if1.false)))
-    (λ c. passed_end no_comma _ _ _ c.before.loop.invariant c.loop-test.false))
+    tie.close (tie.spec invariant-loop decreases-loop (λ c. passed_none no_comma _ _ c.requires) (λ c. search rules) (λ c. passed_stop no_comma _ _ _ c.loop-i.invariant (search rules) (ap not (eq-eqb _ _ c.if-run-i-eq44.true))) (λ c. search rules) (λ c. search rules) (λ c. passed_more no_comma _ _ _ c.loop-i.invariant (search rules) (ap not (ne_eqb _ _ c.if-run-i-eq44.false))) (λ c. passed_end no_comma _ _ _ c.loop-i.invariant c.loop-i-test.false))

@@ -12,35 +12,34 @@ use Rattle.names.proofs.Walk.{Reached, reached_first, reached_end, chosen_set, c
 use Rattle.names.proofs.next_name.Statement.{statement}
 use Rattle.names.proofs.next_name.Tie as tie
 
-abbrev invariant-loop : tie.invariant-loop
+abbrev invariant-loop : tie.invariant-loop-place
 invariant-loop run wanted at left₀ place₀ left place = (at ≤ place) × Reached (chosen wanted (names_from run at)) (chosen left) run place
 
-abbrev decreases-loop : tie.decreases-loop
+abbrev decreases-loop : tie.decreases-loop-place
 decreases-loop run wanted at left₀ place₀ left place = length run + 1 - place
 
-returns : tie.Need-returns invariant-loop decreases-loop
+returns : tie.Need-returns-then-wanted-eq0 invariant-loop decreases-loop
 returns c =
-    let a = c.before.before.args in
-    ap (λ (bits : ℕ). chosen bits (names_from a.run.now a.at)) c.if1.true ∙ chosen_none (names_from a.run.now a.at)
+    let a = c.args in
+    ap (λ (bits : ℕ). chosen bits (names_from a.run.now a.at)) c.if-wanted-eq0.true ∙ chosen_none (names_from a.run.now a.at)
 
-returns-2 : tie.Need-returns-2 invariant-loop decreases-loop
+returns-2 : tie.Need-returns-then-left-eq1 invariant-loop decreases-loop
 returns-2 c =
-    let inv = c.before.before.before.loop.invariant in
-    let ends = c.before.name-end.ensures in
+    let inv = c.loop-place.invariant in
+    let ends = c.name_end-end.ensures in
     record {
       from = inv.0;
       ends = ends;
-      names = reached_first inv.1 (search rules) ends ∙ chosen_set _ _ _ (eq-eqb _ _ c.if2.true);
+      names = reached_first inv.1 (search rules) ends ∙ chosen_set _ _ _ (eq-eqb _ _ c.if-left-eq1.true);
     }
 
-loop-again : tie.Need-loop-preserved invariant-loop decreases-loop
+loop-again : tie.Need-loop-place-preserved invariant-loop decreases-loop
 loop-again c =
-    let ends = c.before.name-end.ensures in (
+    let ends = c.name_end-end.ensures in (
       omega (arith, ends.is),
-      record { is = reached_first c.before.before.before.loop.invariant.1 (search rules) ends ∙ chosen_clear _ _ _ (ne_eqb _ _ c.if2.false) },
+      record { is = reached_first c.loop-place.invariant.1 (search rules) ends ∙ chosen_clear _ _ _ (ne_eqb _ _ c.if-left-eq1.false) },
     )
 
 pub next_name_spec : {M : Type 1} → statement M
 next_name_spec =
-    tie.close (tie.spec invariant-loop decreases-loop returns (λ c. (omega arith, record { is = refl })) (λ c κs. search rules) returns-2 (λ c. search rules)
-    (λ c. search rules) loop-again (λ c. reached_end c.before.loop.invariant.1 (search rules) ∙ chosen_end _))
+    tie.close (tie.spec invariant-loop decreases-loop returns (λ c. (omega arith, record { is = refl })) (λ c κs. search rules) returns-2 (λ c. search rules) (λ c. search rules) loop-again (λ c. reached_end c.loop-place.invariant.1 (search rules) ∙ chosen_end _))

@@ -8,11 +8,11 @@ use Rattle.names.proofs.Sizes.{few_names}
 use Rattle.names.proofs.extra.extra_bits.Statement.{statement}
 use Rattle.names.proofs.extra.extra_bits.Tie as tie
 
-returns-2 : tie.Need-returns-2
+returns-2 : tie.Need-returns
 returns-2 c =
-    let extra = c.before.args.extra.now in
-    ap (chosen 255) (names_start extra ∙ sym (extra_some extra c.if1.false))
-    ∙ chosen_all 8 (extra_names extra) (few_names extra c.before.requires)
+    let extra = c.args.extra.now in
+    ap (chosen 255) (names_start extra ∙ sym (extra_some extra c.if-extra-eq0.false))
+    ∙ chosen_all 8 (extra_names extra) (few_names extra c.requires)
 
 pub extra_bits_spec : {M : Type 1} → statement M
-extra_bits_spec = tie.close (tie.spec (λ c. chosen_none _ ∙ sym (extra_none c.before.args.extra.now c.if1.true)) returns-2)
+extra_bits_spec = tie.close (tie.spec (λ c. chosen_none _ ∙ sym (extra_none c.args.extra.now c.if-extra-eq0.true)) returns-2)

@@ -1,9 +1,7 @@
 -- `good_names` meets its contract: all names are good exactly if those from at on are.
 -- Assumes nothing.
 use borrow.Author.Rules.{rules}
-use borrow.Author.Tests.{not-true, not-false}
 use mathlib.Core.Path.{sym, ap, ◌∙◌}
-use mathlib.Core.Bool.{not, ◌&&◌}
 use Prim.Native.Nat.{◌+◌, ◌-◌}
 use lib.ListN.{length}
 use Rattle.names.specs.Extra.{names_in, good_names}
@@ -11,39 +9,37 @@ use Rattle.names.proofs.Walk.{names_start, Reached, reached_first, reached_end}
 use Rattle.names.proofs.extra.good_names.Statement.{statement}
 use Rattle.names.proofs.extra.good_names.Tie as tie
 
-abbrev invariant-loop : tie.invariant-loop
+abbrev invariant-loop : tie.invariant-loop-at
 invariant-loop known extra at₀ at = Reached (good_names (names_in extra)) good_names extra at
 
-abbrev decreases-loop : tie.decreases-loop
+abbrev decreases-loop : tie.decreases-loop-at
 decreases-loop known extra at₀ at = length extra + 1 - at
 
-returns : tie.Need-returns invariant-loop decreases-loop
+returns : tie.Need-returns-then-not-is_allowed-has_name invariant-loop decreases-loop
 unfolding good_names
 returns c =
     let ended = c.before.before.before.before in
-    let allows = c.before.before.is-allowed in
-    let again = c.before.has-name in
+    let allows = c.is_allowed in
+    let again = c.has_name in
     sym
-    (reached_first ended.before.before.loop.invariant (search rules) ended.name-end.ensures
-    ∙ simp (← allows.ensures, ← again.ensures, not-true (allows.result && not again.result) c.if1.true))
+    (reached_first ended.loop-at.invariant (search rules) ended.name_end-end.ensures
+    ∙ simp (← allows.ensures, ← again.ensures, c.if-not-is_allowed-has_name.true))
 
-loop-again : tie.Need-loop-preserved invariant-loop decreases-loop
+loop-again : tie.Need-loop-at-preserved invariant-loop decreases-loop
 unfolding good_names
 loop-again c =
     let ended = c.before.before.before.before in
-    let allows = c.before.before.is-allowed in
-    let again = c.before.has-name in
+    let allows = c.is_allowed in
+    let again = c.has_name in
     record {
-      is = reached_first ended.before.before.loop.invariant (search rules) ended.name-end.ensures
-          ∙ simp (← allows.ensures, ← again.ensures, not-false (allows.result && not again.result) c.if1.false);
+      is = reached_first ended.loop-at.invariant (search rules) ended.name_end-end.ensures
+          ∙ simp (← allows.ensures, ← again.ensures, c.if-not-is_allowed-has_name.false);
     }
 
-returns-2 : tie.Need-returns-2 invariant-loop decreases-loop
+returns-2 : tie.Need-returns invariant-loop decreases-loop
 unfolding good_names
-returns-2 c = sym (reached_end c.before.loop.invariant (search rules))
+returns-2 c = sym (reached_end c.loop-at.invariant (search rules))
 
 pub good_names_spec : {M : Type 1} → statement M
 good_names_spec =
-    tie.close (tie.spec invariant-loop decreases-loop (λ c. record { is = ap good_names (sym (names_start _)) }) (λ c κs. search rules) (λ c. search rules)
-    (λ c. search rules) (λ c. search rules) (λ c κs. search rules) (λ c. search rules) (λ c κs. search rules) returns (λ c. search rules)
-    (λ c. search rules) loop-again returns-2)
+    tie.close (tie.spec invariant-loop decreases-loop (λ c. record { is = ap good_names (sym (names_start _)) }) (λ c κs. search rules) (λ c. search rules) (λ c. search rules) (λ c. search rules) (λ c κs. search rules) (λ c. search rules) (λ c κs. search rules) returns (λ c. search rules) (λ c. search rules) loop-again returns-2)

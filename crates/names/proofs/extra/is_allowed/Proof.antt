@@ -12,7 +12,7 @@ returns : tie.Need-returns
 unfolding allowed armor_name codes
 returns c =
     let told = c.before.before.before in
-    simp (told.is-token.ensures, c.before.before.has-name.ensures, names_start, told.before.before.before.requires, c.is_same_name.ensures)
+    simp (told.is_token.ensures, c.has_name.ensures, names_start, told.requires, c.same_name.ensures)
 
 pub is_allowed_spec : {M : Type 1} → statement M
-is_allowed_spec = tie.close (tie.spec (λ c κs. search rules) (λ c κs. search rules) (λ c. search rules) (λ c κs. search rules) returns)
+is_allowed_spec = tie.close (tie.spec (λ c. search rules) (λ c. search rules) (λ c. search rules) returns)

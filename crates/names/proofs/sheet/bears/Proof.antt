@@ -6,15 +6,14 @@ use Rattle.names.proofs.Starts.{known_start, known_named, extra_start, extra_nam
 use Rattle.names.proofs.sheet.bears.Statement.{statement}
 use Rattle.names.proofs.sheet.bears.Tie as tie
 
-returns : tie.Need-returns
-returns c = c.stands.ensures ∙ ap (same_name _) (sym (known_named _ _ _ c.before.if1.true))
+returns : tie.Need-returns-then-start-lt1024
+returns c = c.stands.ensures ∙ ap (same_name _) (sym (known_named _ _ _ c.if-start-lt1024.true))
 
-returns-2 : tie.Need-returns-2
+returns-2 : tie.Need-returns
 returns-2 c =
-    c.stands2.ensures
-    ∙ ap (same_name _) (sym (extra_named _ _ _ c.before.if1.false c.before.before.before.before.before.requires))
+    c.stands-2.ensures
+    ∙ ap (same_name _) (sym (extra_named _ _ _ c.if-start-lt1024.false c.requires))
 
 pub bears_spec : {M : Type 1} → statement M
 bears_spec =
-    tie.close (tie.spec (λ c κs. known_start _ _ _ c.if1.true c.before.before.before.before.requires) returns
-    (λ c κs. extra_start _ _ _ c.if1.false c.before.before.before.before.requires) returns-2)
+    tie.close (tie.spec (λ c κs. known_start _ _ _ c.if-start-lt1024.true c.requires) returns (λ c κs. extra_start _ _ _ c.if-start-lt1024.false c.requires) returns-2)

@@ -10,10 +10,10 @@ use Rattle.names.proofs.Filled.{filled_size, filled}
 use Rattle.names.proofs.sheet.fill.Statement.{statement}
 use Rattle.names.proofs.sheet.fill.Tie as tie
 
-enter-requires : tie.Need-enter-requires
+enter-requires : tie.Need-enter-count-requires
 enter-requires c κs =
-    let a = c.before.before.before.before.args in
-    let pre = c.before.before.before.before.requires in
+    let a = c.args in
+    let pre = c.requires in
     let few = names_few a.mask a.extra.now pre.1 in (
       omega (arith, known_size _ pre.0),
       omega arith,
@@ -21,25 +21,25 @@ enter-requires c κs =
       omega (arith, filled_size a.known.now a.mask a.extra.now pre.0 pre.1),
     )
 
-enter-requires-2 : tie.Need-enter-requires-2
+enter-requires-2 : tie.Need-enter-requires
 enter-requires-2 c κs =
-    let a = c.before.before.before.before.before.before.before.before.before.args in
-    let pre = c.before.before.before.before.before.before.before.before.before.requires in
+    let a = c.args in
+    let pre = c.requires in
     let size : length a.sheet.now ≡ 192 = ap length pre.2 in
     let few = names_few a.mask a.extra.now pre.1 in (
       omega (arith, short_extra _ pre.1),
       omega arith,
       search rules,
-      omega (arith, ap length c.before.extra-bits.ensures, filled_size a.known.now a.mask a.extra.now pre.0 pre.1),
+      omega (arith, ap length c.extra_bits.ensures, filled_size a.known.now a.mask a.extra.now pre.0 pre.1),
     )
 
 returns : tie.Need-returns
 returns c =
-    let a = c.before.before.before.before.before.before.before.before.before.before.before.before.args in
-    let pre = c.before.before.before.before.before.before.before.before.before.before.before.before.requires in
-    let enter = c.before.before.before.before.before.before.before.enter.ensures in
-    let all = c.before.before.before.before.extra-bits.ensures in (
-      filled _ _ _ pre.0 pre.1 _ _ (rw pre.2 at enter.1) enter.0 all c.before.before.enter2.ensures.1,
+    let a = c.args in
+    let pre = c.requires in
+    let enter = c.enter-count.ensures in
+    let all = c.extra_bits.ensures in (
+      filled _ _ _ pre.0 pre.1 _ _ (rw pre.2 at enter.1) enter.0 all c.enter.ensures.1,
       omega (arith, ap length all, filled_size a.known.now a.mask a.extra.now pre.0 pre.1),
     )
 

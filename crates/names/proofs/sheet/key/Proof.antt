@@ -21,12 +21,11 @@ unfolding key_of
 some_bytes [] h = absurd (h refl)
 some_bytes (b ∷ bs) h = omega arith
 
-returns-2 : tie.Need-returns-2
+returns-2 : tie.Need-returns
 returns-2 c =
-    let name = c.before.before.before.before.args.name.now in
-    (rw c.lowered.ensures (some_bytes name c.before.before.if1.false), omega arith)
+    let name = c.args.name.now in
+    (rw c.lowered.ensures (some_bytes name c.if-name-eq0.false), omega arith)
 
 pub key_spec : {M : Type 1} → statement M
 key_spec =
-    tie.close (tie.spec (λ c. (no_bytes _ c.if1.true, omega arith)) (λ c. search rules) (λ c κs. search rules) (λ c. search rules)
-    (λ c. search rules) (λ c. search rules) returns-2)
+    tie.close (tie.spec (λ c. (no_bytes _ c.if-name-eq0.true, omega arith)) (λ c. search rules) (λ c κs. search rules) (λ c. search rules) (λ c. search rules) (λ c. search rules) returns-2)

@@ -11,9 +11,8 @@ returns : tie.Need-returns
 unfolding is_list
 returns c =
     let told = c.before.before.before in
-    simp (c.has-name.ensures, names_start, told.list-names.ensures, name_cut _ _ _ told.before.name-end.ensures)
+    simp (c.has_name.ensures, names_start, told.list_names.ensures, name_cut _ _ _ told.name_end-end.ensures)
 
 pub lists_spec : {M : Type 1} → statement M
 lists_spec =
-    tie.close (tie.spec (λ c κs. search rules) (λ c κs. search rules) (λ c. search rules) (λ c. search rules) (λ c. search rules)
-    (λ c. search rules) (λ c κs. search rules) returns)
+    tie.close (tie.spec (λ c κs. search rules) (λ c κs. search rules) (λ c. search rules) (λ c. search rules) (λ c. search rules) (λ c. search rules) (λ c κs. search rules) returns)

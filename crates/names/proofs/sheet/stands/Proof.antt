@@ -8,7 +8,7 @@ use Rattle.names.proofs.sheet.stands.Statement.{statement}
 use Rattle.names.proofs.sheet.stands.Tie as tie
 
 returns : tie.Need-returns
-returns c = c.is_same_name.ensures ∙ ap (same_name _) (name_cut _ _ _ c.before.before.name-end.ensures)
+returns c = c.same_name.ensures ∙ ap (same_name _) (name_cut _ _ _ c.name_end-end.ensures)
 
 pub stands_spec : {M : Type 1} → statement M
 stands_spec =

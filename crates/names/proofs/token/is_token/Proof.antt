@@ -12,7 +12,7 @@ use Rattle.names.proofs.token.is_token.Tie as tie
 returns : tie.Need-returns
 unfolding is_token
 returns c =
-    let ends : c.token-end.result ≡ leading token_byte c.before.before.args.name.now = omega (arith, c.token-end.ensures.is) in
+    let ends : c.token_end.result ≡ leading token_byte c.args.name.now = omega (arith, c.token_end.ensures.is) in
     simp (ends, all_test)
 
 pub is_token_spec : {M : Type 1} → statement M
