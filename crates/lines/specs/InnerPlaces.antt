@@ -60,14 +60,14 @@ own_values (l ∷ ls) = trimmed l.value ∷ values_in ls l.name
 abbrev pub front_at : List ℕ → ℕ → List ℕ
 front_at block at = front_value (lines_in (drop at block))
 
-abbrev pub field_own : List ℕ → ℕ → List (List ℕ)
-field_own block at = own_values (lines_in (drop at block))
+abbrev pub own_at : List ℕ → ℕ → List (List ℕ)
+own_at block at = own_values (lines_in (drop at block))
 
 -- these are the values of the line that is found, and of those after it that bear its name
 pub record FoundAt (block : List ℕ) (values : List (List ℕ)) (at place : ℕ) : Type 0 where
   pub from : at ≤ place
   pub stands : Stands block place
-  pub are : values ≡ field_own block place
+  pub are : values ≡ own_at block place
 
 abbrev pub Finds : List ℕ → List (List ℕ) → ℕ → Found → Type 0
 Finds block values at (At place) = FoundAt block values at place
@@ -80,5 +80,5 @@ FoundIs block at name r = Finds block (values_in (lines_in (drop at block)) name
 -- r is the first line after the one at index at that bears its name
 pub record AgainIs (block : List ℕ) (at : ℕ) (r : Found) : Type 0 where
   pub others : List (List ℕ)
-  pub are : field_own block at ≡ front_at block at ∷ others
+  pub are : own_at block at ≡ front_at block at ∷ others
   pub found : Finds block others (at + 1) r

@@ -15,19 +15,19 @@ use Rattle.lines.proofs.Joined.{own_more, stands_within}
 use Rattle.lines.proofs.again.Statement.{statement}
 use Rattle.lines.proofs.again.Tie as tie
 
-line : (c : tie.After-colon)
-    → WholeLine c.before.before.before.before.args.block.now c.before.before.before.before.args.at c.colon.given.0.0 c.colon.given.0.1.0
-line c = rw c.colon.given.1 at c.before.before.line_at_lem.ensures
+line : (c : tie.In-Whole-2)
+    → WholeLine c.args.block.now c.args.at c.in-Whole.colon c.in-Whole.end
+line c = rw c.in-Whole.is at c.line_at.ensures
 
 -- what is found from an index on is found from a lower one on
 sooner : (block : List ℕ) (values : List (List ℕ)) (a b : ℕ) (r : Found) → b ≤ a → Finds block values a r → Finds block values b r
 sooner block values a b (At place) h f = record { from = omega (arith, f.from); stands = f.stands; are = f.are }
 sooner block values a b Missing h f = f
 
-returns : tie.Need-returns
+returns : tie.Need-returns-in_default
 returns c =
-    let stands = c.before.before.before.before.requires in
-    let broken = rw c.enum_told.given.1 at c.before.before.line_at_lem.ensures in
+    let stands = c.requires in
+    let broken = rw c.in_default.is at c.line_at.ensures in
     absurd (broken _ _ stands.is.good stands.is.text)
 
 after : (block : List ℕ) (at : ℕ) (s : Stands block at) (r : Found) → FoundIs block (s.end + 2) (cut block at s.colon) r → AgainIs block at r
@@ -35,11 +35,9 @@ after block at s r f =
     let others = values_in (lines_in (drop (s.end + 2) block)) (cut block at s.colon) in
     record { others = others; are = own_more block at s; found = sooner block others (s.end + 2) (at + 1) r (omega (arith, s.is.named, s.is.ordered)) f }
 
-returns-2 : tie.Need-returns-2
-returns-2 c = after _ _ (record { colon = _; end = _; is = line c.before.before.before }) _ c.find.ensures
+returns-2 : tie.Need-returns
+returns-2 c = after _ _ (record { colon = _; end = _; is = line c.before.before }) _ c.find.ensures
 
 pub again_spec : {M : Type 1} → statement M
 again_spec =
-    tie.close (tie.spec (λ c κs. omega (arith, stands_within _ _ c.before.requires)) (λ c. search rules) (λ c. search rules) returns
-    (λ c. omega (arith, line c.before)) (λ c. omega (arith, line c.before)) (λ c. omega (arith, line c.before)) (λ c. omega (arith, line c.before))
-    (λ c κs. omega (arith, line c.before.before)) returns-2)
+    tie.close (tie.spec (λ c κs. omega (arith, stands_within _ _ c.requires)) (λ c. search rules) (λ c. search rules) returns (λ c. omega (arith, line c)) (λ c. omega (arith, line c)) (λ c. omega (arith, line c)) (λ c. omega (arith, line c)) (λ c κs. omega (arith, line c.before)) returns-2)

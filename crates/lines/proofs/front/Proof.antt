@@ -11,14 +11,9 @@ use Rattle.lines.specs.Values.{blank}
 use Rattle.lines.proofs.front.Statement.{statement}
 use Rattle.lines.proofs.front.Tie as tie
 
-abbrev invariant-loop : tie.invariant-loop
+abbrev invariant-loop : tie.invariant-loop-i
 invariant-loop run at i₀ i = Passed blank run at i
 
 pub front_spec : {M : Type 1} → statement M
 front_spec =
-    tie.close (tie.spec invariant-loop (λ run at i₀ i. length run - i) (λ c. passed_none blank _ _ c.before.requires) (λ c. search rules)
-    (λ c κs. search rules)
-    (λ c. passed_stop blank _ _ _ c.before.before.before.before.loop.invariant (search rules) (sym c.before.is-blank.ensures ∙ not-true _ c.if1.true))
-    (λ c. search rules) (λ c. search rules)
-    (λ c. passed_more blank _ _ _ c.before.before.before.before.loop.invariant (search rules) (sym c.before.is-blank.ensures ∙ not-false _ c.if1.false))
-    (λ c. passed_end blank _ _ _ c.before.loop.invariant c.loop-test.false))
+    tie.close (tie.spec invariant-loop (λ run at i₀ i. length run - i) (λ c. passed_none blank _ _ c.requires) (λ c. search rules) (λ c κs. search rules) (λ c. passed_stop blank _ _ _ c.loop-i.invariant (search rules) (sym c.is_blank.ensures ∙ not-true _ c.if-not-is_blank.true)) (λ c. search rules) (λ c. search rules) (λ c. passed_more blank _ _ _ c.loop-i.invariant (search rules) (sym c.is_blank.ensures ∙ not-false _ c.if-not-is_blank.false)) (λ c. passed_end blank _ _ _ c.loop-i.invariant c.loop-i-test.false))

@@ -12,28 +12,26 @@ use Rattle.lines.proofs.Named.{good_at, good_end}
 use Rattle.lines.proofs.good_block.Statement.{statement}
 use Rattle.lines.proofs.good_block.Tie as tie
 
-abbrev invariant-loop : tie.invariant-loop
+abbrev invariant-loop : tie.invariant-loop-at
 invariant-loop block at₀ at = (at ≤ length block) × (good_block block ≡ good_block (drop at block))
 
-abbrev decreases-loop : tie.decreases-loop
+abbrev decreases-loop : tie.decreases-loop-at
 decreases-loop block at₀ at = length block - at
 
-line : (c : tie.After-end invariant-loop decreases-loop)
-    → WholeLine c.before.before.before.before.before.before.args.block.now c.before.before.before.before.loop.at
-    c.end.given.0.0 c.end.given.0.1.0
-line c = rw c.end.given.1 at c.before.before.line_at_lem.ensures
+line : (c : tie.In-Whole-2 invariant-loop decreases-loop)
+    → WholeLine c.args.block.now c.loop-at.at
+    c.in-Whole.colon c.in-Whole.end
+line c = rw c.in-Whole.is at c.line_at.ensures
 
-returns : tie.Need-returns invariant-loop decreases-loop
+returns : tie.Need-returns-in_default invariant-loop decreases-loop
 returns c =
-    let loop = c.before.before.before.before.loop in
-    let broken = rw c.enum_told.given.1 at c.before.before.line_at_lem.ensures in
+    let loop = c.loop-at in
+    let broken = rw c.in_default.is at c.line_at.ensures in
     sym (loop.invariant.1 ∙ good_stop _ (simp length-drop (omega arith)) broken)
 
-loop-again : tie.Need-loop-preserved invariant-loop decreases-loop
-loop-again c = let whole = line c.before in (whole.within, c.before.before.before.before.before.loop.invariant.1 ∙ good_at _ _ _ _ whole)
+loop-again : tie.Need-loop-at-preserved invariant-loop decreases-loop
+loop-again c = let whole = line c in (whole.within, c.loop-at.invariant.1 ∙ good_at _ _ _ _ whole)
 
 pub good_block_spec : {M : Type 1} → statement M
 good_block_spec =
-    tie.close (tie.spec invariant-loop decreases-loop (λ c. (omega arith, refl)) (λ c κs. search rules) (λ c. search rules) (λ c. search rules) returns
-    (λ c. omega (arith, line c.before)) (λ c. omega (arith, line c.before)) loop-again
-    (λ c. sym (c.before.loop.invariant.1 ∙ good_end _ _ c.loop-test.false)))
+    tie.close (tie.spec invariant-loop decreases-loop (λ c. (omega arith, refl)) (λ c κs. search rules) (λ c. search rules) (λ c. search rules) returns (λ c. omega (arith, line c)) (λ c. omega (arith, line c)) loop-again (λ c. sym (c.loop-at.invariant.1 ∙ good_end _ _ c.loop-at-test.false)))

@@ -14,37 +14,28 @@ use Rattle.lines.proofs.Joined.{own_alone, own_then, own_begins, own_short, stan
 use Rattle.lines.proofs.joined_size.Statement.{statement}
 use Rattle.lines.proofs.joined_size.Tie as tie
 
-abbrev invariant-loop : tie.invariant-loop
+abbrev invariant-loop : tie.invariant-loop-next
 invariant-loop block at size₀ place₀ size place =
     Stands block place × (length (joined (own_at block at)) + length (front_at block place) ≡ size + length (joined (own_at block place)))
 
-abbrev decreases-loop : tie.decreases-loop
+abbrev decreases-loop : tie.decreases-loop-next
 decreases-loop block at size₀ place₀ size place = length block - place
 
 -- the line that is found, and what is joined from place on by it
-next : (c : tie.After-value-at2 invariant-loop decreases-loop)
-    → AgainIs c.before.before.before.before.before.before.before.before.args.block.now c.before.before.before.before.before.loop.place (At c.before.before.next.given.0.0)
-next c = rw c.before.before.next.given.1 at c.before.before.before.before.again.ensures
+next : (c : tie.After-value_at-value invariant-loop decreases-loop)
+    → AgainIs c.args.block.now c.loop-next.place (At c.in-At.next)
+next c = rw c.in-At.is at c.again.ensures
 
-sums : (c : tie.After-value-at2 invariant-loop decreases-loop)
-    → let block = c.before.before.before.before.before.before.before.before.args.block.now in
-    length (joined (own_at block c.before.before.before.before.before.before.before.before.args.at))
-    ≡ c.before.before.before.before.before.loop.size + 2 + length (joined (own_at block c.before.before.next.given.0.0))
+sums : (c : tie.After-value_at-value invariant-loop decreases-loop)
+    → let block = c.args.block.now in
+    length (joined (own_at block c.args.at))
+    ≡ c.loop-next.size + 2 + length (joined (own_at block c.in-At.next))
 sums c =
-    let loop = c.before.before.before.before.before.loop in
-    let block = c.before.before.before.before.before.before.before.before.args.block.now in
-    omega (arith, loop.invariant.1, ap length (own_then block loop.place _ (next c)), length-append (front_at block loop.place) (comma ∷ space ∷ joined (own_at block c.before.before.next.given.0.0)))
+    let loop = c.loop-next in
+    let block = c.args.block.now in
+    omega (arith, loop.invariant.1, ap length (own_then block loop.place _ (next c)), length-append (front_at block loop.place) (comma ∷ space ∷ joined (own_at block c.in-At.next)))
 
 pub joined_size_spec : {M : Type 1} → statement M
 joined_size_spec =
-    tie.close (tie.spec invariant-loop decreases-loop
-    (λ c κs. omega (arith, stands_within _ _ c.before.requires))
-    (λ c. (c.before.before.requires, simp (← c.value-at.ensures) (omega arith)))
-    (λ c κs. c.loop.invariant.0) (λ c. search rules) (λ c. search rules)
-    (λ c. let loop = c.before.before.before.loop in
-    omega (arith, loop.invariant.1, ap length (own_alone _ _ (rw c.enum_told.given.1 at c.before.before.again.ensures))))
-    (λ c κs. let found = rw c.before.next.given.1 at c.before.before.before.again.ensures in omega (arith, stands_within _ _ found.found.stands))
-    (λ c. omega (arith, sums c, own_short _ _ c.before.before.before.before.before.before.before.before.requires))
-    (λ c. omega (arith, sums c, own_begins _ _ (next c).found.stands, own_short _ _ c.before.before.before.before.before.before.before.before.requires, ap length c.value-at2.ensures))
-    (λ c. omega (arith, (next c).found.from, stands_within _ _ (next c).found.stands))
-    (λ c. ((next c).found.stands, omega (arith, sums c, ap length c.value-at2.ensures))))
+    tie.close (tie.spec invariant-loop decreases-loop (λ c κs. omega (arith, stands_within _ _ c.requires)) (λ c. (c.requires, simp (← c.value_at-first.ensures) (omega arith))) (λ c κs. c.loop-next.invariant.0) (λ c. search rules) (λ c. search rules) (λ c. let loop = c.loop-next in
+    omega (arith, loop.invariant.1, ap length (own_alone _ _ (rw c.in_default.is at c.again.ensures)))) (λ c κs. let found = rw c.in-At.is at c.again.ensures in omega (arith, stands_within _ _ found.found.stands)) (λ c. omega (arith, sums c, own_short _ _ c.requires)) (λ c. omega (arith, sums c, own_begins _ _ (next c).found.stands, own_short _ _ c.requires, ap length c.value_at-value.ensures)) (λ c. omega (arith, (next c).found.from, stands_within _ _ (next c).found.stands)) (λ c. ((next c).found.stands, omega (arith, sums c, ap length c.value_at-value.ensures))))

@@ -10,10 +10,10 @@ use Rattle.lines.proofs.Trims.{front_cut}
 use Rattle.lines.proofs.trim.Statement.{statement}
 use Rattle.lines.proofs.trim.Tie as tie
 
-first : (c : tie.After-front)
-    → let a = c.before.before.before.args in
-    (c.front.result ≤ a.«end») × (trim_front (cut a.block.now a.start a.«end») ≡ cut a.block.now c.front.result a.«end»)
-first c = let start = c.before.before.before in front_cut _ _ _ _ start.requires.0 start.requires.1 c.front.ensures
+first : (c : tie.After-front-first)
+    → let a = c.args in
+    (c.front-first.result ≤ a.«end») × (trim_front (cut a.block.now a.start a.«end») ≡ cut a.block.now c.front-first.result a.«end»)
+first c = let start = c.before.before in front_cut _ _ _ _ start.requires.0 start.requires.1 c.front-first.ensures
 
 returns : tie.Need-returns
 unfolding trimmed
@@ -23,6 +23,4 @@ returns c =
 
 pub trim_spec : {M : Type 1} → statement M
 trim_spec =
-    tie.close (tie.spec (λ c. sym (length-take-le _ _ c.before.before.requires.1))
-    (λ c κs. let a = c.before.before.args in omega (arith, length-take-le a.«end» a.block.now c.before.before.requires.1))
-    (λ c κs. omega (arith, (first c).0)) returns)
+    tie.close (tie.spec (λ c. sym (length-take-le _ _ c.requires.1)) (λ c κs. let a = c.args in omega (arith, length-take-le a.«end» a.block.now c.requires.1)) (λ c κs. omega (arith, (first c).0)) returns)

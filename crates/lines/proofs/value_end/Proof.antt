@@ -11,14 +11,9 @@ use Rattle.lines.specs.Lines.{value_byte}
 use Rattle.lines.proofs.value_end.Statement.{statement}
 use Rattle.lines.proofs.value_end.Tie as tie
 
-abbrev invariant-loop : tie.invariant-loop
+abbrev invariant-loop : tie.invariant-loop-i
 invariant-loop block at i₀ i = Passed value_byte block at i
 
 pub value_end_spec : {M : Type 1} → statement M
 value_end_spec =
-    tie.close (tie.spec invariant-loop (λ block at i₀ i. length block - i) (λ c κs. search rules) (λ c. c.past-sixteens.ensures) (λ c. search rules)
-    (λ c κs. search rules)
-    (λ c. passed_stop value_byte _ _ _ c.before.before.before.before.loop.invariant (search rules) (sym c.before.value-byte.ensures ∙ not-true _ c.if1.true))
-    (λ c. search rules) (λ c. search rules)
-    (λ c. passed_more value_byte _ _ _ c.before.before.before.before.loop.invariant (search rules) (sym c.before.value-byte.ensures ∙ not-false _ c.if1.false))
-    (λ c. passed_end value_byte _ _ _ c.before.loop.invariant c.loop-test.false))
+    tie.close (tie.spec invariant-loop (λ block at i₀ i. length block - i) (λ c κs. search rules) (λ c. c.past_sixteens-i.ensures) (λ c. search rules) (λ c κs. search rules) (λ c. passed_stop value_byte _ _ _ c.loop-i.invariant (search rules) (sym c.value_byte.ensures ∙ not-true _ c.if-not-value_byte.true)) (λ c. search rules) (λ c. search rules) (λ c. passed_more value_byte _ _ _ c.loop-i.invariant (search rules) (sym c.value_byte.ensures ∙ not-false _ c.if-not-value_byte.false)) (λ c. passed_end value_byte _ _ _ c.loop-i.invariant c.loop-i-test.false))

@@ -17,7 +17,7 @@ use Rattle.lines.proofs.Marks.{Noting, noting_start, noting_next, noting_end}
 use Rattle.lines.proofs.noting.note_block.Statement.{statement}
 use Rattle.lines.proofs.noting.note_block.Tie as tie
 
-abbrev invariant-loop : tie.invariant-loop
+abbrev invariant-loop : tie.invariant-loop-at
 invariant-loop known extra sheet block notes₀ at₀ notes at =
     (at ≤ length block)
     × (length notes ≡ 64)
@@ -25,50 +25,46 @@ invariant-loop known extra sheet block notes₀ at₀ notes at =
     × ((ns : List (List ℕ)) → Sheet known extra sheet ns → Apart ns → notes₀ ≡ replicate 64 0 → (i : ℕ) → i < length ns
     → Noting block (get_or ns i []) at (get_or notes i 0))
 
-abbrev decreases-loop : tie.decreases-loop
+abbrev decreases-loop : tie.decreases-loop-at
 decreases-loop known extra sheet block notes₀ at₀ notes at = length block - at
 
-line : (c : tie.After-colon invariant-loop decreases-loop)
-    → WholeLine c.before.before.before.before.before.before.before.before.before.before.args.block.now c.before.before.before.before.loop.at
-    c.colon.given.0.0 c.colon.given.0.1.0
-line c = rw c.colon.given.1 at c.before.before.line_at_lem.ensures
+line : (c : tie.In-Whole-2 invariant-loop decreases-loop)
+    → WholeLine c.args.block.now c.loop-at.at
+    c.in-Whole.colon c.in-Whole.end
+line c = rw c.in-Whole.is at c.line_at.ensures
 
-loop-holds : tie.Need-loop-init invariant-loop decreases-loop
+loop-holds : tie.Need-loop-at-init invariant-loop decreases-loop
 loop-holds c = (omega arith, search rules, refl, λ ns on apart empty i h. noting_start empty (omega (arith, on.few)))
 
-returns : tie.Need-returns invariant-loop decreases-loop
+returns : tie.Need-returns-in_default invariant-loop decreases-loop
 returns c =
-    let loop = c.before.before.before.before.loop in
-    let broken = rw c.enum_told.given.1 at c.before.before.line_at_lem.ensures in
+    let loop = c.loop-at in
+    let broken = rw c.in_default.is at c.line_at.ensures in
     (sym (loop.invariant.2 ∙ good_stop _ (simp length-drop (omega arith)) broken), λ ns on apart empty t. absurd (false≢true t))
 
 mark-requires : tie.Need-mark-requires invariant-loop decreases-loop
 mark-requires c κs =
-    let on = c.before.before.before.before.before.before.before.before.before.before.before.before.before.before.requires.0.are in
-    (omega (arith, on.few, (c.before.number.ensures _ on).within), omega arith)
+    let on = c.requires.0.are in
+    (omega (arith, on.few, (c.number-number.ensures _ on).within), omega arith)
 
-loop-again : tie.Need-loop-preserved invariant-loop decreases-loop
+loop-again : tie.Need-loop-at-preserved invariant-loop decreases-loop
 loop-again c =
-    let whole = line c.before.before.before.before.before.before.before in
-    let loop = c.before.before.before.before.before.before.before.before.before.before.before.loop in
-    let number = c.before.before.before.before.number.ensures in (
+    let whole = line c.before.before.before.before.before.before in
+    let loop = c.loop-at in
+    let number = c.number-number.ensures in (
       whole.within,
       search rules,
       loop.invariant.2 ∙ good_at _ _ _ _ whole,
-      λ ns on apart empty i h. rw c.before.before.mark.ensures
+      λ ns on apart empty i h. rw c.mark.ensures
           (noting_next _ whole (omega arith) apart (omega (arith, on.few)) (number ns on) h (loop.invariant.3 ns on apart empty i h)),
     )
 
-returns-2 : tie.Need-returns-2 invariant-loop decreases-loop
+returns-2 : tie.Need-returns invariant-loop decreases-loop
 returns-2 c =
-    let loop = c.before.loop in
-    let past = c.loop-test.false in
+    let loop = c.loop-at in
+    let past = c.loop-at-test.false in
     (sym (loop.invariant.2 ∙ good_end _ _ past), λ ns on apart empty t i h. noting_end past (loop.invariant.3 ns on apart empty i h))
 
 pub note_block_spec : {M : Type 1} → statement M
 note_block_spec =
-    tie.close (tie.spec invariant-loop decreases-loop loop-holds (λ c κs. search rules) (λ c. search rules) (λ c. search rules) (λ c. search rules) returns
-    (λ c. omega (arith, line c.before)) (λ c. omega (arith, line c.before)) (λ c. omega (arith, line c.before))
-    (λ c κs. search rules) mark-requires
-    (λ c. omega (arith, line c.before.before.before.before.before.before.before))
-    (λ c. omega (arith, line c.before.before.before.before.before.before.before)) loop-again (λ c. search rules) returns-2)
+    tie.close (tie.spec invariant-loop decreases-loop loop-holds (λ c κs. search rules) (λ c. search rules) (λ c. search rules) (λ c. search rules) returns (λ c. omega (arith, line c)) (λ c. omega (arith, line c)) (λ c. omega (arith, line c)) (λ c κs. search rules) mark-requires (λ c. omega (arith, line c.before.before.before.before.before.before)) (λ c. omega (arith, line c.before.before.before.before.before.before)) loop-again (λ c. search rules) returns-2)

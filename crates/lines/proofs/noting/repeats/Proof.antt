@@ -20,13 +20,13 @@ use Rattle.lines.specs.InnerNotes.{NoteIs, Notes}
 use Rattle.lines.proofs.noting.repeats.Statement.{statement}
 use Rattle.lines.proofs.noting.repeats.Tie as tie
 
-abbrev invariant-loop : tie.invariant-loop
+abbrev invariant-loop : tie.invariant-loop-i
 invariant-loop known extra sheet notes count i₀ i =
     (i ≤ count)
     × ((ns : List (List ℕ)) (block : List ℕ) → Sheet known extra sheet ns → length ns ≡ count → Notes block ns notes
     → repeated ns (lines_in block) ≡ repeated (drop i ns) (lines_in block))
 
-abbrev decreases-loop : tie.decreases-loop
+abbrev decreases-loop : tie.decreases-loop-i
 decreases-loop known extra sheet notes count i₀ i = count - i
 
 -- where the name at an index of a sheet starts, and whether it or one after it is repeated
@@ -45,31 +45,28 @@ module _ {known extra sheet : List ℕ} {ns : List (List ℕ)} (on : Sheet known
 
 single-requires : tie.Need-single-requires invariant-loop decreases-loop
 single-requires c κs =
-    let counted = c.before.before.before.before.before.before.before.before.requires.0 in
+    let counted = c.requires.0 in
     (omega arith, omega (arith, counted.are.few), counted.are.size, start_of counted.are _ (omega (arith, counted.as_many)))
 
-returns : tie.Need-returns invariant-loop decreases-loop
+returns : tie.Need-returns-then-single invariant-loop decreases-loop
 returns c = λ ns block on many are.
-    let loop = c.before.before.before.before.before.loop in
+    let loop = c.loop-i in
     sym (loop.invariant.1 ns block on many are ∙ repeated_next on loop.i (omega arith) (are loop.i (omega arith))
-    ∙ simp (← c.before.single.ensures, c.if2.true, le-leb _ _ c.before.before.if1.true))
+    ∙ simp (← c.single.ensures, c.if-single.true, le-leb _ _ c.if-notes-i-ge32768.true))
 
-loop-again : tie.Need-loop-preserved invariant-loop decreases-loop
+loop-again : tie.Need-loop-i-preserved invariant-loop decreases-loop
 loop-again c =
-    let loop = c.before.before.before.loop in (
+    let loop = c.loop-i in (
       omega arith,
       λ ns block on many are. loop.invariant.1 ns block on many are ∙ repeated_next on loop.i (omega arith) (are loop.i (omega arith))
-          ∙ ⊎_elim (λ w. simp (← w.1.ensures, w.2.left)) (λ w. simp (lt-leb _ _ w.left, and-false)) c.if1.branch,
+          ∙ ⊎_elim (λ w. simp (← w.1.ensures, w.2.left)) (λ w. simp (lt-leb _ _ w.left, and-false)) c.if-notes-i-ge32768.branch,
     )
 
-returns-2 : tie.Need-returns-2 invariant-loop decreases-loop
+returns-2 : tie.Need-returns invariant-loop decreases-loop
 unfolding repeated
 returns-2 c = λ ns block on many are.
-    sym (c.before.loop.invariant.1 ns block on many are ∙ rw (drop_of_length-le ns {i = c.before.loop.i} (omega arith)))
+    sym (c.loop-i.invariant.1 ns block on many are ∙ rw (drop_of_length-le ns {i = c.loop-i.i} (omega arith)))
 
 pub repeats_spec : {M : Type 1} → statement M
 repeats_spec =
-    tie.close (tie.spec invariant-loop decreases-loop (λ c. (omega arith, λ ns block on many are. refl)) (λ c. search rules)
-    (λ c. let counted = c.before.before.before.before.before.before.before.requires.0 in omega (arith, counted.are.few, counted.as_many))
-    (λ c. search rules) single-requires
-    returns (λ c. search rules) (λ c. search rules) loop-again returns-2)
+    tie.close (tie.spec invariant-loop decreases-loop (λ c. (omega arith, λ ns block on many are. refl)) (λ c. search rules) (λ c. let counted = c.requires.0 in omega (arith, counted.are.few, counted.as_many)) (λ c. search rules) single-requires returns (λ c. search rules) (λ c. search rules) loop-again returns-2)
