@@ -41,7 +41,7 @@ token_exactly text t e = by _ refl e
     by : (b : Bool) → (fits (candidate text) && same text (token_text (candidate text))) ≡ b → cond b (some (candidate text)) none ≡ some t
         → (text ≡ token_text t) × (fits t ≡ true)
     by true p f =
-        let parts = (and-eq-true_iff _ _).0 p in
+        let parts : (fits (candidate text) ≡ true) × (same text (token_text (candidate text)) ≡ true) = (and-eq-true_iff _ _).0 p in
         let it : candidate text ≡ t = cc in
         (same_equal text (token_text (candidate text)) parts.1 ∙ ap token_text it, ap fits (sym it) ∙ parts.0)
     by false p f = (cc, cc)

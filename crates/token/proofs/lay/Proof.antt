@@ -16,13 +16,13 @@ use Rattle.token.proofs.lay.Statement.{statement}
 use Rattle.token.proofs.lay.Tie as tie
 
 -- the three have room
-room : (c : tie.After-write-arg)
-    → let args = c.before.before.before.before.before.before.before.args in
-    let shown = c.before.before.digits.result in
+room : (c : tie.After-write-arg-1)
+    → let args = c.args in
+    let shown = c.digits-shown.result in
     length (netstring args.key.now) + length (netstring args.id.now) + length (netstring (take (20 - shown.start) (drop shown.start shown.all))) ≤ length args.out.now
 room c =
     let start = c.before.before.before.before.before.before.before in
-    let shown = c.before.before.digits in
+    let shown = c.digits-shown in
     omega (
       arith,
       start.requires,
@@ -33,12 +33,12 @@ room c =
 returns : tie.Need-returns
 unfolding token_text netstrings
 returns c =
-    let sent = c.before.before.before.before.before.before.before.before.before.before.before.before.before in
-    let args = sent.before.before.before.before.before.before.before.args in
-    let shown = sent.before.before.digits in
-    let first = c.before.before.before.before.before.before.before.before.before.before.before.before.write.ensures in
-    let second = c.before.before.before.before.before.before.before.before.write2.ensures in
-    let third = c.before.before.write3.ensures in
+    let sent = c.before.before.before.before.before.before.before.before.before.before.before.before in
+    let args = sent.args in
+    let shown = sent.digits-shown in
+    let first = c.write-key_end.ensures in
+    let second = c.write-id_end.ensures in
+    let third = c.write.ensures in
     let h = room sent in
     subst (Laid _ _ _ _)
     (ap (λ (l : List ℕ). (netstring args.key.now ++ netstring args.id.now) ++ netstring l) (shown_piece _ shown.result shown.ensures)
@@ -47,8 +47,4 @@ returns c =
 
 pub lay_spec : {M : Type 1} → statement M
 lay_spec =
-    tie.close (tie.spec (λ c. search rules) (λ c κs. search rules) (λ c κs. omega (arith, room c))
-    (λ c κs. omega (arith, room c.before.before.before.before))
-    (λ c. search rules) (λ c. search rules) (λ c. search rules)
-    (λ c κs. omega (arith, room c.before.before.before.before.before.before.before.before.before.before))
-    (λ c. search rules) returns)
+    tie.close (tie.spec (λ c. search rules) (λ c κs. search rules) (λ c κs. omega (arith, room c)) (λ c κs. omega (arith, room c.before.before.before.before)) (λ c. search rules) (λ c. search rules) (λ c. search rules) (λ c κs. omega (arith, room c.before.before.before.before.before.before.before.before.before)) (λ c. search rules) returns)

@@ -22,28 +22,28 @@ size : (s : tie.Start) → (1 ≤ length (token_text (token s))) × (length (tok
 size s = length_text (token s) (record { key_size = s.requires.2; id_some = s.requires.3; id_fits = s.requires.4; in_range = search rules })
 
 -- the text is within its array
-within : (c : tie.After-lay) → (c.lay.result ≤ 118) × (c.lay.result ≤ length c.lay.new.1.1.1.0)
-within c = omega (arith, size c.before.before.before.before.before.before, c.lay.ensures.ends, c.lay.auto.1.1.1.0)
+within : (c : tie.After-lay-s_len) → (c.lay-s_len.result ≤ 118) × (c.lay-s_len.result ≤ length c.lay-s_len.new.out)
+within c = omega (arith, size c.before.before.before.before.before.before, c.lay-s_len.ensures.ends, c.lay-s_len.auto.out)
 
 seal-requires : tie.Need-seal-requires
 seal-requires c κs =
     let s = c.before.before.before.before.before.before.before.before.before.before in
-    let l = c.before.before.before.before.lay in
+    let l = c.lay-s_len in
     let w = within c.before.before.before.before in
-    let text = length-take-le l.result l.new.1.1.1.0 w.1 in
+    let text = length-take-le l.result l.new.out w.1 in
     (s.requires.0, s.requires.1, omega arith, length-take-le _ _ w.0 ∙ sym text, refl)
 
 returns : tie.Need-returns
 unfolding sealed_token sealed
 returns c =
     let s = c.before.before.before.before.before.before.before.before.before.before.before.before.before in
-    let l = c.before.before.before.before.before.before.before.lay in
-    let z = c.before.before.seal in
+    let l = c.lay-s_len in
+    let z = c.seal in
     let key = s.args.server_key.now in
     let iv = s.args.iv.now in
     let text = token_text (token s) in
-    let taken : take l.result l.new.1.1.1.0 ≡ text = ap (take l.result) l.ensures.is ∙ front_spliced _ text 0 l.result (omega arith) (omega (arith, l.ensures.ends)) in
-    let cipher : z.new.1.1.1.0 ≡ (sealed key iv [] text).cipher = z.ensures.0 ∙ ap (λ (t : List ℕ). (sealed key iv [] t).cipher) taken in
+    let taken : take l.result l.new.out ≡ text = ap (take l.result) l.ensures.is ∙ front_spliced _ text 0 l.result (omega arith) (omega (arith, l.ensures.ends)) in
+    let cipher : z.new.out ≡ (sealed key iv [] text).cipher = z.ensures.0 ∙ ap (λ (t : List ℕ). (sealed key iv [] t).cipher) taken in
     let count : l.result ≡ length (sealed key iv [] text).cipher = omega (arith, l.ensures.ends, length_crypted key iv text) in
     record {
       text = take_at _ _ l.result (ap length cipher ∙ sym count) ∙ cipher;
@@ -55,8 +55,4 @@ returns c =
 
 pub seal_spec : {M : Type 1} → statement M
 seal_spec =
-    tie.close (tie.spec (λ c. search rules) (λ c κs. search rules) (λ c. (within c.before).1)
-    (λ c. sym (length-take-le _ _ (within c.before.before).1))
-    (λ c. (within c.before.before).0)
-    (λ c. sym (length-take-le _ _ (within c.before.before.before).0))
-    (λ c. search rules) seal-requires returns)
+    tie.close (tie.spec (λ c. search rules) (λ c κs. search rules) (λ c. (within c.before).1) (λ c. sym (length-take-le _ _ (within c.before.before).1)) (λ c. (within c.before.before).0) (λ c. sym (length-take-le _ _ (within c.before.before.before).0)) (λ c. search rules) seal-requires returns)

@@ -1,10 +1,10 @@
 -- `token_of` meets its contract: each part within its size or range, or no token.
 -- Assumes nothing.
 use mathlib.Core.Bool.{false≢true, and-eq-true_iff}
-use mathlib.Core.Path.{refl, ◌∙◌}
+use mathlib.Core.Path.{refl, sym, ◌∙◌}
 use native.Mathlib.Omega.{arith}
 use borrow.Author.Rules.{rules}
-use borrow.Author.Tests.{not-false, eqb-true, leb-true, eq-eqb, le-leb}
+use borrow.Author.Tests.{eqb-true, leb-true, eq-eqb, le-leb}
 use lib.Seq.{take-append_seam}
 use Rattle.cells.specs.Runs.{fronted}
 use Rattle.cells.proofs.Runs.{fronted_whole}
@@ -14,25 +14,25 @@ use Rattle.token.proofs.token_of.Statement.{statement}
 use Rattle.token.proofs.token_of.Tie as tie
 
 -- the sizes that passed, and the expiry that was read
-sized : (c : tie.After-known-told) → let args = c.before.before.before.before.before.before.before.before.args in
-    Sized args.key.now args.id.now c.before.expiry.given.0.0.0
+sized : (c : tie.In-Is) → let args = c.args in
+    Sized args.key.now args.id.now c.in-Is.expiry.0
 sized c =
-    let both = (and-eq-true_iff _ _).0 (not-false _ c.before.before.before.before.if1.false) in
+    let both = (and-eq-true_iff _ _).0 c.if-not-key-id.false in
     let ids = (and-eq-true_iff _ _).0 both.1 in
-    let read = rw c.before.expiry.given.1 at c.before.before.before.read.ensures in
+    let read = rw c.in-Is.is at c.read.ensures in
     record { key_size = eqb-true _ _ both.0; id_some = leb-true _ _ ids.0; id_fits = leb-true _ _ ids.1; in_range = read.1 }
 
-returns-3 : tie.Need-returns-3
+returns-3 : tie.Need-returns
 unfolding fronted
 returns-3 c =
     let told = c.before.before.before.before.before.before in
-    let args = told.before.before.before.before.before.before.before.before.args in
+    let args = told.args in
     let s = sized told in
-    let read = rw told.before.expiry.given.1 at told.before.before.before.read.ensures in
+    let read = rw told.in-Is.is at told.read.ensures in
     unseals_some (token_of_lem args.key.now args.id.now args.digits.now _ s read.0) refl
     (record {
-      key = c.before.before.before.before.put_front.ensures ∙ fronted_whole args.key.now _ s.key_size;
-      id = rw c.before.put-front2.ensures (take-append_seam args.id.now _);
+      key = c.put_front.ensures ∙ fronted_whole args.key.now _ s.key_size;
+      id = rw c.put_front-2.ensures (take-append_seam args.id.now _);
       id_size = refl;
       id_some = s.id_some;
       id_fits = s.id_fits;
@@ -41,13 +41,7 @@ returns-3 c =
 
 pub token_of_spec : {M : Type 1} → statement M
 token_of_spec =
-    tie.close (tie.spec (λ c κs. search rules)
-    (λ c. let args = c.before.before.before.before.before.args in
+    tie.close (tie.spec (λ c κs. search rules) (λ c. let args = c.args in
     no_token_of args.key.now args.id.now args.digits.now
-    (λ n s e. false≢true (simp (eq-eqb _ _ s.key_size, le-leb _ _ s.id_some, le-leb _ _ s.id_fits) at c.before.if1.true))
-    c.nothing.ensures)
-    (λ c κs. search rules) (λ c. search rules) (λ c. search rules) (λ c κs. search rules)
-    (λ c. no_token_of _ _ _ (λ n s e. (rw c.before.enum_told.given.1 at c.before.before.before.read.ensures) n s.in_range e) c.nothing2.ensures)
-    (λ c. search rules) (λ c κs. omega (arith, (sized c.before).key_size)) (λ c. search rules)
-    (λ c κs. omega (arith, (sized c.before.before.before.before).id_fits))
-    returns-3)
+    (λ n s e. false≢true (sym (simp (eq-eqb _ _ s.key_size, le-leb _ _ s.id_some, le-leb _ _ s.id_fits) at c.if-not-key-id.true)))
+    c.nothing.ensures) (λ c κs. search rules) (λ c. search rules) (λ c. search rules) (λ c κs. search rules) (λ c. no_token_of _ _ _ (λ n s e. (rw c.in_default.is at c.read.ensures) n s.in_range e) c.nothing-in_default.ensures) (λ c. search rules) (λ c κs. omega (arith, (sized c.before).key_size)) (λ c. search rules) (λ c κs. omega (arith, (sized c.before.before.before.before).id_fits)) returns-3)

@@ -4,7 +4,6 @@ use mathlib.Core.Bool.{false≢true}
 use mathlib.Core.Path.{◌≡◌, sym, ap, ◌∙◌}
 use native.Mathlib.Omega.{arith}
 use borrow.Author.Rules.{rules}
-use borrow.Author.Tests.{not-true, not-false}
 use lib.ListN.{length}
 use Rattle.cells.specs.Runs.{same}
 use Rattle.cells.proofs.Equality.{same_equal, same_self}
@@ -15,23 +14,18 @@ use Rattle.token.proofs.expiry.read.Statement.{statement}
 use Rattle.token.proofs.expiry.read.Tie as tie
 
 -- what was compared
-compared : (c : tie.After-same) → c.same.result ≡ same c.before.before.before.before.before.before.before.before.before.args.digits.now (decimal c.before.before.before.before.before.before.value.result)
-compared c = c.same.ensures ∙ ap (same c.before.before.before.before.before.before.before.before.before.args.digits.now) (shown_piece _ c.before.before.before.before.digits.result c.before.before.before.before.digits.ensures)
+compared : (c : tie.After-same) → c.same.result ≡ same c.args.digits.now (decimal c.value-n.result)
+compared c = c.same.ensures ∙ ap (same c.args.digits.now) (shown_piece _ c.digits-shown.result c.digits-shown.ensures)
 
-returns-4 : tie.Need-returns-4
+returns-4 : tie.Need-returns
 returns-4 c = (
-  same_equal _ _ (sym (compared c.before) ∙ not-false c.before.same.result c.if3.false),
-  omega (arith, c.before.before.before.before.before.before.if2.false),
+  same_equal _ _ (sym (compared c.before) ∙ c.if-not-same.false),
+  omega (arith, c.if-n-gt4294967295.false),
 )
 
 pub read_spec : {M : Type 1} → statement M
 read_spec =
-    tie.close (tie.spec (λ c. λ n below e. omega (arith, c.if1.true, decimal_length 9 n (omega arith), ap length e))
-    (λ c κs. search rules)
-    (λ c. λ n below e. omega (arith, c.if2.true, c.before.value.ensures, only_number c.before.before.before.before.args.digits.now n e))
-    (λ c κs. search rules) (λ c. search rules) (λ c. search rules) (λ c. search rules) (λ c κs. search rules)
-    (λ c. let digits = c.before.before.before.before.before.before.before.before.before.before.args.digits.now in
+    tie.close (tie.spec (λ c. λ n below e. omega (arith, c.if-digits-gt10.true, decimal_length 9 n (omega arith), ap length e)) (λ c κs. search rules) (λ c. λ n below e. omega (arith, c.if-n-gt4294967295.true, c.value-n.ensures, only_number c.args.digits.now n e)) (λ c κs. search rules) (λ c. search rules) (λ c. search rules) (λ c. search rules) (λ c κs. search rules) (λ c. let digits = c.args.digits.now in
     λ n below e.
-    let shown : decimal c.before.before.before.before.before.before.before.value.result ≡ digits = ap decimal (c.before.before.before.before.before.before.before.value.ensures ∙ only_number digits n e) ∙ sym e in
-    false≢true (sym (not-true c.before.same.result c.if3.true) ∙ compared c.before ∙ ap (same digits) shown ∙ same_self digits))
-    (λ c. search rules) returns-4)
+    let shown : decimal c.value-n.result ≡ digits = ap decimal (c.value-n.ensures ∙ only_number digits n e) ∙ sym e in
+    false≢true (sym c.if-not-same.true ∙ compared c.before ∙ ap (same digits) shown ∙ same_self digits)) (λ c. search rules) returns-4)
