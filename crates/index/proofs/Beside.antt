@@ -13,14 +13,13 @@ use Rattle.table.specs.declared.place.Place.TheVariants.{At, Nowhere}
 use Rattle.table.specs.Record as R
 use Rattle.table.specs.Record.{size, freed, record_bytes}
 use Rattle.table.specs.Session.{with_record}
-use Rattle.table.specs.Table.{places, records, is_used, holds, found}
+use Rattle.table.specs.Table.{places, records, is_used, found}
 use Rattle.table.specs.WellFormed.{Sound, WellFormed, well_formed}
 use Rattle.table.proofs.Records.{length_record_bytes, length_records, records_stored, freed_fits}
 use Rattle.table.proofs.Meaning.{well_formed_is, is_well_formed}
 use Rattle.table.proofs.Found.{found_nowhere}
 use Rattle.table.proofs.Stored.{stored_here, found_kept}
 use Rattle.index.specs.Index.{ranked, vacant, filled, coded, index_of, Indexed}
-use Rattle.index.specs.Fits.{Fits}
 use Rattle.index.specs.InnerEntries.{Holds, Enterable, Entered}
 use Rattle.index.proofs.Ranked.{Rises, length_ranked, used_fewer, sorted_at, stands_in}
 use Rattle.index.proofs.Held.{indexed_holds}

@@ -2,10 +2,10 @@
 -- Assumes nothing.
 use mathlib.Core.Path.{◌≡◌, refl, sym, ap, ap₂, ◌∙◌}
 use mathlib.Core.List.{List, [], ◌∷◌}
-use mathlib.Core.Bool.{Bool, true, false, not, ◌&&◌, ◌||◌}
+use mathlib.Core.Bool.{Bool, true, false, ◌&&◌, ◌||◌}
 use Prim.Native.Nat.{ℕ, ◌+◌, ◌*◌, ◌^◌, ◌≤◌, ◌<◌}
 use native.Mathlib.Omega.{arith}
-use borrow.Author.Tests.{ltb-true, ltb-false, eqb-true, eqb-false, lt-ltb, le-ltb, not-false}
+use borrow.Author.Tests.{ltb-true, ltb-false, eqb-true, eqb-false, lt-ltb, le-ltb}
 use lib.Arith.{digits_lt}
 use lib.Dec.{eqb, ltb}
 use lib.ListN.{length, get_or, drop}
@@ -86,5 +86,5 @@ lower_number bytes p q b h k = ap₂ precedes (iv_bytes bytes p h) (iv_bytes byt
 pub used_within : (bytes : List ℕ) (place : ℕ) → used_at (records bytes) place ≡ true → place < places bytes
 used_within bytes place e = omega (arith, length_records bytes, ltb-true place (length (records bytes)) (both _ _ e).0)
 
-pub told_within : (bytes : List ℕ) (place : ℕ) {used : Bool} → used ≡ used_at (records bytes) place → not used ≡ false → place < places bytes
-told_within bytes place {used = used} e t = used_within bytes place (sym e ∙ not-false used t)
+pub told_within : (bytes : List ℕ) (place : ℕ) {used : Bool} → used ≡ used_at (records bytes) place → used ≡ true → place < places bytes
+told_within bytes place {used = used} e t = used_within bytes place (sym e ∙ t)

@@ -38,6 +38,7 @@ stands_in p ps s = go ps s.at s.within s.is
     go (q ∷ qs) (suc at) l e = inr (go qs at (omega arith) e)
 
 pub in_stands : (p : ℕ) (ps : List ℕ) → In p ps → Stands p ps
+in_stands p [] i = elim i [ ]
 in_stands p (q ∷ qs) (inl e) = record { at = 0; within = omega arith; is = sym e }
 in_stands p (q ∷ qs) (inr i) =
     let s = in_stands p qs i in
@@ -78,6 +79,7 @@ removed_in (p ∷ ps) (suc at) q (inl e) = inl e
 removed_in (p ∷ ps) (suc at) q (inr i) = inr (removed_in ps at q i)
 
 pub removed_rest : (ps : List ℕ) (at q : ℕ) → In q ps → (q ≡ get_or ps at 0 → ⊥) → In q (removed at ps)
+removed_rest [] at q i n = elim i [ ]
 removed_rest (p ∷ ps) zero q (inl e) n = absurd (n e)
 removed_rest (p ∷ ps) zero q (inr i) n = i
 removed_rest (p ∷ ps) (suc at) q (inl e) n = inl e
@@ -287,6 +289,7 @@ module _ (table : List Record) where
 
   -- places that rise have each their own IV
   pub rising_apart : (ps : List ℕ) (i j : ℕ) → Sorted Rises ps → In i ps → In j ps → (get_or table i freed).iv ≡ (get_or table j freed).iv → i ≡ j
+  rising_apart [] i j s a b e = elim a [ ]
   rising_apart (p ∷ ps) i j s (inl a) (inl b) e = a ∙ sym b
   rising_apart (p ∷ ps) i j s (inl a) (inr b) e = absurd (true≢false (sym (s.0 j b) ∙ equal))
     where

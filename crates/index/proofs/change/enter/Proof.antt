@@ -19,25 +19,22 @@ within : (start : tie.Start) → start.args.place < places start.args.table.now
 within start =
     omega (arith, start.requires.used, length_records start.args.table.now)
 
-abbrev start : tie.After-rank → tie.Start
-start c = c.before.before.before.before.before.before.before
+abbrev start : tie.After-rank-at → tie.Start
+start c = c.before.before.before.before.before.before
 
-ranks : (c : tie.After-rank)
+ranks : (c : tie.After-rank-at)
     → let a = (start c).args in
-    Ranks (records a.table.now) a.index.now (get_or (records a.table.now) a.place freed).iv c.rank.result
+    Ranks (records a.table.now) a.index.now (get_or (records a.table.now) a.place freed).iv c.rank-at.result
 ranks c =
     let a = (start c).args in
-    subst (λ (iv : List ℕ). Ranks (records a.table.now) a.index.now iv c.rank.result)
-    (ap (λ r. r.iv) (c.before.before.before.before.read.ensures ∙ sym (records_at a.table.now a.place (within (start c)))))
-    c.rank.ensures
+    subst (λ (iv : List ℕ). Ranks (records a.table.now) a.index.now iv c.rank-at.result)
+    (ap (λ r. r.iv) (c.read-record.ensures ∙ sym (records_at a.table.now a.place (within (start c)))))
+    c.rank-at.ensures
 
-room : (c : tie.After-rank) → 2 * c.rank.result ≤ length (start c).args.index.now
-room c = omega (arith, c.rank.ensures.within, holds_long (start c).requires.holds)
+room : (c : tie.After-rank-at) → 2 * c.rank-at.result ≤ length (start c).args.index.now
+room c = omega (arith, c.rank-at.ensures.within, holds_long (start c).requires.holds)
 
 pub enter_spec : {M : Type 1} → statement M
 enter_spec =
-    tie.close (tie.spec (λ c κs. within c.before.before) (λ c. search rules)
-    (λ c κs. let s = c.before.before.before.before.before.before in (search rules, record { ps = s.requires.ps; holds = s.requires.holds })) (λ c. search rules) room room
-    (λ c. search rules) (λ c κs. let s = start c.before in
-    (room_made s.pre.holds _ (ranks c.before) s.pre.room, omega (arith, s.pre.used, s.pre.holds.small))) (λ c. search rules)
-    (λ c ps h few. entry_made h _ (ranks c.before.before.before.before) few c.before.before.«open».ensures))
+    tie.close (tie.spec (λ c κs. within c.before.before) (λ c. search rules) (λ c κs. let s = c.before.before.before.before.before in (search rules, record { ps = s.requires.ps; holds = s.requires.holds })) (λ c. search rules) room room (λ c. search rules) (λ c κs. let s = start c.before in
+    (room_made s.requires.holds _ (ranks c.before) s.requires.room, omega (arith, s.requires.used, s.requires.holds.small))) (λ c. search rules) (λ c ps h few. entry_made h _ (ranks c.before.before.before.before) few c.«open».ensures))

@@ -12,15 +12,6 @@ fits c =
 
 pub take_spec : {M : Type 1} → statement M
 take_spec =
-    tie.close (tie.spec (λ c κs. let p = c.before.before.before.before.requires in (p.0, p.1))
-    (λ c κs. let freed = c.before.before.before.before.before in
-    inside_cleared _ _ freed.before.before.before.before.before.requires.0 freed.free.ensures.0)
-    (λ c κs. let freed = c.before.before.before.before.before.before.before.before.before.before in
-    let start = freed.before.before.before.before.before in
-    over_enterable _ _ start.requires.0 freed.free.ensures.0 _ (fits start) start.requires.2 start.requires.3 start.requires.4 freed.free.ensures.1
-    c.before.before.before.before.store.ensures)
-    (λ c. search rules) (λ c. search rules)
-    (λ c. let freed = c.before.before.before.before.before.before.before.before.before.before.before.before.before in
-    let start = freed.before.before.before.before.before in
-    over_indexed _ _ start.requires.0 freed.free.ensures.0 _ (fits start) start.requires.2 start.requires.3 start.requires.4 freed.free.ensures.1
-    c.before.before.before.before.before.before.before.store.ensures c.before.before.enter.ensures))
+    tie.close (tie.spec (λ c κs. let p = c.requires in (p.0, p.1)) (λ c κs. inside_cleared _ _ c.requires.0 c.free.ensures.0) (λ c κs. over_enterable _ _ c.requires.0 c.free.ensures.0 _ (fits c.before.before.before.before.before.before.before.before.before.before.before.before.before.before) c.requires.2 c.requires.3 c.requires.4 c.free.ensures.1
+    c.store.ensures) (λ c. search rules) (λ c. search rules) (λ c. over_indexed _ _ c.requires.0 c.free.ensures.0 _ (fits c.before.before.before.before.before.before.before.before.before.before.before.before.before.before.before.before.before) c.requires.2 c.requires.3 c.requires.4 c.free.ensures.1
+    c.store.ensures c.enter.ensures))

@@ -15,24 +15,24 @@ use Rattle.index.proofs.Fitting.{fits_exactly, unsound}
 use Rattle.index.proofs.rule.fits.Statement.{statement}
 use Rattle.index.proofs.rule.fits.Tie as tie
 
-abbrev start : tie.After-known-told → tie.Start
-start c = c.before.before.before.before.before.before
+abbrev start : tie.In-Used → tie.Start
+start c = c.before.before.before.before
 
-abbrev count : tie.After-known-told → ℕ
-count c = c.before.count.given.0.0
+abbrev count : tie.In-Used → ℕ
+count c = c.in-Used.count
 
-told : (c : tie.After-known-told) → TallyIs (records (start c).args.table.now) (Used (count c))
-told c = rw c.before.count.given.1 at c.before.before.before.tally.ensures
+told : (c : tie.In-Used) → TallyIs (records (start c).args.table.now) (Used (count c))
+told c = rw c.in-Used.is at c.tally.ensures
 
-few : (c : tie.After-known-told) → count c ≤ places (start c).args.table.now
+few : (c : tie.In-Used) → count c ≤ places (start c).args.table.now
 few c =
     let rs = records (start c).args.table.now in
     omega (arith, (told c).1, used_most rs (length rs), length_records (start c).args.table.now)
 
-returns : tie.Need-returns
-returns c = unsound _ _ (rw c.enum_told.given.1 at c.before.before.tally.ensures)
+returns : tie.Need-returns-in_default
+returns c = unsound _ _ (rw c.in_default.is at c.tally.ensures)
 
-returns-2 : tie.Need-returns-2
+returns-2 : tie.Need-returns
 returns-2 c =
     let known = c.before.before in
     let table = (start known).args.table.now in
@@ -40,11 +40,10 @@ returns-2 c =
     let long = length_records table in
     let counted = (told known).1 in
     let rest : places table - count known ≡ length (records table) - used_to (records table) (length (records table)) = omega arith in
-    ap₂ ◌&&◌ (c.before.climbs.ensures ∙ ap (every (rises_at (records table) index)) counted)
-    (c.vacant-behind.ensures ∙ ap₂ (λ (m r : ℕ). every (λ k. vacant_at index (m + k)) r) counted rest)
-    ∙ fits_exactly (records table) index (omega (arith, (start known).requires)) (λ i. (known.before.before.before.before.shared-slice-known2.given i).fits) (omega (arith, (start known).requires)) (told known).0
+    ap₂ ◌&&◌ (c.climbs.ensures ∙ ap (every (rises_at (records table) index)) counted)
+    (c.vacant_behind.ensures ∙ ap₂ (λ (m r : ℕ). every (λ k. vacant_at index (m + k)) r) counted rest)
+    ∙ fits_exactly (records table) index (omega (arith, (start known).requires)) (λ i. (known.shared_slice_known-2-1.given i).fits) (omega (arith, (start known).requires)) (told known).0
 
 pub fits_spec : {M : Type 1} → statement M
 fits_spec =
-    tie.close (tie.spec (λ c κs. search rules) (λ c. search rules) (λ c. search rules) returns (λ c κs. (few c, (start c).requires.1))
-    (λ c. omega (arith, few c.before)) (λ c κs. omega (arith, few c.before, (start c.before).requires)) returns-2)
+    tie.close (tie.spec (λ c κs. search rules) (λ c. search rules) (λ c. search rules) returns (λ c κs. (few c, (start c).requires.1)) (λ c. omega (arith, few c.before)) (λ c κs. omega (arith, few c.before, (start c.before).requires)) returns-2)
