@@ -90,13 +90,7 @@ fn sizes_fit(key: usize, iv: usize, text: usize, tag: usize, out: usize) -> bool
 }
 
 // AES-256-GCM with no associated data: the sealed text into out, which is as long as text, and the tag's 16 bytes.
-pub fn prim_gcm_seal(
-    key: &[u8],
-    iv: &[u8],
-    text: &[u8],
-    out: &mut [u8],
-    tag: &mut [u8],
-) -> u32
+pub fn prim_gcm_seal(key: &[u8], iv: &[u8], text: &[u8], out: &mut [u8], tag: &mut [u8]) -> u32
     ensures { seal_answer result out.new tag.new ≡ seal_call key.now iv.now text.now out.old tag.old }
 {
     if !sizes_fit(key.len(), iv.len(), text.len(), tag.len(), out.len()) {
@@ -107,13 +101,7 @@ pub fn prim_gcm_seal(
 }
 
 // The text of a sealed one into out, which is as long; 2 where the tag is wrong, with every byte as it was.
-pub fn prim_gcm_open(
-    key: &[u8],
-    iv: &[u8],
-    text: &[u8],
-    tag: &[u8],
-    out: &mut [u8],
-) -> u32
+pub fn prim_gcm_open(key: &[u8], iv: &[u8], text: &[u8], tag: &[u8], out: &mut [u8]) -> u32
     ensures { answer result out.new ≡ open_call key.now iv.now text.now tag.now out.old }
 {
     if !sizes_fit(key.len(), iv.len(), text.len(), tag.len(), out.len()) {

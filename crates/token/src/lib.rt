@@ -35,7 +35,7 @@ pub struct SealedToken {
 // The text of a token at the front of out, and its length.
 fn lay(key: &[u8], id: &[u8], expiry: Time, out: &mut [u8]) -> usize
     requires { (length key.now ≡ 32) × (1 ≤ length id.now) × (length id.now ≤ 64) × (118 ≤ length out.old) }
-    ensures { Laid out.old out.new 0 result (token_text (record { key = key.entry.now; id = id.now; expiry = expiry.0 })) }
+    ensures { Laid out.old out.new 0 result (token_text (record { key = key.now; id = id.now; expiry = expiry.0 })) }
 {
     let shown = decimal::digits(expiry.0 as u64);
     let all = shown.all;
@@ -48,7 +48,7 @@ fn lay(key: &[u8], id: &[u8], expiry: Time, out: &mut [u8]) -> usize
 // The token of a new session, sealed under the server's key and the session's IV.
 pub fn seal(server_key: &[u8], iv: &[u8], key: &[u8], id: &[u8], expiry: Time) -> SealedToken
     requires { (length server_key.now ≡ 32) × (length iv.now ≡ 12) × (length key.now ≡ 32) × (1 ≤ length id.now) × (length id.now ≤ 64) }
-    ensures { SealsTo (sealed_token server_key.now iv.now (record { key = key.entry.now; id = id.now; expiry = expiry.0 })) result }
+    ensures { SealsTo (sealed_token server_key.now iv.now (record { key = key.now; id = id.now; expiry = expiry.0 })) result }
 {
     let mut text = [0u8; 118];
     let s_len = lay(key, id, expiry, &mut text);

@@ -13,35 +13,35 @@ use Rattle.primitives.proofs.Digests.{fills}
 use Rattle.primitives.proofs.code.Statement.{statement}
 use Rattle.primitives.proofs.code.Tie as tie
 
-returns : tie.Need-returns
+returns : tie.Need-returns-then-out-size
 unfolding hmac_call
-returns c = simp (← c.before.size.ensures, ne_eqb _ _ c.if1.true)
+returns c = simp (← c.size-size.ensures, ne_eqb _ _ c.if-out-size.true)
 
-returns-2 : tie.Need-returns-2
+returns-2 : tie.Need-returns-then-key-ge-LIMIT
 unfolding hmac_call
-returns-2 c = simp (← c.before.before.size.ensures, eq-eqb _ _ c.before.if1.false, le-ltb _ _ c.if2.true)
+returns-2 c = simp (← c.size-size.ensures, eq-eqb _ _ c.if-out-size.false, le-ltb _ _ c.if-key-ge-LIMIT.true)
 
-returns-3 : tie.Need-returns-3
+returns-3 : tie.Need-returns-then-text-ge-LIMIT
 unfolding hmac_call
 returns-3 c =
-    simp (← c.before.before.before.size.ensures, eq-eqb _ _ c.before.before.if1.false, lt-ltb _ _ c.before.if2.false, le-ltb _ _ c.if3.true)
+    simp (← c.size-size.ensures, eq-eqb _ _ c.if-out-size.false, lt-ltb _ _ c.if-key-ge-LIMIT.false, le-ltb _ _ c.if-text-ge-LIMIT.true)
 
-array-share-prefix-code : tie.Need-array-share-prefix-code
+array-share-prefix-code : tie.Need-slice_bounds-code-end
 array-share-prefix-code c =
     let tests = c.before.before.before.before.before.before in
-    (digest_front tests.before.before.before.before.before.args.hash _ c.before.finish.result tests.before.size.ensures (search rules)).fits
+    (digest_front tests.args.hash _ c.finish-code.result tests.size-size.ensures (search rules)).fits
 
-slice-aggregate-put-front : tie.Need-slice-aggregate-put-front
+slice-aggregate-put-front : tie.Need-slice_bounds-put_front-end
 slice-aggregate-put-front c =
     let tests = c.before.before.before.before.before.before.before in
-    (digest_front tests.before.before.before.before.before.args.hash _ c.before.before.finish.result tests.before.size.ensures (search rules)).long
+    (digest_front tests.args.hash _ c.finish-code.result tests.size-size.ensures (search rules)).long
 
-put-front-requires : tie.Need-put-front-requires
+put-front-requires : tie.Need-put_front-requires
 put-front-requires c κs =
     let tests = c.before.before.before.before.before.before.before in
-    omega (arith, tests.if1.false, length-take tests.before.size.result c.before.before.finish.result)
+    omega (arith, tests.if-out-size.false, length-take tests.size-size.result c.finish-code.result)
 
-returns-4 : tie.Need-returns-4
+returns-4 : tie.Need-returns
 unfolding hmac_call
 returns-4 c =
     let finished = c.before.before.before.before.before in
@@ -49,13 +49,12 @@ returns-4 c =
     let first = tests.before.before in
     let start = first.before.before.before.before.before in
     let h = start.args.hash in
-    let size : length start.args.out.now ≡ digest_size h = first.if1.false ∙ first.before.size.ensures in
-    simp (eq-eqb _ _ size, lt-ltb _ _ tests.before.if2.false, lt-ltb _ _ tests.if3.false)
+    let size : length start.args.out.now ≡ digest_size h = first.if-out-size.false ∙ first.size-size.ensures in
+    simp (eq-eqb _ _ size, lt-ltb _ _ tests.if-key-ge-LIMIT.false, lt-ltb _ _ tests.if-text-ge-LIMIT.false)
     (ap (answer 0)
-    (fills h _ _ _ first.before.size.ensures (search rules) size c.before.before.put_front.ensures
-    ∙ finished.finish.ensures _ (finished.before.absorb.ensures.appended h _ finished.before.before.begin.ensures.1)))
+    (fills h _ _ _ first.size-size.ensures (search rules) size c.put_front.ensures
+    ∙ finished.finish-code.ensures _ (finished.absorb-taken.ensures.appended h _ finished.begin-fresh.ensures.1)))
 
 pub code_spec : {M : Type 1} → statement M
 code_spec =
-    tie.close (tie.spec (λ c κs. search rules) returns returns-2 returns-3 (λ c κs. search rules) (λ c κs. search rules) (λ c κs. search rules)
-    array-share-prefix-code slice-aggregate-put-front put-front-requires (λ c. search rules) returns-4)
+    tie.close (tie.spec (λ c κs. search rules) returns returns-2 returns-3 (λ c κs. search rules) (λ c κs. search rules) (λ c κs. search rules) array-share-prefix-code slice-aggregate-put-front put-front-requires (λ c. search rules) returns-4)

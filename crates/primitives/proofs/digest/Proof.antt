@@ -14,43 +14,42 @@ use Rattle.primitives.proofs.Digests.{fills}
 use Rattle.primitives.proofs.digest.Statement.{statement}
 use Rattle.primitives.proofs.digest.Tie as tie
 
-returns : tie.Need-returns
+returns : tie.Need-returns-then-out-size
 unfolding digest_call
-returns c = simp (← c.before.size.ensures, ne_eqb _ _ c.if1.true)
+returns c = simp (← c.size-size.ensures, ne_eqb _ _ c.if-out-size.true)
 
-returns-2 : tie.Need-returns-2
+returns-2 : tie.Need-returns-then-text-ge-LIMIT
 unfolding digest_call
-returns-2 c = simp (← c.before.before.size.ensures, eq-eqb _ _ c.before.if1.false, le-ltb _ _ c.if2.true)
+returns-2 c = simp (← c.size-size.ensures, eq-eqb _ _ c.if-out-size.false, le-ltb _ _ c.if-text-ge-LIMIT.true)
 
-array-share-prefix-digest : tie.Need-array-share-prefix-digest
+array-share-prefix-digest : tie.Need-slice_bounds-digest-end
 array-share-prefix-digest c =
     let tests = c.before.before.before.before.before in
-    (digest_front tests.before.before.before.before.args.hash _ c.before.finish.result tests.before.size.ensures (search rules)).fits
+    (digest_front tests.args.hash _ c.finish-digest.result tests.size-size.ensures (search rules)).fits
 
-slice-aggregate-put-front : tie.Need-slice-aggregate-put-front
+slice-aggregate-put-front : tie.Need-slice_bounds-put_front-end
 slice-aggregate-put-front c =
     let tests = c.before.before.before.before.before.before in
-    (digest_front tests.before.before.before.before.args.hash _ c.before.before.finish.result tests.before.size.ensures (search rules)).long
+    (digest_front tests.args.hash _ c.finish-digest.result tests.size-size.ensures (search rules)).long
 
-put-front-requires : tie.Need-put-front-requires
+put-front-requires : tie.Need-put_front-requires
 put-front-requires c κs =
     let tests = c.before.before.before.before.before.before in
-    omega (arith, tests.if1.false, length-take tests.before.size.result c.before.before.finish.result)
+    omega (arith, tests.if-out-size.false, length-take tests.size-size.result c.finish-digest.result)
 
-returns-3 : tie.Need-returns-3
+returns-3 : tie.Need-returns
 unfolding digest_call
 returns-3 c =
     let taken = c.before.before.before.before.before in
     let tests = taken.before.before.before.before in
     let start = tests.before.before.before.before in
     let h = start.args.hash in
-    let size : length start.args.out.now ≡ digest_size h = tests.if1.false ∙ tests.before.size.ensures in
-    simp (eq-eqb _ _ size, lt-ltb _ _ taken.before.before.before.if2.false)
+    let size : length start.args.out.now ≡ digest_size h = tests.if-out-size.false ∙ tests.size-size.ensures in
+    simp (eq-eqb _ _ size, lt-ltb _ _ taken.if-text-ge-LIMIT.false)
     (ap (answer 0)
-    (fills h _ _ _ tests.before.size.ensures (search rules) size c.before.before.put_front.ensures
-    ∙ taken.finish.ensures h _ (taken.before.absorb.ensures.appended h [] taken.before.before.new.ensures.1)))
+    (fills h _ _ _ tests.size-size.ensures (search rules) size c.put_front.ensures
+    ∙ taken.finish-digest.ensures h _ (taken.absorb-taken.ensures.appended h [] taken.new-state.ensures.1)))
 
 pub digest_spec : {M : Type 1} → statement M
 digest_spec =
-    tie.close (tie.spec (λ c κs. search rules) returns returns-2 (λ c κs. search rules) (λ c κs. search rules) (λ c κs. search rules)
-    array-share-prefix-digest slice-aggregate-put-front put-front-requires (λ c. search rules) returns-3)
+    tie.close (tie.spec (λ c κs. search rules) returns returns-2 (λ c κs. search rules) (λ c κs. search rules) (λ c κs. search rules) array-share-prefix-digest slice-aggregate-put-front put-front-requires (λ c. search rules) returns-3)
