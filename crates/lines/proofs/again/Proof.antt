@@ -8,16 +8,12 @@ use lib.ListN.{drop}
 use Rattle.cells.specs.Runs.{cut}
 use Rattle.lines.specs.Lines.{lines_in}
 use Rattle.lines.specs.Values.{values_in}
-use Rattle.lines.specs.InnerPlaces.{WholeLine, Stands, Finds, FoundIs, AgainIs}
+use Rattle.lines.specs.InnerPlaces.{Stands, Finds, FoundIs, AgainIs}
 use Rattle.lines.specs.declared.Found.{Found}
 use Rattle.lines.specs.declared.Found.TheVariants.{At, Missing}
 use Rattle.lines.proofs.Joined.{own_more, stands_within}
 use Rattle.lines.proofs.again.Statement.{statement}
 use Rattle.lines.proofs.again.Tie as tie
-
-line : (c : tie.In-Whole-2)
-    → WholeLine c.args.block.now c.args.at c.in-Whole.colon c.in-Whole.end
-line c = rw c.in-Whole.is at c.line_at.ensures
 
 -- what is found from an index on is found from a lower one on
 sooner : (block : List ℕ) (values : List (List ℕ)) (a b : ℕ) (r : Found) → b ≤ a → Finds block values a r → Finds block values b r
@@ -36,8 +32,8 @@ after block at s r f =
     record { others = others; are = own_more block at s; found = sooner block others (s.end + 2) (at + 1) r (omega (arith, s.is.named, s.is.ordered)) f }
 
 returns-2 : tie.Need-returns
-returns-2 c = after _ _ (record { colon = _; end = _; is = line c.before.before }) _ c.find.ensures
+returns-2 c = after _ _ (record { colon = _; end = _; is = c.in-Whole.ensures }) _ c.find.ensures
 
 pub again_spec : {M : Type 1} → statement M
 again_spec =
-    tie.close (tie.spec (λ c κs. omega (arith, stands_within _ _ c.requires)) (λ c. search rules) (λ c. search rules) returns (λ c. omega (arith, line c)) (λ c. omega (arith, line c)) (λ c. omega (arith, line c)) (λ c. omega (arith, line c)) (λ c κs. omega (arith, line c.before)) returns-2)
+    tie.close (tie.spec (λ c κs. omega (arith, stands_within _ _ c.requires)) (λ c. search rules) (λ c. search rules) returns (λ c. omega (arith, c.in-Whole.ensures)) (λ c. omega (arith, c.in-Whole.ensures)) (λ c. omega (arith, c.in-Whole.ensures)) (λ c. omega (arith, c.in-Whole.ensures)) (λ c κs. omega (arith, c.in-Whole.ensures)) returns-2)

@@ -1,7 +1,6 @@
 -- `back` meets its contract: the bytes from i up to end are blanks.
 -- Assumes nothing.
 use borrow.Author.Rules.{rules}
-use borrow.Author.Tests.{not-true, not-false}
 use mathlib.Core.Path.{◌≡◌, refl, sym, ◌∙◌}
 use Prim.Native.Nat.{◌≤◌}
 use native.Mathlib.Omega.{arith}
@@ -21,14 +20,14 @@ returns : tie.Need-returns-then-not-is_blank invariant-loop decreases-loop
 returns c =
     let at = c.loop-i in
     let a = c.args in
-    let kept = back_kept a.block.now a.start at.i (search rules) (search rules) (sym c.is_blank.ensures ∙ not-true _ c.if-not-is_blank.true) in
+    let kept = back_kept a.block.now a.start at.i (search rules) (search rules) (sym c.is_blank.ensures ∙ c.if-not-is_blank.true) in
     record { from = at.invariant.0; within = at.invariant.1; is = at.invariant.2 ∙ kept }
 
 loop-again : tie.Need-loop-i-preserved invariant-loop decreases-loop
 loop-again c =
     let at = c.loop-i in
     let a = c.args in
-    let blank = back_blank a.block.now a.start at.i (search rules) (search rules) (sym c.is_blank.ensures ∙ not-false _ c.if-not-is_blank.false) in
+    let blank = back_blank a.block.now a.start at.i (search rules) (search rules) (sym c.is_blank.ensures ∙ c.if-not-is_blank.false) in
     (omega arith, omega arith, at.invariant.2 ∙ blank)
 
 returns-2 : tie.Need-returns invariant-loop decreases-loop

@@ -7,7 +7,6 @@ use native.Mathlib.Omega.{arith}
 use lib.ListN.{length, drop}
 use Rattle.lines.specs.Lines.{lines_in}
 use Rattle.lines.specs.Values.{values_in}
-use Rattle.lines.specs.InnerPlaces.{WholeLine}
 use Rattle.lines.proofs.Lines.{lines_stop}
 use Rattle.lines.proofs.Named.{lines_end, values_own, values_past}
 use Rattle.lines.proofs.find.Statement.{statement}
@@ -20,11 +19,6 @@ invariant-loop block at name place₀ place =
 abbrev decreases-loop : tie.decreases-loop-place
 decreases-loop block at name place₀ place = length block - place
 
-line : (c : tie.In-Whole-2 invariant-loop decreases-loop)
-    → WholeLine c.args.block.now c.loop-place.place
-    c.in-Whole.colon c.in-Whole.end
-line c = rw c.in-Whole.is at c.line_at.ensures
-
 returns : tie.Need-returns-in_default invariant-loop decreases-loop
 unfolding values_in
 returns c =
@@ -33,21 +27,19 @@ returns c =
 
 returns-2 : tie.Need-returns-then-same_name invariant-loop decreases-loop
 returns-2 c =
-    let begun = c.before.before.before in
-    let at = begun.loop-place in
+    let at = c.loop-place in
     let same = sym c.same_name.ensures ∙ c.if-same_name.true in
     record {
       from = at.invariant.0;
-      stands = record { colon = _; end = _; is = line begun };
-      are = at.invariant.2 ∙ values_own _ _ _ _ (line begun) _ same;
+      stands = record { colon = _; end = _; is = c.in-Whole.ensures };
+      are = at.invariant.2 ∙ values_own _ _ _ _ c.in-Whole.ensures _ same;
     }
 
 loop-again : tie.Need-loop-place-preserved invariant-loop decreases-loop
 loop-again c =
-    let begun = c.before.before.before in
-    let at = begun.loop-place in
+    let at = c.loop-place in
     let other = sym c.same_name.ensures ∙ c.if-same_name.false in
-    (omega (arith, line begun), (line begun).within, at.invariant.2 ∙ values_past _ _ _ _ (line begun) _ other)
+    (omega (arith, c.in-Whole.ensures), c.in-Whole.ensures.within, at.invariant.2 ∙ values_past _ _ _ _ c.in-Whole.ensures _ other)
 
 returns-3 : tie.Need-returns invariant-loop decreases-loop
 unfolding values_in
@@ -57,4 +49,4 @@ returns-3 c =
 
 pub find_spec : {M : Type 1} → statement M
 find_spec =
-    tie.close (tie.spec invariant-loop decreases-loop (λ c. (omega arith, search rules, refl)) (λ c κs. search rules) (λ c. search rules) (λ c. search rules) returns (λ c. omega (arith, line c)) (λ c. omega (arith, line c)) (λ c. omega (arith, line c)) (λ c κs. search rules) returns-2 (λ c. omega (arith, line c.before.before.before)) (λ c. omega (arith, line c.before.before.before)) loop-again returns-3)
+    tie.close (tie.spec invariant-loop decreases-loop (λ c. (omega arith, search rules, refl)) (λ c κs. search rules) (λ c. search rules) (λ c. search rules) returns (λ c. omega (arith, c.in-Whole.ensures)) (λ c. omega (arith, c.in-Whole.ensures)) (λ c. omega (arith, c.in-Whole.ensures)) (λ c κs. search rules) returns-2 (λ c. omega (arith, c.in-Whole.ensures)) (λ c. omega (arith, c.in-Whole.ensures)) loop-again returns-3)

@@ -6,7 +6,6 @@ use Prim.Native.Nat.{◌-◌, ◌≤◌}
 use native.Mathlib.Omega.{arith}
 use lib.ListN.{length, drop, length-drop}
 use Rattle.lines.specs.Lines.{good_block}
-use Rattle.lines.specs.InnerPlaces.{WholeLine}
 use Rattle.lines.proofs.Lines.{good_stop}
 use Rattle.lines.proofs.Named.{good_at, good_end}
 use Rattle.lines.proofs.good_block.Statement.{statement}
@@ -18,11 +17,6 @@ invariant-loop block at₀ at = (at ≤ length block) × (good_block block ≡ g
 abbrev decreases-loop : tie.decreases-loop-at
 decreases-loop block at₀ at = length block - at
 
-line : (c : tie.In-Whole-2 invariant-loop decreases-loop)
-    → WholeLine c.args.block.now c.loop-at.at
-    c.in-Whole.colon c.in-Whole.end
-line c = rw c.in-Whole.is at c.line_at.ensures
-
 returns : tie.Need-returns-in_default invariant-loop decreases-loop
 returns c =
     let loop = c.loop-at in
@@ -30,8 +24,8 @@ returns c =
     sym (loop.invariant.1 ∙ good_stop _ (simp length-drop (omega arith)) broken)
 
 loop-again : tie.Need-loop-at-preserved invariant-loop decreases-loop
-loop-again c = let whole = line c in (whole.within, c.loop-at.invariant.1 ∙ good_at _ _ _ _ whole)
+loop-again c = let whole = c.in-Whole.ensures in (whole.within, c.loop-at.invariant.1 ∙ good_at _ _ _ _ whole)
 
 pub good_block_spec : {M : Type 1} → statement M
 good_block_spec =
-    tie.close (tie.spec invariant-loop decreases-loop (λ c. (omega arith, refl)) (λ c κs. search rules) (λ c. search rules) (λ c. search rules) returns (λ c. omega (arith, line c)) (λ c. omega (arith, line c)) loop-again (λ c. sym (c.loop-at.invariant.1 ∙ good_end _ _ c.loop-at-test.false)))
+    tie.close (tie.spec invariant-loop decreases-loop (λ c. (omega arith, refl)) (λ c κs. search rules) (λ c. search rules) (λ c. search rules) returns (λ c. omega (arith, c.in-Whole.ensures)) (λ c. omega (arith, c.in-Whole.ensures)) loop-again (λ c. sym (c.loop-at.invariant.1 ∙ good_end _ _ c.loop-at-test.false)))

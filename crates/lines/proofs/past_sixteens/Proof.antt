@@ -4,7 +4,6 @@ use mathlib.Core.Path.{sym, ◌∙◌}
 use Prim.Native.Nat.{◌+◌, ◌-◌}
 use native.Mathlib.Omega.{arith}
 use borrow.Author.Rules.{rules}
-use borrow.Author.Tests.{not-false}
 use lib.ListN.{length}
 use Rattle.cells.specs.Spans.{Passed}
 use Rattle.cells.proofs.Spans.{passed_none, passed_part}
@@ -22,7 +21,7 @@ loop-again : tie.Need-loop-i-preserved invariant-loop decreases-loop
 loop-again c =
     let turn = c.loop-i in
     passed_part value_byte _ _ turn.i (turn.i + 16) turn.invariant (omega arith) (omega (arith, c.loop-i-test.true))
-    (sym c.all_of_value.ensures ∙ not-false _ c.if-not-all_of_value.false)
+    (sym c.all_of_value.ensures ∙ c.if-not-all_of_value.false)
 
 pub past_sixteens_spec : {M : Type 1} → statement M
 past_sixteens_spec =

@@ -37,38 +37,29 @@ noted {head} {aside} {in_head} {in_aside} {ns} {g} {h} on many apart e f taken T
 
 note-block-requires : tie.Need-note_block-head_good-requires
 note-block-requires c κs =
-    let filled = c.before.before.before in
-    let pre = filled.requires in
-    (record { names = _; are = filled.fill-covered.ensures.0 }, omega (arith, pre.2), ap length pre.4)
+    let pre = c.requires in
+    (record { names = _; are = c.fill-covered.ensures.0 }, omega (arith, pre.2), ap length pre.4)
 
 note-block-requires-2 : tie.Need-note_block-aside_good-requires
 note-block-requires-2 c κs =
-    let filled = c.before.before.before.before.before.before.before.before in
-    let pre = filled.requires in
-    (record { names = _; are = filled.fill-covered.ensures.0 }, omega (arith, pre.3), ap length pre.5)
+    let pre = c.requires in
+    (record { names = _; are = c.fill-covered.ensures.0 }, omega (arith, pre.3), ap length pre.5)
 
 repeats-requires : tie.Need-repeats-head_twice-requires
 repeats-requires c κs =
-    let taken = c.before.before.before.before.before.before.before.before.before in
-    let filled = taken.before.before.before.before in
-    let size = ap length filled.requires.4 in
-    (record { names = _; are = filled.fill-covered.ensures.0; as_many = sym filled.fill-covered.ensures.1 }, omega (arith, taken.note_block-head_good.auto))
+    let size = ap length c.requires.4 in
+    (record { names = _; are = c.fill-covered.ensures.0; as_many = sym c.fill-covered.ensures.1 }, omega (arith, c.note_block-head_good.auto))
 
 repeats-requires-2 : tie.Need-repeats-aside_twice-requires
 repeats-requires-2 c κs =
-    let taken = c.before.before.before.before.before.before.before in
-    let filled = taken.before.before.before.before.before.before.before.before.before in
-    let size = ap length filled.requires.5 in
-    (record { names = _; are = filled.fill-covered.ensures.0; as_many = sym filled.fill-covered.ensures.1 }, omega (arith, taken.note_block-aside_good.auto))
+    let size = ap length c.requires.5 in
+    (record { names = _; are = c.fill-covered.ensures.0; as_many = sym c.fill-covered.ensures.1 }, omega (arith, c.note_block-aside_good.auto))
 
 returns : tie.Need-returns
 returns c =
-    let aside = c.before.before.before.before.before.before.before.before in
-    let head = aside.before.before.before.before.before in
-    let filled = head.before.before.before.before in
-    let pre = filled.requires in
-    noted filled.fill-covered.ensures.0 filled.fill-covered.ensures.1 (covered_apart _ _ pre.1) pre.4 pre.5
-    head.note_block-head_good.ensures aside.note_block-aside_good.ensures c.repeats-head_twice.ensures c.repeats-aside_twice.ensures
+    let pre = c.requires in
+    noted c.fill-covered.ensures.0 c.fill-covered.ensures.1 (covered_apart _ _ pre.1) pre.4 pre.5
+    c.note_block-head_good.ensures c.note_block-aside_good.ensures c.repeats-head_twice.ensures c.repeats-aside_twice.ensures
 
 pub note_spec : {M : Type 1} → statement M
 note_spec =

@@ -9,7 +9,6 @@ use native.Mathlib.Omega.{arith}
 use lib.ListN.{length, get_or, drop, replicate, length-drop}
 use Rattle.names.specs.InnerSheet.{Sheet}
 use Rattle.lines.specs.Lines.{good_block}
-use Rattle.lines.specs.InnerPlaces.{WholeLine}
 use Rattle.lines.specs.InnerNotes.{Apart}
 use Rattle.lines.proofs.Lines.{good_stop}
 use Rattle.lines.proofs.Named.{good_at, good_end}
@@ -28,11 +27,6 @@ invariant-loop known extra sheet block notes₀ at₀ notes at =
 abbrev decreases-loop : tie.decreases-loop-at
 decreases-loop known extra sheet block notes₀ at₀ notes at = length block - at
 
-line : (c : tie.In-Whole-2 invariant-loop decreases-loop)
-    → WholeLine c.args.block.now c.loop-at.at
-    c.in-Whole.colon c.in-Whole.end
-line c = rw c.in-Whole.is at c.line_at.ensures
-
 loop-holds : tie.Need-loop-at-init invariant-loop decreases-loop
 loop-holds c = (omega arith, search rules, refl, λ ns on apart empty i h. noting_start empty (omega (arith, on.few)))
 
@@ -49,7 +43,7 @@ mark-requires c κs =
 
 loop-again : tie.Need-loop-at-preserved invariant-loop decreases-loop
 loop-again c =
-    let whole = line c.before.before.before.before.before.before in
+    let whole = c.in-Whole.ensures in
     let loop = c.loop-at in
     let number = c.number-number.ensures in (
       whole.within,
@@ -67,4 +61,4 @@ returns-2 c =
 
 pub note_block_spec : {M : Type 1} → statement M
 note_block_spec =
-    tie.close (tie.spec invariant-loop decreases-loop loop-holds (λ c κs. search rules) (λ c. search rules) (λ c. search rules) (λ c. search rules) returns (λ c. omega (arith, line c)) (λ c. omega (arith, line c)) (λ c. omega (arith, line c)) (λ c κs. search rules) mark-requires (λ c. omega (arith, line c.before.before.before.before.before.before)) (λ c. omega (arith, line c.before.before.before.before.before.before)) loop-again (λ c. search rules) returns-2)
+    tie.close (tie.spec invariant-loop decreases-loop loop-holds (λ c κs. search rules) (λ c. search rules) (λ c. search rules) (λ c. search rules) returns (λ c. omega (arith, c.in-Whole.ensures)) (λ c. omega (arith, c.in-Whole.ensures)) (λ c. omega (arith, c.in-Whole.ensures)) (λ c κs. search rules) mark-requires (λ c. omega (arith, c.in-Whole.ensures)) (λ c. omega (arith, c.in-Whole.ensures)) loop-again (λ c. search rules) returns-2)

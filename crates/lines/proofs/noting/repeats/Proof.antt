@@ -4,7 +4,6 @@ use borrow.Author.Rules.{rules}
 use borrow.Author.Tests.{le-leb, lt-leb}
 use mathlib.Core.Path.{◌≡◌, refl, sym, ap, ◌∙◌}
 use mathlib.Core.List.{List, []}
-use mathlib.Core.Logic.{⊎_elim}
 use mathlib.Core.Bool.{not, ◌&&◌, ◌||◌, and-false}
 use Prim.Native.Nat.{ℕ, ◌+◌, ◌-◌, ◌≤◌, ◌<◌}
 use native.Mathlib.Numerals.{add-one}
@@ -18,6 +17,7 @@ use Rattle.lines.specs.Lines.{lines_in}
 use Rattle.lines.specs.Values.{repeated}
 use Rattle.lines.specs.InnerNotes.{NoteIs, Notes}
 use Rattle.lines.proofs.noting.repeats.Statement.{statement}
+use Rattle.lines.proofs.noting.repeats.Lts.{then-notes-i-ge32768+else-single, else-notes-i-ge32768}
 use Rattle.lines.proofs.noting.repeats.Tie as tie
 
 abbrev invariant-loop : tie.invariant-loop-i
@@ -59,7 +59,10 @@ loop-again c =
     let loop = c.loop-i in (
       omega arith,
       λ ns block on many are. loop.invariant.1 ns block on many are ∙ repeated_next on loop.i (omega arith) (are loop.i (omega arith))
-          ∙ ⊎_elim (λ w. simp (← w.1.ensures, w.2.left)) (λ w. simp (lt-leb _ _ w.left, and-false)) c.if-notes-i-ge32768.branch,
+          ∙ elim c.if-notes-i-ge32768.branch [
+            | then-notes-i-ge32768+else-single w ↦ simp (← w.single.ensures, w.if-single.false)
+            | else-notes-i-ge32768 w ↦ simp (lt-leb _ _ w.if-notes-i-ge32768.false, and-false)
+          ],
     )
 
 returns-2 : tie.Need-returns invariant-loop decreases-loop
