@@ -13,8 +13,7 @@ mod sizes;
 mod verify;
 
 // Writes the fields Signature-Input and Signature of a message to the front of out. The answer is the number plus 256 times their length.
-#[unsafe(no_mangle)]
-pub extern "C" fn carrier_sign(
+pub fn carrier_sign(
     method: &[u8],
     authority: &[u8],
     path: &[u8],
@@ -43,8 +42,7 @@ pub extern "C" fn carrier_sign(
 }
 
 // Whether a message bears the signature that is asked for. Where it does, created becomes its time, as 8 bytes.
-#[unsafe(no_mangle)]
-pub extern "C" fn carrier_verify(
+pub fn carrier_verify(
     method: &[u8],
     authority: &[u8],
     path: &[u8],
