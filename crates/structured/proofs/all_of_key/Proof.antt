@@ -11,18 +11,18 @@ use Rattle.cells.proofs.Spans.{all_from, all_past}
 use Rattle.structured.proofs.all_of_key.Statement.{statement}
 use Rattle.structured.proofs.all_of_key.Tie as tie
 
-abbrev invariant-loop : tie.invariant-loop
+abbrev invariant-loop : tie.invariant-loop-i
 invariant-loop run good₀ i₀ good i = all key_byte run ≡ (good && all key_byte (drop i run))
 
-abbrev decreases-loop : tie.decreases-loop
+abbrev decreases-loop : tie.decreases-loop-i
 decreases-loop run good₀ i₀ good i = length run - i
 
-loop-again : tie.Need-loop-preserved invariant-loop decreases-loop
+loop-again : tie.Need-loop-i-preserved invariant-loop decreases-loop
 loop-again c =
-    let turn = c.before.before.before.loop in
-    turn.invariant ∙ rw (all_from key_byte _ turn.i c.before.before.loop-test.true, c.key-byte.ensures) (sym (and_assoc turn.good _ _))
+    let turn = c.loop-i in
+    turn.invariant ∙ rw (all_from key_byte _ turn.i c.loop-i-test.true, c.key_byte-good.ensures) (sym (and_assoc turn.good _ _))
 
 pub all_of_key_spec : {M : Type 1} → statement M
 all_of_key_spec =
-    tie.close (tie.spec invariant-loop decreases-loop (λ c. refl) (λ c. search rules) (λ c κs. search rules) (λ c. search rules) (λ c. search rules) loop-again
-    (λ c. sym (c.before.loop.invariant ∙ all_past key_byte _ c.before.loop.good c.before.loop.i c.loop-test.false)))
+    tie.close (tie.spec invariant-loop decreases-loop (λ c. refl) (λ c. search rules) (λ c κs. search rules) (λ c. search rules) (λ c. search rules)
+    loop-again (λ c. sym (c.loop-i.invariant ∙ all_past key_byte _ c.loop-i.good c.loop-i.i c.loop-i-test.false)))

@@ -8,6 +8,5 @@ use Rattle.structured.proofs.is_key.Tie as tie
 
 pub is_key_spec : {M : Type 1} → statement M
 is_key_spec =
-    tie.close (tie.spec (λ c. sym (key_none _ c.if1.true)) (λ c. search rules) (λ c κs. search rules) (λ c. search rules) (λ c. search rules)
-    (λ c. search rules) (λ c κs. search rules)
-    (λ c. rw (c.all-of-key.ensures, c.before.before.key-start.ensures) (sym (key_some _ c.before.before.before.before.if1.false))))
+    tie.close (tie.spec (λ c. sym (key_none _ c.if-run-eq0.true)) (λ c. search rules) (λ c κs. search rules) (λ c. search rules) (λ c. search rules)
+    (λ c. search rules) (λ c κs. search rules) (λ c. rw (c.all_of_key.ensures, c.key_start.ensures) (sym (key_some _ c.if-run-eq0.false))))

@@ -8,19 +8,15 @@ use Rattle.structured.proofs.Texts.{escaped_marked, escaped_kept}
 use Rattle.structured.proofs.put_byte.Statement.{statement}
 use Rattle.structured.proofs.put_byte.Tie as tie
 
-put-at-requires : tie.Need-put-at-requires
+put-at-requires : tie.Need-put_at-requires
 put-at-requires c κs =
-    let start = c.before.before.before.before in
-    omega (arith, start.requires, ap length (escaped_marked start.args.b c.before.before.if1.true))
+    omega (arith, c.requires, ap length (escaped_marked c.args.b c.if-b.true))
 
-put-at-requires-2 : tie.Need-put-at-requires-2
+put-at-requires-2 : tie.Need-put_at-requires-2
 put-at-requires-2 c κs =
-    let start = c.before.before.before.before in
-    omega (arith, start.requires, ap length (escaped_kept start.args.b c.before.before.if1.false))
+    omega (arith, c.requires, ap length (escaped_kept c.args.b c.if-b.false))
 
 pub put_byte_spec : {M : Type 1} → statement M
 put_byte_spec =
-    tie.close (tie.spec (λ c. search rules) put-at-requires
-    (λ c. search rules) (λ c. rw (escaped_marked _ c.before.before.before.before.before.if1.true) c.before.before.put-at.ensures)
-    (λ c. search rules) put-at-requires-2 (λ c. search rules)
-    (λ c. rw (escaped_kept _ c.before.before.before.before.before.if1.false) c.before.before.put-at2.ensures))
+    tie.close (tie.spec (λ c. search rules) put-at-requires (λ c. search rules) (λ c. rw (escaped_marked _ c.if-b.true) c.put_at.ensures)
+    (λ c. search rules) put-at-requires-2 (λ c. search rules) (λ c. rw (escaped_kept _ c.if-b.false) c.put_at-2.ensures))

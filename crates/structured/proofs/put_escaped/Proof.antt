@@ -11,27 +11,27 @@ use Rattle.structured.proofs.Laying.{Laying, laying_none, laying_same, laying_ne
 use Rattle.structured.proofs.put_escaped.Statement.{statement}
 use Rattle.structured.proofs.put_escaped.Tie as tie
 
-abbrev invariant-loop : tie.invariant-loop
+abbrev invariant-loop : tie.invariant-loop-i
 invariant-loop out₀ at text end₀ i₀ out end i = Laying out₀ out at end (escaped text) (escaped (drop i text))
 
-abbrev decreases-loop : tie.decreases-loop
+abbrev decreases-loop : tie.decreases-loop-i
 decreases-loop out₀ at text end₀ i₀ out end i = length text - i
 
-loop-holds : tie.Need-loop-init invariant-loop decreases-loop
+loop-holds : tie.Need-loop-i-init invariant-loop decreases-loop
 loop-holds c = laying_none _ _ (search rules) refl
 
-put-byte-requires : tie.Need-put-byte-requires invariant-loop decreases-loop
+put-byte-requires : tie.Need-put_byte-end-requires invariant-loop decreases-loop
 put-byte-requires c κs =
-    let turn = c.before.before.before.loop in
-    let text = c.before.before.before.before.before.before.args.text.now in
-    laying_next turn.invariant (escaped (get_or text turn.i 0 ∷ [])) _ (escaped_from text turn.i c.before.before.loop-test.true)
+    let turn = c.loop-i in
+    let text = c.args.text.now in
+    laying_next turn.invariant (escaped (get_or text turn.i 0 ∷ [])) _ (escaped_from text turn.i c.loop-i-test.true)
 
-loop-again : tie.Need-loop-preserved invariant-loop decreases-loop
+loop-again : tie.Need-loop-i-preserved invariant-loop decreases-loop
 loop-again c =
-    let turn = c.before.before.before.before.before.before.loop in
-    laying_more turn.invariant (escaped_from _ turn.i c.before.before.before.before.before.loop-test.true) c.before.before.put_byte.ensures
+    let turn = c.loop-i in
+    laying_more turn.invariant (escaped_from _ turn.i c.loop-i-test.true) c.put_byte-end.ensures
 
 pub put_escaped_spec : {M : Type 1} → statement M
 put_escaped_spec =
-    tie.close (tie.spec invariant-loop decreases-loop loop-holds (λ c. search rules) put-byte-requires (λ c. search rules) (λ c. search rules) loop-again
-    (λ c. laying_same c.before.loop.invariant) (λ c. laying_all c.before.loop.invariant (escaped_past _ c.before.loop.i c.loop-test.false)))
+    tie.close (tie.spec invariant-loop decreases-loop loop-holds (λ c. search rules) put-byte-requires (λ c. search rules) (λ c. search rules)
+    loop-again (λ c. laying_same c.loop-i.invariant) (λ c. laying_all c.loop-i.invariant (escaped_past _ c.loop-i.i c.loop-i-test.false)))

@@ -9,33 +9,30 @@ use Rattle.structured.proofs.Laying.{laid_between}
 use Rattle.structured.proofs.put_list.Statement.{statement}
 use Rattle.structured.proofs.put_list.Tie as tie
 
-put-at-requires : tie.Need-put-at-requires
-put-at-requires c κs = omega (arith, list_length (extra_names c.before.before.before.before.args.run.now))
+put-at-requires : tie.Need-put_at-start-requires
+put-at-requires c κs = omega (arith, list_length (extra_names c.args.run.now))
 
-put-strings-requires : tie.Need-put-strings-requires
+put-strings-requires : tie.Need-put_strings-end-requires
 put-strings-requires c κs =
-    let start = c.before.before.before.before.before.before.before.before in
-    omega (arith, start.requires, c.before.before.before.put-at.ensures.ends, list_length (extra_names start.args.run.now))
+    omega (arith, c.requires, c.put_at-start.ensures.ends, list_length (extra_names c.args.run.now))
 
-put-at-requires-2 : tie.Need-put-at-requires-2
+put-at-requires-2 : tie.Need-put_at-requires
 put-at-requires-2 c κs =
-    let start = c.before.before.before.before.before.before.before.before.before.before.before.before.before in
     omega (
       arith,
-      start.requires,
-      list_length (extra_names start.args.run.now),
-      c.before.before.before.before.put-strings.ensures.ends,
-      c.before.before.before.before.before.before.before.before.put-at.ensures.ends,
+      c.requires,
+      list_length (extra_names c.args.run.now),
+      c.put_strings-end.ensures.ends,
+      c.put_at-start.ensures.ends,
     )
 
 returns : tie.Need-returns
 unfolding inner_list
 returns c =
-    let start = c.before.before.before.before.before.before.before.before.before.before.before.before.before.before.before.before in
-    let opened = c.before.before.before.before.before.before.before.before.before.before.before.put-at in
-    let inner = c.before.before.before.before.before.before.before.put-strings in
-    laid_between opened.ensures inner.ensures c.before.before.put-at2.ensures (omega (arith, start.requires, list_length (extra_names start.args.run.now)))
+    let opened = c.put_at-start in
+    let inner = c.put_strings-end in
+    laid_between opened.ensures inner.ensures c.put_at.ensures (omega (arith, c.requires, list_length (extra_names c.args.run.now)))
 
 pub put_list_spec : {M : Type 1} → statement M
 put_list_spec =
-    tie.close (tie.spec (λ c. search rules) put-at-requires put-strings-requires (λ c. search rules) put-at-requires-2 (λ c. search rules) returns)
+    tie.close (tie.spec put-at-requires put-strings-requires put-at-requires-2 (λ c. search rules) returns)

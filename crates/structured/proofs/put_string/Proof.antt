@@ -8,33 +8,30 @@ use Rattle.structured.proofs.Laying.{laid_between}
 use Rattle.structured.proofs.put_string.Statement.{statement}
 use Rattle.structured.proofs.put_string.Tie as tie
 
-put-at-requires : tie.Need-put-at-requires
-put-at-requires c κs = omega (arith, string_length c.before.before.before.before.args.text.now)
+put-at-requires : tie.Need-put_at-start-requires
+put-at-requires c κs = omega (arith, string_length c.args.text.now)
 
-put-escaped-requires : tie.Need-put-escaped-requires
+put-escaped-requires : tie.Need-put_escaped-end-requires
 put-escaped-requires c κs =
-    let start = c.before.before.before.before.before.before.before.before in
-    omega (arith, start.requires, c.before.before.before.put-at.ensures.ends, string_length start.args.text.now)
+    omega (arith, c.requires, c.put_at-start.ensures.ends, string_length c.args.text.now)
 
-put-at-requires-2 : tie.Need-put-at-requires-2
+put-at-requires-2 : tie.Need-put_at-requires
 put-at-requires-2 c κs =
-    let start = c.before.before.before.before.before.before.before.before.before.before.before.before.before in
     omega (
       arith,
-      start.requires,
-      string_length start.args.text.now,
-      c.before.before.before.before.put-escaped.ensures.ends,
-      c.before.before.before.before.before.before.before.before.put-at.ensures.ends,
+      c.requires,
+      string_length c.args.text.now,
+      c.put_escaped-end.ensures.ends,
+      c.put_at-start.ensures.ends,
     )
 
 returns : tie.Need-returns
 unfolding string
 returns c =
-    let start = c.before.before.before.before.before.before.before.before.before.before.before.before.before.before.before.before in
-    let opened = c.before.before.before.before.before.before.before.before.before.before.before.put-at in
-    let text = c.before.before.before.before.before.before.before.put-escaped in
-    laid_between opened.ensures text.ensures c.before.before.put-at2.ensures (omega (arith, start.requires, string_length start.args.text.now))
+    let opened = c.put_at-start in
+    let text = c.put_escaped-end in
+    laid_between opened.ensures text.ensures c.put_at.ensures (omega (arith, c.requires, string_length c.args.text.now))
 
 pub put_string_spec : {M : Type 1} → statement M
 put_string_spec =
-    tie.close (tie.spec (λ c. search rules) put-at-requires put-escaped-requires (λ c. search rules) put-at-requires-2 (λ c. search rules) returns)
+    tie.close (tie.spec put-at-requires put-escaped-requires put-at-requires-2 (λ c. search rules) returns)

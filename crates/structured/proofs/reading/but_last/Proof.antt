@@ -9,14 +9,14 @@ use lib.Seq.{take_all, length-take-le}
 use Rattle.structured.proofs.reading.but_last.Statement.{statement}
 use Rattle.structured.proofs.reading.but_last.Tie as tie
 
-returns : tie.Need-returns
+returns : tie.Need-returns-then-run-eq0
 returns c =
-    let run = c.before.args.run.now in
+    let run = c.args.run.now in
     sym (take_all (length run - 1) run (omega arith))
 
-slice-aggregate-result : tie.Need-slice-aggregate-result
+slice-aggregate-result : tie.Need-slice_bounds-result-length
 slice-aggregate-result c =
-    let run = c.before.before.args.run.now in
+    let run = c.args.run.now in
     sym (length-take-le (length run - 1) run (omega arith))
 
 pub but_last_spec : {M : Type 1} → statement M

@@ -12,15 +12,15 @@ use Rattle.cells.proofs.Spans.{passed_none, passed_more, passed_stop, passed_end
 use Rattle.structured.proofs.reading.end_before.Statement.{statement}
 use Rattle.structured.proofs.reading.end_before.Tie as tie
 
-abbrev invariant-loop : tie.invariant-loop
+abbrev invariant-loop : tie.invariant-loop-i
 invariant-loop b run i₀ i = Passed (other b) run 0 i
 
-abbrev decreases-loop : tie.decreases-loop
+abbrev decreases-loop : tie.decreases-loop-i
 decreases-loop b run i₀ i = length run - i
 
 pub end_before_spec : {M : Type 1} → statement M
 end_before_spec =
     tie.close (tie.spec invariant-loop decreases-loop (λ c. passed_none (other _) _ _ (search rules)) (λ c. search rules)
-    (λ c. passed_stop (other _) _ _ _ c.before.before.before.loop.invariant (search rules) (ap not (eq-eqb _ _ c.if1.true))) (λ c. search rules)
-    (λ c. search rules) (λ c. passed_more (other _) _ _ _ c.before.before.before.loop.invariant (search rules) (ap not (ne_eqb _ _ c.if1.false)))
-    (λ c. passed_end (other _) _ _ _ c.before.loop.invariant c.loop-test.false))
+    (λ c. passed_stop (other _) _ _ _ c.loop-i.invariant (search rules) (ap not (eq-eqb _ _ c.if-run-i.true))) (λ c. search rules)
+    (λ c. search rules) (λ c. passed_more (other _) _ _ _ c.loop-i.invariant (search rules) (ap not (ne_eqb _ _ c.if-run-i.false)))
+    (λ c. passed_end (other _) _ _ _ c.loop-i.invariant c.loop-i-test.false))

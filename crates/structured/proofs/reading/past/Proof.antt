@@ -10,6 +10,5 @@ use Rattle.structured.proofs.reading.past.Tie as tie
 
 pub past_spec : {M : Type 1} → statement M
 past_spec =
-    tie.close (tie.spec (λ c. search rules)
-    (λ c. sym (drop_of_length-le c.before.before.args.run.now {i = c.before.before.args.n} (omega arith)))
-    (λ c. search rules) (λ c. search rules) (λ c. search rules) (λ c. cut_rest _ c.before.before.args.n))
+    tie.close (tie.spec (λ c. search rules) (λ c. sym (drop_of_length-le c.args.run.now {i = c.args.n} (omega arith))) (λ c. search rules)
+    (λ c. search rules) (λ c. search rules) (λ c. cut_rest _ c.args.n))

@@ -2,7 +2,6 @@
 -- Assumes nothing.
 use borrow.Author.Rules.{rules}
 use native.Mathlib.Omega.{arith}
-use borrow.Author.Tests.{not-true, not-false}
 use mathlib.Core.Bool.{true}
 use mathlib.Core.Path.{◌≡◌, refl}
 use Prim.Native.Nat.{◌+◌, ◌-◌, ◌^◌, ◌≤◌, ◌<◌}
@@ -16,60 +15,60 @@ use Rattle.structured.proofs.Steps.{value_more, value_small, value_bound, counte
 use Rattle.structured.proofs.reading.read_integer.Statement.{statement}
 use Rattle.structured.proofs.reading.read_integer.Tie as tie
 
-abbrev invariant-loop : tie.invariant-loop
+abbrev invariant-loop : tie.invariant-loop-digits
 invariant-loop run value₀ digits₀ value digits = Passed digit (take 15 run) 0 digits × (value ≡ value_after 0 (take digits run)) × (value + 1 ≤ 10 ^ digits)
 
-abbrev decreases-loop : tie.decreases-loop
+abbrev decreases-loop : tie.decreases-loop-digits
 decreases-loop run value₀ digits₀ value digits = length run - digits
 
-loop-holds : tie.Need-loop-init invariant-loop decreases-loop
+loop-holds : tie.Need-loop-digits-init invariant-loop decreases-loop
 unfolding value_after
 loop-holds c = (passed_none digit _ 0 (search rules), refl, search rules)
 
-on : (c : tie.In-loop invariant-loop decreases-loop) → (c.before.loop.digits < length c.before.before.args.run.now) × (c.before.loop.digits < 15)
-on c = counted (length c.before.before.args.run.now) c.before.loop.digits c.loop-test.true
+on : (c : tie.In-loop-digits invariant-loop decreases-loop) → (c.loop-digits.digits < length c.args.run.now) × (c.loop-digits.digits < 15)
+on c = counted (length c.args.run.now) c.loop-digits.digits c.loop-digits-test.true
 
 -- the byte that is looked at
-inside : (c : tie.In-loop invariant-loop decreases-loop) → c.before.loop.digits < length (take 15 c.before.before.args.run.now)
+inside : (c : tie.In-loop-digits invariant-loop decreases-loop) → c.loop-digits.digits < length (take 15 c.args.run.now)
 inside c = rw length-take (omega (arith, on c))
 
-same : (c : tie.In-loop invariant-loop decreases-loop)
-    → get_or (take 15 c.before.before.args.run.now) c.before.loop.digits 0 ≡ get_or c.before.before.args.run.now c.before.loop.digits 0
-same c = get_or-take 15 c.before.before.args.run.now c.before.loop.digits 0 (on c).1
+same : (c : tie.In-loop-digits invariant-loop decreases-loop)
+    → get_or (take 15 c.args.run.now) c.loop-digits.digits 0 ≡ get_or c.args.run.now c.loop-digits.digits 0
+same c = get_or-take 15 c.args.run.now c.loop-digits.digits 0 (on c).1
 
-returns : tie.Need-returns invariant-loop decreases-loop
+returns : tie.Need-returns-then-not-b invariant-loop decreases-loop
 returns c =
-    let turn = c.before.before.before.loop in
-    let run = c.before.before.before.before.args.run.now in
+    let turn = c.loop-digits in
+    let run = c.args.run.now in
     let at = c.before.before in
-    integer_is run _ (passed_stop digit (take 15 run) 0 turn.digits turn.invariant.0 (inside at) (rw (same at) (not-true _ c.if1.true))) turn.invariant.1
+    integer_is run _ (passed_stop digit (take 15 run) 0 turn.digits turn.invariant.0 (inside at) (rw (same at) c.if-not-b.true)) turn.invariant.1
 
-small : (c : tie.In-loop invariant-loop decreases-loop) → c.before.loop.value < 100000000000000
-small c = value_small c.before.loop.digits c.before.loop.value (omega (arith, on c)) c.before.loop.invariant.2
+small : (c : tie.In-loop-digits invariant-loop decreases-loop) → c.loop-digits.value < 100000000000000
+small c = value_small c.loop-digits.digits c.loop-digits.value (omega (arith, on c)) c.loop-digits.invariant.2
 
-is_digit : (c : tie.Else1 invariant-loop decreases-loop) → digit (get_or c.before.before.before.before.args.run.now c.before.before.before.loop.digits 0) ≡ true
-is_digit c = not-false _ c.if1.false
+is_digit : (c : tie.Else-not-b invariant-loop decreases-loop) → digit (get_or c.args.run.now c.loop-digits.digits 0) ≡ true
+is_digit c = c.if-not-b.false
 
-range : (c : tie.Else1 invariant-loop decreases-loop)
-    → let b = get_or c.before.before.before.before.args.run.now c.before.before.before.loop.digits 0 in
+range : (c : tie.Else-not-b invariant-loop decreases-loop)
+    → let b = get_or c.args.run.now c.loop-digits.digits 0 in
     (48 ≤ b) × (b ≤ 57)
-range c = digit_range (get_or c.before.before.before.before.args.run.now c.before.before.before.loop.digits 0) (is_digit c)
+range c = digit_range (get_or c.args.run.now c.loop-digits.digits 0) (is_digit c)
 
-loop-again : tie.Need-loop-preserved invariant-loop decreases-loop
+loop-again : tie.Need-loop-digits-preserved invariant-loop decreases-loop
 loop-again c =
-    let turn = c.before.before.before.loop in
-    let run = c.before.before.before.before.args.run.now in
+    let turn = c.loop-digits in
+    let run = c.args.run.now in
     let at = c.before.before in (
       passed_more digit (take 15 run) 0 turn.digits turn.invariant.0 (inside at) (rw (same at) (is_digit c)),
       value_more run turn.digits (on at).0 turn.value turn.invariant.1,
       value_bound turn.digits turn.value (get_or run turn.digits 0) turn.invariant.2 (is_digit c),
     )
 
-returns-2 : tie.Need-returns-2 invariant-loop decreases-loop
+returns-2 : tie.Need-returns invariant-loop decreases-loop
 returns-2 c =
-    let turn = c.before.loop in
-    let run = c.before.before.args.run.now in
-    integer_is run _ (passed_end digit (take 15 run) 0 turn.digits turn.invariant.0 (counted_out run turn.digits c.loop-test.false)) turn.invariant.1
+    let turn = c.loop-digits in
+    let run = c.args.run.now in
+    integer_is run _ (passed_end digit (take 15 run) 0 turn.digits turn.invariant.0 (counted_out run turn.digits c.loop-digits-test.false)) turn.invariant.1
 
 pub read_integer_spec : {M : Type 1} → statement M
 read_integer_spec =
