@@ -36,5 +36,8 @@ room c = omega (arith, c.rank-at.ensures.within, holds_long (start c).requires.h
 
 pub enter_spec : {M : Type 1} → statement M
 enter_spec =
-    tie.close (tie.spec (λ c κs. within c.before.before) (λ c. search rules) (λ c κs. let s = c.before.before.before.before.before in (search rules, record { ps = s.requires.ps; holds = s.requires.holds })) (λ c. search rules) room room (λ c. search rules) (λ c κs. let s = start c.before in
-    (room_made s.requires.holds _ (ranks c.before) s.requires.room, omega (arith, s.requires.used, s.requires.holds.small))) (λ c. search rules) (λ c ps h few. entry_made h _ (ranks c.before.before.before.before) few c.«open».ensures))
+    tie.close (tie.spec (λ c κs. within c.before.before) (λ c. search rules)
+    (λ c κs. let s = c.before.before.before.before.before in (search rules, record { ps = s.requires.ps; holds = s.requires.holds }))
+    (λ c. search rules) room room (λ c. search rules) (λ c κs. let s = start c.before in
+    (room_made s.requires.holds _ (ranks c.before) s.requires.room, omega (arith, s.requires.used, s.requires.holds.small))) (λ c. search rules)
+    (λ c ps h few. entry_made h _ (ranks c.before.before.before.before) few c.«open».ensures))

@@ -32,5 +32,6 @@ returns c =
 pub enter_next_spec : {M : Type 1} → statement M
 enter_next_spec =
     tie.close (tie.spec (λ c κs. search rules) returns (λ c κs. let start = c.before.before.before.before.before in
-    made_enterable _ start.requires.1 _ (within start) start.requires.0 (used c.before).1) (λ c. search rules) (λ c. let start = c.before.before.before.before.before.before.before.before in
+    made_enterable _ start.requires.1 _ (within start) start.requires.0 (used c.before).1) (λ c. search rules)
+    (λ c. let start = c.before.before.before.before.before.before.before.before in
     made_used _ start.requires.1 _ (within start) start.requires.0 (used c.before.before.before.before).1 c.enter.ensures))

@@ -22,4 +22,6 @@ returns-2 c =
 
 pub free_spec : {M : Type 1} → statement M
 free_spec =
-    tie.close (tie.spec (λ c. search rules) (λ c. search rules) (λ c. (rw c.in_default.is refl, c.requires.1)) (λ c κs. (within c.before, c.requires.1)) (λ c κs. search rules) (λ c κs. within c.before.before.before.before.before.before) (λ c. search rules) (λ c. search rules) returns-2)
+    tie.close (tie.spec (λ c. search rules) (λ c. search rules) (λ c. (rw c.in_default.is refl, c.requires.1))
+    (λ c κs. (within c.before, c.requires.1)) (λ c κs. search rules) (λ c κs. within c.before.before.before.before.before.before) (λ c. search rules)
+    (λ c. search rules) returns-2)

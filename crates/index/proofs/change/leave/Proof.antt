@@ -51,5 +51,9 @@ room c = omega (arith, c.rank-at.ensures.within, holds_long (indexed_holds (star
 
 pub leave_spec : {M : Type 1} → statement M
 leave_spec =
-    tie.close (tie.spec (λ c κs. c.requires.0) returns (λ c. search rules) (λ c κs. (search rules, record { ps = _; holds = indexed_holds c.requires.1 })) (λ c. omega (arith, c.rank-at.ensures.within, (start c).requires.1.few, length_records (start c).args.table.now)) room room (λ c. search rules) (λ c κs. room_taken (indexed_holds (start c.before).requires.1) _ (ranks c.before) (stands c.before)) (λ c. search rules) (λ c. let at = c.before.before.before.before in
+    tie.close (tie.spec (λ c κs. c.requires.0) returns (λ c. search rules)
+    (λ c κs. (search rules, record { ps = _; holds = indexed_holds c.requires.1 }))
+    (λ c. omega (arith, c.rank-at.ensures.within, (start c).requires.1.few, length_records (start c).args.table.now)) room room (λ c. search rules)
+    (λ c κs. room_taken (indexed_holds (start c.before).requires.1) _ (ranks c.before) (stands c.before)) (λ c. search rules)
+    (λ c. let at = c.before.before.before.before in
     freed_used _ _ (start at).requires.0 (start at).requires.1 (entry_taken (indexed_holds (start at).requires.1) _ (ranks at) (stands at) c.close.ensures)))

@@ -23,9 +23,12 @@ pub make_spec : {M : Type 1} → statement M
 make_spec =
     tie.close (tie.spec invariant-loop decreases-loop (λ c κs. search rules) (λ c. let start = c.before.before.before.before.before.before in
     let long = length_records start.args.table.now in
-    (refl, omega arith, made_none (records start.args.table.now) _ (length start.args.index.now) (omega (arith, start.requires.0)) (omega (arith, start.requires.1)) c.vacate.ensures)) (λ c κs. let start = c.before.before.before.before.before.before.before.before.before in
-    (c.loop-i.invariant.2, well_formed_is _ start.requires.2, omega arith)) (λ c. omega arith) (λ c. omega arith) (λ c. (c.loop-i.invariant.0, omega arith, c.enter_next.ensures)) (λ c. let start = c.before.before.before.before.before.before.before.before in
+    (refl, omega arith, made_none (records start.args.table.now) _ (length start.args.index.now) (omega (arith, start.requires.0)) (omega (arith, start.requires.1)) c.vacate.ensures))
+    (λ c κs. let start = c.before.before.before.before.before.before.before.before.before in
+    (c.loop-i.invariant.2, well_formed_is _ start.requires.2, omega arith)) (λ c. omega arith) (λ c. omega arith)
+    (λ c. (c.loop-i.invariant.0, omega arith, c.enter_next.ensures)) (λ c. let start = c.before.before.before.before.before.before.before.before in
     let inv = c.loop-i.invariant in
     let long = length_records start.args.table.now in
-    omega (arith, made_long (records start.args.table.now) c.loop-i.i _ (omega (arith, inv)) inv.2, start.requires.1)) (λ c. let start = c.before.before.before.before.before.before.before.before in
+    omega (arith, made_long (records start.args.table.now) c.loop-i.i _ (omega (arith, inv)) inv.2, start.requires.1))
+    (λ c. let start = c.before.before.before.before.before.before.before.before in
     made_all (records start.args.table.now) c.loop-i.i _ (omega (arith, c.loop-i.invariant, c.loop-i-test.false, length_records start.args.table.now)) c.loop-i.invariant.2))

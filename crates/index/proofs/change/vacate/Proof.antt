@@ -15,9 +15,11 @@ invariant-loop index₀ j₀ index j = (j ≤ length index₀) × (length index 
 
 pub vacate_spec : {M : Type 1} → statement M
 vacate_spec =
-    tie.close (tie.spec invariant-loop (λ index₀ j₀ index j. length index₀ - j) (λ c. (omega arith, refl, fill_none c.args.index.now 255)) (λ c. search rules) (λ c. search rules) (λ c. search rules) (λ c. let at = c.loop-j in
+    tie.close (tie.spec invariant-loop (λ index₀ j₀ index j. length index₀ - j) (λ c. (omega arith, refl, fill_none c.args.index.now 255))
+    (λ c. search rules) (λ c. search rules) (λ c. search rules) (λ c. let at = c.loop-j in
     let d = c.args.index.now in
-    (omega arith, simp length-set at.invariant.1, rw at.invariant.2 (fill_more at.j 255 d (omega arith)))) (λ c. search rules) (λ c. let at = c.loop-j in
+    (omega arith, simp length-set at.invariant.1, rw at.invariant.2 (fill_more at.j 255 d (omega arith)))) (λ c. search rules)
+    (λ c. let at = c.loop-j in
     let d = c.args.index.now in
     let all : at.j ≡ length d = omega arith in
     at.invariant.2 ∙ rw (drop_of_length-le d {i = at.j} (omega arith), append-nil, all)))

@@ -16,7 +16,9 @@ invariant-loop run₀ end j₀ run j = (j + 2 ≤ length run₀) × (length run 
 pub close_spec : {M : Type 1} → statement M
 close_spec =
     tie.close (tie.spec invariant-loop (λ run₀ end j₀ run j. length run₀ - j) (λ c. search rules) (λ c. let run = c.args.run.now in
-    (omega arith, refl, paste-zero run 0 (drop 2 run))) (λ c. search rules) (λ c. search rules) (λ c. search rules) (λ c. search rules) (λ c. search rules) (λ c. let at = c.loop-j in
+    (omega arith, refl, paste-zero run 0 (drop 2 run))) (λ c. search rules) (λ c. search rules) (λ c. search rules) (λ c. search rules)
+    (λ c. search rules) (λ c. let at = c.loop-j in
     let run = c.args.run.now in
-    (omega arith, simp length-set at.invariant.1, lowered_more run at.j at.invariant.2 (omega arith))) (λ c. search rules) (λ c. search rules) (λ c. simp length-set (omega arith)) (λ c. simp length-set (omega arith)) (λ c. let at = c.loop-j in
+    (omega arith, simp length-set at.invariant.1, lowered_more run at.j at.invariant.2 (omega arith))) (λ c. search rules) (λ c. search rules)
+    (λ c. simp length-set (omega arith)) (λ c. simp length-set (omega arith)) (λ c. let at = c.loop-j in
     lowered_all c.args.run.now at.j at.invariant.2 at.invariant.1 (omega arith) (omega arith)))

@@ -14,8 +14,11 @@ invariant-loop run₀ entry j₀ run j = (1 ≤ j) × (j < length run₀) × (le
 
 pub open_spec : {M : Type 1} → statement M
 open_spec =
-    tie.close (tie.spec invariant-loop (λ run₀ entry j₀ run j. j) (λ c. search rules) (λ c. (omega arith, omega arith, refl, raised_none c.args.run.now c.requires.0)) (λ c. search rules) (λ c. search rules) (λ c. search rules) (λ c. search rules) (λ c. search rules) (λ c. let at = c.loop-j in
+    tie.close (tie.spec invariant-loop (λ run₀ entry j₀ run j. j) (λ c. search rules)
+    (λ c. (omega arith, omega arith, refl, raised_none c.args.run.now c.requires.0)) (λ c. search rules) (λ c. search rules) (λ c. search rules)
+    (λ c. search rules) (λ c. search rules) (λ c. let at = c.loop-j in
     let run = c.args.run.now in
-    (omega arith, omega arith, simp length-set at.invariant.2, raised_more run at.j at.invariant.3 (omega arith) (omega arith))) (λ c. search rules) (λ c. search rules) (λ c. search rules) (λ c. simp length-set (omega arith)) (λ c. simp length-set (omega arith)) (λ c. let at = c.loop-j in
+    (omega arith, omega arith, simp length-set at.invariant.2, raised_more run at.j at.invariant.3 (omega arith) (omega arith))) (λ c. search rules)
+    (λ c. search rules) (λ c. search rules) (λ c. simp length-set (omega arith)) (λ c. simp length-set (omega arith)) (λ c. let at = c.loop-j in
     let args = c.args in
     raised_all args.run.now at.j args.entry at.invariant.3 at.invariant.2 (omega arith) (omega arith) (omega arith)))

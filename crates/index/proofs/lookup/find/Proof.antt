@@ -31,7 +31,8 @@ told c =
 
 returns : tie.Need-returns-then-n-at
 returns c = record {
-  is = sym (missing (start c.before).requires.1 _ c.rank-at.ensures (λ l m e. absurd (omega (arith, c.if-n-at.true, length_records (start c.before).args.table.now))));
+  is = sym (missing (start c.before).requires.1 _ c.rank-at.ensures
+      (λ l m e. absurd (omega (arith, c.if-n-at.true, length_records (start c.before).args.table.now))));
   within = tt;
 }
 
@@ -39,7 +40,8 @@ returns-2 : tie.Need-returns-then-n-place
 returns-2 c =
     let at = c.before.before.before in
     record {
-      is = sym (missing (start at).requires.1 _ at.rank-at.ensures (λ l m e. absurd (omega (arith, c.if-n-place.true, c.read-place.ensures, length_records (start at).args.table.now))));
+      is = sym (missing (start at).requires.1 _ at.rank-at.ensures
+          (λ l m e. absurd (omega (arith, c.if-n-place.true, c.read-place.ensures, length_records (start at).args.table.now))));
       within = tt;
     }
 
@@ -63,4 +65,5 @@ returns-4 c =
 
 pub find_spec : {M : Type 1} → statement M
 find_spec =
-    tie.close (tie.spec (λ c κs. let s = c.before.before.before in (s.requires.0, record { ps = _; holds = indexed_holds s.requires.1 })) returns read-requires returns-2 (λ c κs. omega (arith, c.if-n-place.false)) returns-3 returns-4)
+    tie.close (tie.spec (λ c κs. let s = c.before.before.before in (s.requires.0, record { ps = _; holds = indexed_holds s.requires.1 })) returns
+    read-requires returns-2 (λ c κs. omega (arith, c.if-n-place.false)) returns-3 returns-4)

@@ -55,4 +55,5 @@ returns c =
 
 pub rank_spec : {M : Type 1} → statement M
 rank_spec =
-    tie.close (tie.spec invariant-loop decreases-loop loop-holds (λ c. omega arith) (λ c. omega arith) read-requires (λ c κs. c.requires.0) (λ c. omega arith) (λ c. omega arith) loop-again (λ c. omega arith) loop-again-2 returns)
+    tie.close (tie.spec invariant-loop decreases-loop loop-holds (λ c. omega arith) (λ c. omega arith) read-requires (λ c κs. c.requires.0)
+    (λ c. omega arith) (λ c. omega arith) loop-again (λ c. omega arith) loop-again-2 returns)

@@ -30,4 +30,7 @@ returns-2 c =
 pub is_low_spec : {M : Type 1} → statement M
 is_low_spec =
     tie.close (tie.spec (λ c κs. search rules) (λ c. let told = c.is_used in
-    rw (← told.ensures, c.if-not-is_used.true)) (λ c. omega (arith, told_within _ _ c.is_used.ensures c.if-not-is_used.false)) (λ c. omega (arith, told_within _ _ c.is_used.ensures c.if-not-is_used.false)) (λ c κs. let inside = told_within _ _ c.is_used.ensures c.if-not-is_used.false in omega arith) (λ c κs. search rules) (λ c κs. search rules) returns-2)
+    rw (← told.ensures, c.if-not-is_used.true)) (λ c. omega (arith, told_within _ _ c.is_used.ensures c.if-not-is_used.false))
+    (λ c. omega (arith, told_within _ _ c.is_used.ensures c.if-not-is_used.false))
+    (λ c κs. let inside = told_within _ _ c.is_used.ensures c.if-not-is_used.false in omega arith) (λ c κs. search rules)
+    (λ c κs. search rules) returns-2)

@@ -9,4 +9,5 @@ use Rattle.index.proofs.order.is_used.Tie as tie
 
 pub is_used_spec : {M : Type 1} → statement M
 is_used_spec =
-    tie.close (tie.spec (λ c. rw (length_records, le-ltb _ _ c.if-table-place.true)) (λ c. search rules) (λ c. search rules) (λ c. let within = c.if-table-place.false in rw (length_records, lt-ltb _ _ within, used_byte _ _ within)))
+    tie.close (tie.spec (λ c. rw (length_records, le-ltb _ _ c.if-table-place.true)) (λ c. search rules) (λ c. search rules)
+    (λ c. let within = c.if-table-place.false in rw (length_records, lt-ltb _ _ within, used_byte _ _ within)))

@@ -8,4 +8,5 @@ use Rattle.index.proofs.order.key_at.Tie as tie
 
 pub key_at_spec : {M : Type 1} → statement M
 key_at_spec =
-    tie.close (tie.spec (λ c κs. search rules) (λ c. search rules) (λ c κs. search rules) (λ c. rw (c.load64.ensures, c.load32.ensures) (sym (in_two _ _ c.requires))))
+    tie.close (tie.spec (λ c κs. search rules) (λ c. search rules) (λ c κs. search rules)
+    (λ c. rw (c.load64.ensures, c.load32.ensures) (sym (in_two _ _ c.requires))))

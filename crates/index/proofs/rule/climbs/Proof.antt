@@ -100,4 +100,6 @@ returns-3 c =
 
 pub climbs_spec : {M : Type 1} → statement M
 climbs_spec =
-    tie.close (tie.spec invariant-loop decreases-loop (λ c. (omega arith, every_none _, λ o. absurd (omega arith))) (λ c κs. omega arith) (λ c κs. search rules) returns (λ c. omega (arith, within c)) (λ c. omega (arith, within c)) (λ c κs. let inside = within c in omega arith) (λ c κs. search rules) returns-2 (λ c. omega arith) (λ c. omega arith) loop-again returns-3)
+    tie.close (tie.spec invariant-loop decreases-loop (λ c. (omega arith, every_none _, λ o. absurd (omega arith))) (λ c κs. omega arith)
+    (λ c κs. search rules) returns (λ c. omega (arith, within c)) (λ c. omega (arith, within c)) (λ c κs. let inside = within c in omega arith)
+    (λ c κs. search rules) returns-2 (λ c. omega arith) (λ c. omega arith) loop-again returns-3)

@@ -42,8 +42,10 @@ returns-2 c =
     let rest : places table - count known ≡ length (records table) - used_to (records table) (length (records table)) = omega arith in
     ap₂ ◌&&◌ (c.climbs.ensures ∙ ap (every (rises_at (records table) index)) counted)
     (c.vacant_behind.ensures ∙ ap₂ (λ (m r : ℕ). every (λ k. vacant_at index (m + k)) r) counted rest)
-    ∙ fits_exactly (records table) index (omega (arith, (start known).requires)) (λ i. (known.shared_slice_known-2-1.given i).fits) (omega (arith, (start known).requires)) (told known).0
+    ∙ fits_exactly (records table) index (omega (arith, (start known).requires))
+    (λ i. (known.shared_slice_known-2-1.given i).fits) (omega (arith, (start known).requires)) (told known).0
 
 pub fits_spec : {M : Type 1} → statement M
 fits_spec =
-    tie.close (tie.spec (λ c κs. search rules) (λ c. search rules) (λ c. search rules) returns (λ c κs. (few c, (start c).requires.1)) (λ c. omega (arith, few c.before)) (λ c κs. omega (arith, few c.before, (start c.before).requires)) returns-2)
+    tie.close (tie.spec (λ c κs. search rules) (λ c. search rules) (λ c. search rules) returns (λ c κs. (few c, (start c).requires.1))
+    (λ c. omega (arith, few c.before)) (λ c κs. omega (arith, few c.before, (start c.before).requires)) returns-2)

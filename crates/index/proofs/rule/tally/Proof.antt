@@ -54,9 +54,12 @@ loop-again c =
 
 pub tally_spec : {M : Type 1} → statement M
 tally_spec =
-    tie.close (tie.spec invariant-loop decreases-loop (λ c. (refl, omega arith, every_none _, sym (used_none _))) (λ c κs. within c) (λ c. let at = c.before in
+    tie.close (tie.spec invariant-loop decreases-loop (λ c. (refl, omega arith, every_none _, sym (used_none _))) (λ c κs. within c)
+    (λ c. let at = c.before in
     every_not _ _ _ (omega (arith, within at.before, length_records at.args.table.now))
-    (ap sound (here at.before) ∙ sym at.sound_at.ensures ∙ c.if-not-sound_at.true)) (λ c. omega (arith, within c.before.before)) (λ c. omega (arith, within c.before.before.before)) (λ c. let loop = c.loop-i in
-    omega (arith, loop.invariant, used_most (records c.args.table.now) loop.i)) (λ c. omega arith) (λ c. omega arith) loop-again (λ c. let loop = c.loop-i in
+    (ap sound (here at.before) ∙ sym at.sound_at.ensures ∙ c.if-not-sound_at.true)) (λ c. omega (arith, within c.before.before))
+    (λ c. omega (arith, within c.before.before.before)) (λ c. let loop = c.loop-i in
+    omega (arith, loop.invariant, used_most (records c.args.table.now) loop.i)) (λ c. omega arith) (λ c. omega arith) loop-again
+    (λ c. let loop = c.loop-i in
     let all : length (records c.args.table.now) ≡ loop.i = omega (arith, length_records c.args.table.now, loop.invariant) in
     (ap (every _) all ∙ loop.invariant.2, loop.invariant.3 ∙ ap (used_to _) (sym all))))

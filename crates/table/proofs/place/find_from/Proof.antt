@@ -12,4 +12,7 @@ invariant-loop table start iv n i₀ i = Along (first_from (holds iv)) table sta
 
 pub find_from_spec : {M : Type 1} → statement M
 find_from_spec =
-    tie.close (tie.spec invariant-loop (λ table start iv n i₀ i. n - i) (λ c. along_begins (omega arith)) (λ c κs. omega arith) (λ c. scan_stops _ c.loop-i.invariant c.loop-i-test.true (sym c.has_iv.ensures ∙ c.if-has_iv.true)) (λ c. omega arith) (λ c. omega arith) (λ c. scan_goes _ c.loop-i.invariant c.loop-i-test.true (sym c.has_iv.ensures ∙ c.if-has_iv.false)) (λ c. scan_ends _ c.loop-i.invariant c.loop-i-test.false))
+    tie.close (tie.spec invariant-loop (λ table start iv n i₀ i. n - i) (λ c. along_begins (omega arith)) (λ c κs. omega arith)
+    (λ c. scan_stops _ c.loop-i.invariant c.loop-i-test.true (sym c.has_iv.ensures ∙ c.if-has_iv.true)) (λ c. omega arith) (λ c. omega arith)
+    (λ c. scan_goes _ c.loop-i.invariant c.loop-i-test.true (sym c.has_iv.ensures ∙ c.if-has_iv.false))
+    (λ c. scan_ends _ c.loop-i.invariant c.loop-i-test.false))

@@ -12,4 +12,7 @@ invariant-loop table clock n i₀ i = Along (first_from (lapsed clock.0)) table 
 
 pub first_lapsed_spec : {M : Type 1} → statement M
 first_lapsed_spec =
-    tie.close (tie.spec invariant-loop (λ table clock n i₀ i. n - i) (λ c. along_begins (omega arith)) (λ c κs. omega arith) (λ c. scan_stops _ c.loop-i.invariant c.loop-i-test.true (sym c.has_lapsed.ensures ∙ c.if-has_lapsed.true)) (λ c. omega arith) (λ c. omega arith) (λ c. scan_goes _ c.loop-i.invariant c.loop-i-test.true (sym c.has_lapsed.ensures ∙ c.if-has_lapsed.false)) (λ c. scan_ends _ c.loop-i.invariant c.loop-i-test.false))
+    tie.close (tie.spec invariant-loop (λ table clock n i₀ i. n - i) (λ c. along_begins (omega arith)) (λ c κs. omega arith)
+    (λ c. scan_stops _ c.loop-i.invariant c.loop-i-test.true (sym c.has_lapsed.ensures ∙ c.if-has_lapsed.true)) (λ c. omega arith) (λ c. omega arith)
+    (λ c. scan_goes _ c.loop-i.invariant c.loop-i-test.true (sym c.has_lapsed.ensures ∙ c.if-has_lapsed.false))
+    (λ c. scan_ends _ c.loop-i.invariant c.loop-i-test.false))

@@ -23,4 +23,5 @@ pub has_iv_spec : {M : Type 1} → statement M
 has_iv_spec =
     tie.close (tie.spec (λ c. search rules) (λ c. search rules) (λ c. let start = c.before.before.before.before in
     let a = start.args in
-    rw (used_at_lem a.table.now a.place start.requires, ne_eqb (get_or a.table.now (31 * a.place) 0) 1 c.if-table-at-ne1.true)) (λ c. search rules) (λ c κs. omega arith) returns-2)
+    rw (used_at_lem a.table.now a.place start.requires, ne_eqb (get_or a.table.now (31 * a.place) 0) 1 c.if-table-at-ne1.true)) (λ c. search rules)
+    (λ c κs. omega arith) returns-2)

@@ -9,4 +9,5 @@ use Rattle.table.proofs.place.is_free.Tie as tie
 
 pub is_free_spec : {M : Type 1} → statement M
 is_free_spec =
-    tie.close (tie.spec (λ c. search rules) (λ c. search rules) (λ c. let start = c.before in sym (ap (λ (n : ℕ). eqb n 0) (used_at_lem start.args.table.now start.args.place start.requires))))
+    tie.close (tie.spec (λ c. search rules) (λ c. search rules)
+    (λ c. let start = c.before in sym (ap (λ (n : ℕ). eqb n 0) (used_at_lem start.args.table.now start.args.place start.requires))))

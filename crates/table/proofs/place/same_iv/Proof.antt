@@ -20,6 +20,8 @@ returns-3 c =
 pub same_iv_spec : {M : Type 1} → statement M
 same_iv_spec =
     tie.close (tie.spec (λ c. let start = c.before.before.before in
-    other_length start.args.table.now start.args.iv.now start.args.at start.requires c.if-iv-ne12.true) (λ c κs. search rules) (λ c κs. search rules) (λ c. let start = c.before.before.before.before.before.before in
+    other_length start.args.table.now start.args.iv.now start.args.at start.requires c.if-iv-ne12.true) (λ c κs. search rules) (λ c κs. search rules)
+    (λ c. let start = c.before.before.before.before.before.before in
     other_number start.args.table.now start.args.iv.now start.args.at start.requires
-    (λ e. c.if-load64.true (c.load64.ensures ∙ e ∙ sym c.load64-2.ensures))) (λ c. search rules) (λ c κs. search rules) (λ c κs. search rules) returns-3)
+    (λ e. c.if-load64.true (c.load64.ensures ∙ e ∙ sym c.load64-2.ensures))) (λ c. search rules) (λ c κs. search rules)
+    (λ c κs. search rules) returns-3)

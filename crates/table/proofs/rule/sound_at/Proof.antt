@@ -24,4 +24,7 @@ returns-2 c =
 
 pub sound_at_spec : {M : Type 1} → statement M
 sound_at_spec =
-    tie.close (tie.spec (λ c. search rules) (λ c. search rules) (λ c. search rules) (λ c. search rules) (λ c κs. search rules) (λ c κs. search rules) (λ c. c.record_sound.ensures ∙ ap sound c.read.ensures) (λ c. search rules) (λ c. search rules) (λ c. omega (arith, c.shared_slice_known-4-1.given (31 * c.args.place + 30))) (λ c κs. search rules) (λ c. search rules) (λ c. search rules) returns-2)
+    tie.close (tie.spec (λ c. search rules) (λ c. search rules) (λ c. search rules) (λ c. search rules) (λ c κs. search rules) (λ c κs. search rules)
+    (λ c. c.record_sound.ensures ∙ ap sound c.read.ensures) (λ c. search rules) (λ c. search rules)
+    (λ c. omega (arith, c.shared_slice_known-4-1.given (31 * c.args.place + 30))) (λ c κs. search rules) (λ c. search rules) (λ c. search rules)
+    returns-2)

@@ -18,4 +18,5 @@ told c =
 
 pub stands_nowhere_spec : {M : Type 1} → statement M
 stands_nowhere_spec =
-    tie.close (tie.spec (λ c κs. search rules) (λ c. search rules) (λ c. search rules) (λ c. ap is_nowhere (sym c.in-At.is) ∙ told c.before) (λ c. ap is_nowhere (sym c.in-Nowhere.is) ∙ told c.before))
+    tie.close (tie.spec (λ c κs. search rules) (λ c. search rules) (λ c. search rules) (λ c. ap is_nowhere (sym c.in-At.is) ∙ told c.before)
+    (λ c. ap is_nowhere (sym c.in-Nowhere.is) ∙ told c.before))

@@ -16,5 +16,7 @@ pub well_formed_spec : {M : Type 1} → statement M
 unfolding well_formed
 well_formed_spec =
     tie.close (tie.spec invariant-loop (λ table n i₀ i. n - i) (λ c. along_begins (omega arith)) (λ c κs. omega arith) (λ c. let told = c.fits_at in
-    sym (along_here c.loop-i.invariant c.loop-i-test.true ∙ simp (← told.ensures, c.if-not-fits_at.true))) (λ c. omega arith) (λ c. omega arith) (λ c. let told = c.fits_at in
-    along_goes c.loop-i.invariant c.loop-i-test.true (simp (← told.ensures, c.if-not-fits_at.false))) (λ c. sym (along_ends c.loop-i.invariant c.loop-i-test.false)))
+    sym (along_here c.loop-i.invariant c.loop-i-test.true ∙ simp (← told.ensures, c.if-not-fits_at.true))) (λ c. omega arith) (λ c. omega arith)
+    (λ c. let told = c.fits_at in
+    along_goes c.loop-i.invariant c.loop-i-test.true (simp (← told.ensures, c.if-not-fits_at.false)))
+    (λ c. sym (along_ends c.loop-i.invariant c.loop-i-test.false)))

@@ -7,4 +7,5 @@ use Rattle.table.proofs.rule.window_sound.Tie as tie
 
 pub window_sound_spec : {M : Type 1} → statement M
 window_sound_spec =
-    tie.close (tie.spec (λ c κs. search rules) (λ c. simp (c.no_trace.ensures, eq-eqb _ _ c.if-session-eq0.true)) (λ c. simp (ne_eqb _ _ c.if-session-eq0.false, lowest)))
+    tie.close (tie.spec (λ c κs. search rules) (λ c. simp (c.no_trace.ensures, eq-eqb _ _ c.if-session-eq0.true))
+    (λ c. simp (ne_eqb _ _ c.if-session-eq0.false, lowest)))

@@ -6,4 +6,5 @@ use Rattle.table.proofs.session.held_at.Tie as tie
 
 pub held_at_spec : {M : Type 1} → statement M
 held_at_spec =
-    tie.close (tie.spec (λ c. search rules) (λ c κs. rw c.in-At.is at c.requires) (λ c. search rules) (λ c κs. search rules) (λ c. rw c.in-At.is c.read.ensures) (λ c. search rules))
+    tie.close (tie.spec (λ c. search rules) (λ c κs. rw c.in-At.is at c.requires) (λ c. search rules) (λ c κs. search rules)
+    (λ c. rw c.in-At.is c.read.ensures) (λ c. search rules))

@@ -12,7 +12,8 @@ use Rattle.table.proofs.session.store.Tie as tie
 
 pub store_spec : {M : Type 1} → statement M
 store_spec =
-    tie.close (tie.spec (λ c. search rules) (λ c. search rules) (λ c. search rules) (λ c. search rules) (λ c. search rules) (λ c κs. search rules) (λ c. search rules) (λ c. let a = c.args in
+    tie.close (tie.spec (λ c. search rules) (λ c. search rules) (λ c. search rules) (λ c. search rules) (λ c. search rules) (λ c κs. search rules)
+    (λ c. search rules) (λ c. let a = c.args in
     let iv : length a.session.iv ≡ 12 = search rules in
     lent a.table.now (record_bytes a.session) (31 * a.place) (31 * a.place + 31) c.write.ensures
     (omega (arith, length_record_bytes a.session iv))))

@@ -26,4 +26,6 @@ returns c =
 
 pub write_spec : {M : Type 1} → statement M
 write_spec =
-    tie.close (tie.spec (λ c κs. search rules) (λ c. search rules) (λ c κs. omega (arith, iv_long c.before.before.before.before.before.before.before.before)) (λ c κs. search rules) (λ c κs. search rules) (λ c κs. search rules) (λ c κs. search rules) (λ c κs. search rules) (λ c. search rules) returns)
+    tie.close (tie.spec (λ c κs. search rules) (λ c. search rules)
+    (λ c κs. omega (arith, iv_long c.before.before.before.before.before.before.before.before)) (λ c κs. search rules) (λ c κs. search rules)
+    (λ c κs. search rules) (λ c κs. search rules) (λ c κs. search rules) (λ c. search rules) returns)
