@@ -190,7 +190,7 @@ module _ (table : List Record) (index : List ℕ) (small : length table ≤ vaca
         ≡ (well_formed table && same index (index_of table))
     fits_exactly = agree _ _ fits_well well_fits
 
--- a record that is not sound is in no well_formed_lem table
+-- a record that is not sound is in no well-formed table
 pub unsound : (table : List Record) (t : Bool) → every (sound_at table) (length table) ≡ false → false ≡ (well_formed table && t)
 unsound table t e =
     sym (refuted (well_formed table && t) (λ f.

@@ -1,4 +1,4 @@
--- What an index holds: the entries of one that holds some places, the index of a well_formed_lem table, and that no other fits it.
+-- What an index holds: the entries of one that holds some places, the index of a well-formed table, and that no other fits it.
 -- Assumes nothing.
 use mathlib.Core.Path.{◌≡◌, refl, sym, ap, ◌∙◌}
 use mathlib.Core.List.{List}
@@ -70,7 +70,7 @@ length_index_of table =
     length_coded (filled (length table) (ranked table))
     ∙ ap (λ (n : ℕ). 2 * n) (length_filled (length table) (ranked table) (omega (arith, length_ranked table (length table), used_most table (length table))))
 
--- the index of a well_formed_lem table
+-- the index of a well-formed table
 module _ (table : List Record) (w : WellFormed table) where
   ranked_used : (p : ℕ) → Stands p (ranked table) → UsedAt table p
   ranked_used p s = in_ranked table (length table) p (stands_in p (ranked table) s)

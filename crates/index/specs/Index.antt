@@ -48,7 +48,7 @@ coded (e ∷ es) = bytes_of 2 e ++ coded es
 unfoldable pub index_of : List Record → List ℕ
 index_of table = coded (filled (length table) (ranked table))
 
--- a well_formed_lem table beside the index that fits it; two bytes name each place
+-- a well-formed table beside the index that fits it; two bytes name each place
 pub record Indexed (table index : List ℕ) : Type 0 where
   pub few : places table ≤ vacant
   pub formed : well_formed (records table) ≡ true

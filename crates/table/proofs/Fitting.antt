@@ -1,4 +1,4 @@
--- What the test for a well_formed_lem table asks: the lowest bit, and whether a scan finds a place.
+-- What the test for a well-formed table asks: the lowest bit, and whether a scan finds a place.
 -- Assumes nothing.
 use mathlib.Core.Path.{◌≡◌, refl, ap}
 use mathlib.Core.List.{List, [], ◌∷◌}

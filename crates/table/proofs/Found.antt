@@ -108,7 +108,7 @@ pub nowhere_found : (table : List Record) (iv : List ℕ) → None (holds iv) ta
 unfolding found
 nowhere_found table iv n = none_scan (holds iv) 0 table n
 
--- in a well_formed_lem table a used record is found under its IV
+-- in a well-formed table a used record is found under its IV
 pub at_found : (table : List Record) (iv : List ℕ) (i : ℕ) → WellFormed table → i < length table → holds iv (get_or table i freed) ≡ true
     → found table iv ≡ At i
 unfolding found

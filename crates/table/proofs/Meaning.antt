@@ -1,4 +1,4 @@
--- The test for a well_formed_lem table holds exactly of the well_formed_lem tables.
+-- The test for a well-formed table holds exactly of the well-formed tables.
 -- Assumes nothing.
 use mathlib.Core.Path.{◌≡◌, refl, sym, ap, subst, ◌∙◌}
 use mathlib.Core.List.{List, [], ◌∷◌}
