@@ -1,4 +1,4 @@
--- Document 02, K7: "For every well_formed_lem table, index that fits it and IV, lookup through the index gives what a scan gives, and each call
+-- Document 02, K7: "For every well-formed table, index that fits it and IV, lookup through the index gives what a scan gives, and each call
 -- leaves the index right for the table it leaves." The first is `looked-up`, the second `left-right`. An index that fits is one and only one
 -- (`one-fits`, `only-one-fits`), gate_index writes it (`made`), and whether a call answers 3 does not depend on it (`three-alone`).
 -- That refusals other than 10 and 13 touch nothing, the index included, is Untouched's `untouched-else`; histories are History's.
@@ -52,7 +52,7 @@ use Rattle.demands.proofs.Shared.Answers.{set_up_number, judged_number_lem, ende
 use Rattle.demands.proofs.Untouched.Indexes.{made_all}
 use Rattle.demands.proofs.Index.Calls.{call_right}
 
--- exactly one index fits a well_formed_lem table
+-- exactly one index fits a well-formed table
 pub one_fits : (table : List Record) → WellFormed table → Fits table (index_of table)
 one_fits table w = fits_one table w
 

@@ -1,4 +1,4 @@
--- Document 02, K9: "from a well_formed_lem table, after all setups, take any sequence of requests and endings. Strike out every call that bears
+-- Document 02, K9: "from a well-formed table, after all setups, take any sequence of requests and endings. Strike out every call that bears
 -- another session's IV. This session's verdicts, replies and record at the end are the same. The clock values of its own calls are kept."
 -- `others-struck` is that sentence, and `any-strike` says it of every strike that keeps the calls that bear this session's IV. Calls by the thin
 -- entry, over a record of the table, and makings of an index may be among them; each brings its clock, orders, keys and bytes with it, whatever they

@@ -20,7 +20,7 @@ use Rattle.demands.specs.Tables.{SessionAt}
 use Rattle.demands.specs.Effects.{Right}
 use Rattle.demands.specs.History.{Call, setting_up, judging, judging_one, ending, making_index, answer, after, lent_in}
 
--- what a host may lend to calls: a well_formed_lem table of 1 to 4,096 records, and the index that fits it
+-- what a host may lend to calls: a well-formed table of 1 to 4,096 records, and the index that fits it
 pub record Lendable (state : State) : Type 0 where
   pub sizes : state_fits state ≡ true
   pub bytes : Bytes state.table

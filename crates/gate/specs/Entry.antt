@@ -16,6 +16,6 @@ state_checks s =
     ∷ check 22 (not (same s.index (index_of (records s.table))))
     ∷ []
 
--- 1, 2, 3, 22: what is lent has the right sizes, good orders, a well_formed_lem table and the index that fits it
+-- 1, 2, 3, 22: what is lent has the right sizes, good orders, a well-formed table and the index that fits it
 unfoldable pub entry_checks : Bool → Orders → State → List Check
 entry_checks fits orders s = check 1 (not fits) ∷ check 2 (not (orders_good orders)) ∷ state_checks s

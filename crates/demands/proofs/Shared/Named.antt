@@ -39,7 +39,7 @@ found_session table iv place e =
 pub stands_so : {one other iv : List ℕ} {i j : ℕ} → record_at other j ≡ record_at one i → j < places other → SessionAt one iv i → SessionAt other iv j
 stands_so e h s = record { within = h; used = ap (λ (r : Record). r.used) e ∙ s.used; iv = ap (λ (r : Record). r.iv) e ∙ s.iv }
 
--- in a well_formed_lem table it is the only one
+-- in a well-formed table it is the only one
 pub session_found : (table iv : List ℕ) (place : ℕ) → WellFormed (records table) → SessionAt table iv place → place_of table iv ≡ At place
 session_found table iv place w s =
     at_found (records table) iv place w (rw length_records s.within)

@@ -24,7 +24,7 @@ use Rattle.demands.specs.Tables.{Replaced}
 abbrev pub Whole : List ℕ → Type 0
 Whole table = (i : ℕ) → i < places table → Fits (record_at table i)
 
--- and those of a well_formed_lem one are sound
+-- and those of a well-formed one are sound
 pub sound_at_lem : (table : List ℕ) → WellFormed (records table) → (place : ℕ) → place < places table → Sound (record_at table place)
 sound_at_lem table w place h = subst (λ (r : Record). Sound r) (records_at table place h) (w.each place (rw length_records h))
 

@@ -1,4 +1,4 @@
--- The thin entry over a record that is taken out of a well_formed_lem table: a table of its own, whose session is the table's.
+-- The thin entry over a record that is taken out of a well-formed table: a table of its own, whose session is the table's.
 -- Assumes nothing.
 use mathlib.Core.Path.{◌≡◌, refl, sym, ap, subst, ◌∙◌}
 use mathlib.Core.Bool.{Bool, true, false, cond}
