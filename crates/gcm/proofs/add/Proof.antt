@@ -23,15 +23,14 @@ decreases-loop text stream out₀ i₀ out i = length text - i
 
 loop-again : tie.Need-loop-i-preserved invariant-loop decreases-loop
 loop-again c =
-    let start = c.before.before.before.before in
     let i = c.loop-i.i in
     let inv = c.loop-i.invariant in
     let out = c.loop-i.out in (
       omega arith,
       length-set out i _ ∙ inv.1,
       rw add-one
-          (take-suc-set out i _ (omega arith) ∙ ap (λ (l : List ℕ). l ++ bit_xor (get_or start.args.text.now i 0) (get_or start.args.stream.now i 0) ∷ []) inv.2
-          ∙ sym (added_more start.args.text.now start.args.stream.now i (omega arith) (omega arith))),
+          (take-suc-set out i _ (omega arith) ∙ ap (λ (l : List ℕ). l ++ bit_xor (get_or c.args.text.now i 0) (get_or c.args.stream.now i 0) ∷ []) inv.2
+          ∙ sym (added_more c.args.text.now c.args.stream.now i (omega arith) (omega arith))),
     )
 
 returns : tie.Need-returns invariant-loop decreases-loop
@@ -44,4 +43,5 @@ returns c =
 pub add_spec : {M : Type 1} → statement M
 unfolding added
 add_spec =
-    tie.close (tie.spec invariant-loop decreases-loop (λ c. (omega arith, c.requires.1, refl)) (search rules) (search rules) (search rules) (search rules) (search rules) loop-again (search rules) returns)
+    tie.close (tie.spec invariant-loop decreases-loop (λ c. (omega arith, c.requires.1, refl)) (search rules) (search rules) (search rules)
+    (search rules) (search rules) loop-again (search rules) returns)

@@ -7,4 +7,5 @@ use Rattle.gcm.proofs.bytes.Tie as tie
 
 pub bytes_spec : {M : Type 1} → statement M
 bytes_spec =
-    tie.close (tie.spec (search rules) (search rules) (search rules) (search rules) (λ c. simp (c.put64-2.ensures, c.put64.ensures) (halves_laid _ _ (search rules))))
+    tie.close (tie.spec (search rules) (search rules) (search rules) (search rules)
+    (λ c. simp (c.put64-2.ensures, c.put64.ensures) (halves_laid _ _ (search rules))))

@@ -8,4 +8,5 @@ use Rattle.gcm.proofs.digest.Tie as tie
 
 pub digest_spec : {M : Type 1} → statement M
 digest_spec =
-    tie.close (tie.spec (search rules) (search rules) (search rules) (search rules) (λ c. simp (c.multiply.ensures, c.xor.ensures, zero-add) (digested _ _ c.requires c.hash-y.ensures)))
+    tie.close (tie.spec (search rules) (search rules) (search rules) (search rules)
+    (λ c. simp (c.multiply.ensures, c.xor.ensures, zero-add) (digested _ _ c.requires c.hash-y.ensures)))

@@ -7,4 +7,5 @@ use Rattle.gcm.proofs.filled.Tie as tie
 
 pub filled_spec : {M : Type 1} → statement M
 filled_spec =
-    tie.close (tie.spec (search rules) (search rules) (search rules) (search rules) (λ c. simp (c.loaded.ensures, c.put_front.ensures, fronted_zeros)))
+    tie.close (tie.spec (search rules) (search rules) (search rules) (search rules)
+    (λ c. simp (c.loaded.ensures, c.put_front.ensures, fronted_zeros)))

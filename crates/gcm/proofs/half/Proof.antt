@@ -34,4 +34,5 @@ returns c x y k bits q =
 
 pub half_spec : {M : Type 1} → statement M
 half_spec =
-    tie.close (tie.spec invariant-loop decreases-loop (λ c. (omega arith, λ x y k bits p. rw (add-zero k) p)) (search rules) (search rules) (search rules) (λ c κs. mod-lt _ (omega arith)) (search rules) (search rules) loop-again returns)
+    tie.close (tie.spec invariant-loop decreases-loop (λ c. (omega arith, λ x y k bits p. rw (add-zero k) p)) (search rules) (search rules)
+    (search rules) (λ c κs. mod-lt _ (omega arith)) (search rules) (search rules) loop-again returns)

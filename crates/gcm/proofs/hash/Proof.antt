@@ -24,11 +24,10 @@ absorbed-requires c κs =
 
 loop-again : tie.Need-loop-n-preserved invariant-loop decreases-loop
 loop-again c =
-    let start = c.before.before.before.before.before.before.before in
     let n = c.loop-n.n in (
       omega arith,
       c.absorbed-y.ensures
-          ∙ hashed_more (whole start.args.h) start.args.s.now n c.end-e.result (omega arith) c.end-e.ensures c.loop-n.invariant.1,
+          ∙ hashed_more (whole c.args.h) c.args.s.now n c.end-e.result (omega arith) c.end-e.ensures c.loop-n.invariant.1,
     )
 
 returns : tie.Need-returns invariant-loop decreases-loop
@@ -39,4 +38,5 @@ returns c =
 pub hash_spec : {M : Type 1} → statement M
 unfolding hashed
 hash_spec =
-    tie.close (tie.spec invariant-loop decreases-loop (search rules) (λ c. (omega arith, refl)) (search rules) (search rules) (search rules) (search rules) (search rules) absorbed-requires (search rules) (search rules) loop-again returns)
+    tie.close (tie.spec invariant-loop decreases-loop (search rules) (λ c. (omega arith, refl)) (search rules) (search rules) (search rules)
+    (search rules) (search rules) absorbed-requires (search rules) (search rules) loop-again returns)

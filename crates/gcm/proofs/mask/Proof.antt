@@ -6,4 +6,5 @@ use Rattle.gcm.proofs.mask.Tie as tie
 
 pub mask_spec : {M : Type 1} → statement M
 mask_spec =
-    tie.close (tie.spec (search rules) (search rules) (search rules) (search rules) (search rules) (λ c. simp (c.add.ensures, c.encrypt-stream.ensures, c.bytes.ensures)))
+    tie.close (tie.spec (search rules) (search rules) (search rules) (search rules) (search rules)
+    (λ c. simp (c.add.ensures, c.encrypt-stream.ensures, c.bytes.ensures)))

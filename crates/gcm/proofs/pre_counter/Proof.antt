@@ -7,4 +7,5 @@ use Rattle.gcm.proofs.pre_counter.Tie as tie
 
 pub pre_counter_spec : {M : Type 1} → statement M
 pre_counter_spec =
-    tie.close (tie.spec (search rules) (search rules) (search rules) (search rules) (search rules) (λ c. simp (c.load64.ensures, c.load32.ensures) (pre_counter_whole _ c.requires)))
+    tie.close (tie.spec (search rules) (search rules) (search rules) (search rules) (search rules)
+    (λ c. simp (c.load64.ensures, c.load32.ensures) (pre_counter_whole _ c.requires)))

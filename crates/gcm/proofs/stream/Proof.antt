@@ -41,11 +41,10 @@ mask-requires c κs =
 loop-again : tie.Need-loop-n-preserved invariant-loop decreases-loop
 unfolding counter_at
 loop-again c =
-    let start = c.before.before.before.before.before.before.before.before.before.before.before.before in
     let loop = c.loop-n in
-    let text = start.args.text.now in
-    let keys = start.args.keys.now in
-    let icb = whole start.args.first in
+    let text = c.args.text.now in
+    let keys = c.args.keys.now in
+    let icb = whole c.args.first in
     let n = loop.n in
     let out = loop.out in
     let e = c.end-e.result in
@@ -65,13 +64,14 @@ loop-again c =
 
 returns : tie.Need-returns invariant-loop decreases-loop
 returns c key e =
-    let start = c.before.before.before.before.before in
-    let text = start.args.text.now in
+    let text = c.args.text.now in
     let last : c.loop-n.n ≡ c.count-m.result = omega arith in
-    masked_all key (whole start.args.first) text c.loop-n.n c.loop-n.out (last ∙ c.count-m.ensures)
+    masked_all key (whole c.args.first) text c.loop-n.n c.loop-n.out (last ∙ c.count-m.ensures)
     c.loop-n.invariant.1 (c.loop-n.invariant.3 key e)
 
 pub stream_spec : {M : Type 1} → statement M
 unfolding counter_at masked
 stream_spec =
-    tie.close (tie.spec invariant-loop decreases-loop (search rules) (λ c. (omega arith, omega arith, refl, λ key e. rw zero-min)) (search rules) (search rules) (search rules) (search rules) (search rules) (search rules) (search rules) (search rules) mask-requires (search rules) (search rules) (search rules) loop-again (search rules) returns)
+    tie.close (tie.spec invariant-loop decreases-loop (search rules) (λ c. (omega arith, omega arith, refl, λ key e. rw zero-min))
+    (search rules) (search rules) (search rules) (search rules) (search rules) (search rules) (search rules) (search rules) mask-requires
+    (search rules) (search rules) (search rules) loop-again (search rules) returns)

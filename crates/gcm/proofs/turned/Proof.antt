@@ -7,4 +7,5 @@ use Rattle.gcm.proofs.turned.Tie as tie
 
 pub turned_spec : {M : Type 1} → statement M
 turned_spec =
-    tie.close (tie.spec (search rules) (search rules) (search rules) (search rules) (λ c. (simp (c.xor.ensures, c.chosen.ensures, c.chosen-2.ensures, chosen_whole), c.halved.ensures)))
+    tie.close (tie.spec (search rules) (search rules) (search rules) (search rules)
+    (λ c. (simp (c.xor.ensures, c.chosen.ensures, c.chosen-2.ensures, chosen_whole), c.halved.ensures)))

@@ -12,11 +12,10 @@ use Rattle.gcm.proofs.unseal.Tie as tie
 returns : tie.Need-returns-then-not-same
 unfolding opened
 returns c =
-    let start = c.before.before.before.before.before.before.before.before.before.before.before.before.before in
-    let key = start.args.key.now in
-    let iv = start.args.iv.now in
-    let cipher = start.args.cipher.now in
-    let tag = start.args.tag.now in
+    let key = c.args.key.now in
+    let iv = c.args.iv.now in
+    let cipher = c.args.cipher.now in
+    let tag = c.args.tag.now in
     let right = c.tag_of.ensures key c.expand-keys.ensures in
     let wrong : same tag (tag_of key iv [] cipher) ≡ false =
     sym (c.same.ensures ∙ ap (same tag) right) ∙ c.if-not-same.true
@@ -26,11 +25,10 @@ returns c =
 returns-2 : tie.Need-returns
 unfolding crypted opened
 returns-2 c =
-    let start = c.before.before.before.before.before.before.before.before.before.before.before.before.before.before.before.before.before.before.before.before in
-    let key = start.args.key.now in
-    let iv = start.args.iv.now in
-    let cipher = start.args.cipher.now in
-    let tag = start.args.tag.now in
+    let key = c.args.key.now in
+    let iv = c.args.iv.now in
+    let cipher = c.args.cipher.now in
+    let tag = c.args.tag.now in
     let expands = c.expand-keys.ensures in
     let right = c.tag_of.ensures key expands in
     let found : same tag (tag_of key iv [] cipher) ≡ true =
@@ -40,4 +38,5 @@ returns-2 c =
 
 pub unseal_spec : {M : Type 1} → statement M
 unseal_spec =
-    tie.close (tie.spec (search rules) (search rules) (search rules) (search rules) (search rules) returns (search rules) (search rules) (search rules) (search rules) returns-2)
+    tie.close (tie.spec (search rules) (search rules) (search rules) (search rules) (search rules) returns (search rules) (search rules)
+    (search rules) (search rules) returns-2)

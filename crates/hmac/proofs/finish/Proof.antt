@@ -19,13 +19,14 @@ front c = digest_front c.args.hash _ c.finish-d.result c.size-n.ensures (search 
 returns : tie.Need-returns
 unfolding hmac
 returns c text taken =
-    let start = c.before.before.before.before.before.before.before in
-    let h = start.args.hash in
+    let h = c.args.hash in
     let d = c.finish-d in
     c.finish.ensures h _ (c.absorb-s.ensures.appended h _ c.keyed-outer.ensures.1)
-    ∙ ap (λ (l : List ℕ). sha2 h (outer_key (sha2 h) (block_size h) start.args.key.now ++ l))
+    ∙ ap (λ (l : List ℕ). sha2 h (outer_key (sha2 h) (block_size h) c.args.key.now ++ l))
     (ap (λ (n : ℕ). take n d.result) c.size-n.ensures ∙ d.ensures h _ taken)
 
 pub finish_spec : {M : Type 1} → statement M
 finish_spec =
-    tie.close (tie.spec (λ c κs. search rules) (λ c κs. search rules) (λ c κs. search rules) (λ c. (front c.before).fits) (λ c. (front c.before.before).long) (λ c κs. omega (arith, c.keyed-outer.ensures.0, front c.before.before)) (λ c κs. omega (arith, c.absorb-s.ensures.counted, c.keyed-outer.ensures.0, front c.before.before.before)) returns)
+    tie.close (tie.spec (λ c κs. search rules) (λ c κs. search rules) (λ c κs. search rules) (λ c. (front c.before).fits)
+    (λ c. (front c.before.before).long) (λ c κs. omega (arith, c.keyed-outer.ensures.0, front c.before.before))
+    (λ c κs. omega (arith, c.absorb-s.ensures.counted, c.keyed-outer.ensures.0, front c.before.before.before)) returns)

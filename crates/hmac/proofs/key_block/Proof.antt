@@ -18,19 +18,16 @@ use Rattle.hmac.proofs.key_block.Tie as tie
 
 array-share-prefix-d : tie.Need-slice_bounds-d-end
 array-share-prefix-d c =
-    let start = c.before.before.before.before.before.before.before.before in
-    (digest_front start.args.hash _ c.finish-d.result c.size-n.ensures (search rules)).fits
+    (digest_front c.args.hash _ c.finish-d.result c.size-n.ensures (search rules)).fits
 
 slice-aggregate-put-front-2 : tie.Need-slice_bounds-put_front-end-then-block_size-key
 slice-aggregate-put-front-2 c =
-    let start = c.before.before.before.before.before.before.before.before.before in
-    (digest_front start.args.hash _ c.finish-d.result c.size-n.ensures (search rules)).long
+    (digest_front c.args.hash _ c.finish-d.result c.size-n.ensures (search rules)).long
 
 put-front-requires : tie.Need-put_front-requires
 put-front-requires c κs =
-    let start = c.before.before.before.before.before.before.before.before.before in
     let full : length c.finish-d.result ≡ 64 = search rules in
-    omega (arith, digest_front start.args.hash _ c.finish-d.result c.size-n.ensures full)
+    omega (arith, digest_front c.args.hash _ c.finish-d.result c.size-n.ensures full)
 
 put-front-requires-2 : tie.Need-put_front-requires-2
 put-front-requires-2 c κs =
@@ -39,9 +36,8 @@ put-front-requires-2 c κs =
 returns : tie.Need-returns-then-block_size-key
 unfolding key_block
 returns c =
-    let start = c.before.before.before.before.before.before.before.before.before.before.before in
-    let h = start.args.hash in
-    let key : List ℕ = start.args.key.now in
+    let h = c.args.hash in
+    let key : List ℕ = c.args.key.now in
     let absorb = c.absorb-t in
     let finish = c.finish-d in
     let hashed : take c.size-n.result finish.result ≡ sha2 h key =
@@ -57,13 +53,13 @@ returns c =
 returns-2 : tie.Need-returns
 unfolding key_block
 returns-2 c =
-    let start = c.before.before.before.before.before.before in
-    let h = start.args.hash in
-    let key : List ℕ = start.args.key.now in
+    let h = c.args.hash in
+    let key : List ℕ = c.args.key.now in
     let size : c.block_size.result ≡ block_size h = c.block_size.ensures in
     let short : length key ≤ block_size h = omega arith in
     rw (c.put_front-2.ensures, le-ltb (block_size h) (length key) short) (front_filled (block_size h) 128 key short (counts h 0 0).fits)
 
 pub key_block_spec : {M : Type 1} → statement M
 key_block_spec =
-    tie.close (tie.spec (search rules) (search rules) (search rules) (search rules) (search rules) (search rules) array-share-prefix-d slice-aggregate-put-front-2 put-front-requires returns (search rules) put-front-requires-2 returns-2)
+    tie.close (tie.spec (search rules) (search rules) (search rules) (search rules) (search rules) (search rules) array-share-prefix-d
+    slice-aggregate-put-front-2 put-front-requires returns (search rules) put-front-requires-2 returns-2)

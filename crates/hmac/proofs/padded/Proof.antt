@@ -19,13 +19,12 @@ front c = block_front c.args.hash _ c.xor_all-bytes.result c.block_size-size.ens
 
 returns : tie.Need-returns
 returns c =
-    let start = c.before.before.before.before.before in
-    let h = start.args.hash in
+    let h = c.args.hash in
     let size = c.block_size-size in
     let fresh = c.new-fresh.ensures in
     let bytes = c.xor_all-bytes in
-    let first : take size.result bytes.result ≡ xored start.args.pad (take (block_size h) start.args.block) =
-    rw (size.ensures, bytes.ensures) (front_xored start.args.pad (block_size h) start.args.block)
+    let first : take size.result bytes.result ≡ xored c.args.pad (take (block_size h) c.args.block) =
+    rw (size.ensures, bytes.ensures) (front_xored c.args.pad (block_size h) c.args.block)
     in (
       omega (arith, c.absorb.ensures.counted, fresh.0, front c.before.before.before),
       subst (Taken h c.absorb.result) first (c.absorb.ensures.appended h [] fresh.1),
@@ -33,4 +32,5 @@ returns c =
 
 pub padded_spec : {M : Type 1} → statement M
 padded_spec =
-    tie.close (tie.spec (λ c κs. search rules) (λ c κs. search rules) (λ c κs. search rules) (λ c. (front c.before).fits) (λ c. (front c.before.before).long) (λ c κs. omega (arith, c.new-fresh.ensures.0, front c.before.before)) returns)
+    tie.close (tie.spec (λ c κs. search rules) (λ c κs. search rules) (λ c κs. search rules) (λ c. (front c.before).fits)
+    (λ c. (front c.before.before).long) (λ c κs. omega (arith, c.new-fresh.ensures.0, front c.before.before)) returns)

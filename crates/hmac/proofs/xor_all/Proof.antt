@@ -19,16 +19,15 @@ decreases-loop x block out₀ i₀ out i = 128 - i
 
 loop-again : tie.Need-loop-i-preserved invariant-loop decreases-loop
 loop-again c =
-    let start = c.before.before in
     let loop = c.loop-i in
-    (omega arith, xored_more start.args.x start.args.block loop.out loop.i loop.invariant.1 (omega arith))
+    (omega arith, xored_more c.args.x c.args.block loop.out loop.i loop.invariant.1 (omega arith))
 
 returns : tie.Need-returns invariant-loop decreases-loop
 returns c =
-    let start = c.before.before in
-    c.loop-i.invariant.1 ∙ xored_all start.args.x start.args.block c.loop-i.i (omega arith)
+    c.loop-i.invariant.1 ∙ xored_all c.args.x c.args.block c.loop-i.i (omega arith)
 
 pub xor_all_spec : {M : Type 1} → statement M
 unfolding xored
 xor_all_spec =
-    tie.close (tie.spec invariant-loop decreases-loop (λ c. (omega arith, refl)) (search rules) (search rules) (search rules) (search rules) loop-again returns)
+    tie.close (tie.spec invariant-loop decreases-loop (λ c. (omega arith, refl)) (search rules) (search rules) (search rules) (search rules)
+    loop-again returns)

@@ -19,9 +19,8 @@ room : (c : tie.After-put_at-arg-2-1)
     let made = c.opening-open.result in
     start.args.at + length (take (21 - made.start) (drop made.start made.all)) + length start.args.part.now + 1 ≤ length start.args.out.now
 room c =
-    let start = c.before.before.before.before.before.before in
     let made = c.opening-open in
-    omega (arith, start.requires, length_pieces start.args.part.now (opening_piece _ made.result made.ensures))
+    omega (arith, c.requires, length_pieces c.args.part.now (opening_piece _ made.result made.ensures))
 
 returns : tie.Need-returns
 returns c =

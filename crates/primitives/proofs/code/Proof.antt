@@ -57,4 +57,5 @@ returns-4 c =
 
 pub code_spec : {M : Type 1} → statement M
 code_spec =
-    tie.close (tie.spec (λ c κs. search rules) returns returns-2 returns-3 (λ c κs. search rules) (λ c κs. search rules) (λ c κs. search rules) array-share-prefix-code slice-aggregate-put-front put-front-requires (λ c. search rules) returns-4)
+    tie.close (tie.spec (λ c κs. search rules) returns returns-2 returns-3 (λ c κs. search rules) (λ c κs. search rules)
+    (λ c κs. search rules) array-share-prefix-code slice-aggregate-put-front put-front-requires (λ c. search rules) returns-4)

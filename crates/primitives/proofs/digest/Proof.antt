@@ -52,4 +52,5 @@ returns-3 c =
 
 pub digest_spec : {M : Type 1} → statement M
 digest_spec =
-    tie.close (tie.spec (λ c κs. search rules) returns returns-2 (λ c κs. search rules) (λ c κs. search rules) (λ c κs. search rules) array-share-prefix-digest slice-aggregate-put-front put-front-requires (λ c. search rules) returns-3)
+    tie.close (tie.spec (λ c κs. search rules) returns returns-2 (λ c κs. search rules) (λ c κs. search rules) (λ c κs. search rules)
+    array-share-prefix-digest slice-aggregate-put-front put-front-requires (λ c. search rules) returns-3)

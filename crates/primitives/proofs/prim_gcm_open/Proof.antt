@@ -39,4 +39,5 @@ returns-3 c =
 
 pub prim_gcm_open_spec : {M : Type 1} → statement M
 prim_gcm_open_spec =
-    tie.close (tie.spec (λ c κs. search rules) returns unseal-requires (λ c. search rules) (λ c. search rules) (λ c. search rules) returns-2 (λ c. search rules) returns-3)
+    tie.close (tie.spec (λ c κs. search rules) returns unseal-requires (λ c. search rules) (λ c. search rules) (λ c. search rules) returns-2
+    (λ c. search rules) returns-3)

@@ -12,4 +12,5 @@ returns-2 c = rw c.in-Sha512.is (λ fits. c.after_blocks-in-Sha512.ensures)
 
 pub after_blocks_spec : {M : Type 1} → statement M
 after_blocks_spec =
-    tie.close (tie.spec (λ c. search rules) (λ c κs. rw c.in-Sha256.is at c.requires) (λ c. search rules) (λ c κs. rw c.in-Sha512.is at c.requires) returns returns-2)
+    tie.close (tie.spec (λ c. search rules) (λ c κs. rw c.in-Sha256.is at c.requires) (λ c. search rules)
+    (λ c κs. rw c.in-Sha512.is at c.requires) returns returns-2)

@@ -6,4 +6,5 @@ use Rattle.sha_2.proofs.zeros.Tie as tie
 
 pub zeros_spec : {M : Type 1} → statement M
 zeros_spec =
-    tie.close (tie.spec (λ c. search rules) (λ c. search rules) (λ c. search rules) (λ c. search rules) (λ c. rw c.in-Sha256.is) (λ c. rw c.in-Sha512.is))
+    tie.close (tie.spec (λ c. search rules) (λ c. search rules) (λ c. search rules) (λ c. search rules) (λ c. rw c.in-Sha256.is)
+    (λ c. rw c.in-Sha512.is))

@@ -19,14 +19,14 @@ use Rattle.token.proofs.lay.Tie as tie
 room : (c : tie.After-write-arg-1)
     → let args = c.args in
     let shown = c.digits-shown.result in
-    length (netstring args.key.now) + length (netstring args.id.now) + length (netstring (take (20 - shown.start) (drop shown.start shown.all))) ≤ length args.out.now
+    length (netstring args.key.now) + length (netstring args.id.now)
+    + length (netstring (take (20 - shown.start) (drop shown.start shown.all))) ≤ length args.out.now
 room c =
-    let start = c.before.before.before.before.before.before.before in
     let shown = c.digits-shown in
     omega (
       arith,
-      start.requires,
-      short start.args.key.now start.args.id.now start.args.expiry.0 (record { key_size = start.requires.0; id_some = start.requires.1; id_fits = start.requires.2; in_range = search rules }),
+      c.requires,
+      short c.args.key.now c.args.id.now c.args.expiry.0 (record { key_size = c.requires.0; id_some = c.requires.1; id_fits = c.requires.2; in_range = search rules }),
       ap (λ (l : List ℕ). length (netstring l)) (shown_piece _ shown.result shown.ensures),
     )
 
@@ -47,4 +47,6 @@ returns c =
 
 pub lay_spec : {M : Type 1} → statement M
 lay_spec =
-    tie.close (tie.spec (λ c. search rules) (λ c κs. search rules) (λ c κs. omega (arith, room c)) (λ c κs. omega (arith, room c.before.before.before.before)) (λ c. search rules) (λ c. search rules) (λ c. search rules) (λ c κs. omega (arith, room c.before.before.before.before.before.before.before.before.before)) (λ c. search rules) returns)
+    tie.close (tie.spec (λ c. search rules) (λ c κs. search rules) (λ c κs. omega (arith, room c))
+    (λ c κs. omega (arith, room c.before.before.before.before)) (λ c. search rules) (λ c. search rules) (λ c. search rules)
+    (λ c κs. omega (arith, room c.before.before.before.before.before.before.before.before.before)) (λ c. search rules) returns)

@@ -55,4 +55,6 @@ returns c =
 
 pub seal_spec : {M : Type 1} → statement M
 seal_spec =
-    tie.close (tie.spec (λ c. search rules) (λ c κs. search rules) (λ c. (within c.before).1) (λ c. sym (length-take-le _ _ (within c.before.before).1)) (λ c. (within c.before.before).0) (λ c. sym (length-take-le _ _ (within c.before.before.before).0)) (λ c. search rules) seal-requires returns)
+    tie.close (tie.spec (λ c. search rules) (λ c κs. search rules) (λ c. (within c.before).1)
+    (λ c. sym (length-take-le _ _ (within c.before.before).1)) (λ c. (within c.before.before).0)
+    (λ c. sym (length-take-le _ _ (within c.before.before.before).0)) (λ c. search rules) seal-requires returns)

@@ -44,4 +44,7 @@ token_of_spec =
     tie.close (tie.spec (λ c κs. search rules) (λ c. let args = c.args in
     no_token_of args.key.now args.id.now args.digits.now
     (λ n s e. false≢true (sym (simp (eq-eqb _ _ s.key_size, le-leb _ _ s.id_some, le-leb _ _ s.id_fits) at c.if-not-key-id.true)))
-    c.nothing.ensures) (λ c κs. search rules) (λ c. search rules) (λ c. search rules) (λ c κs. search rules) (λ c. no_token_of _ _ _ (λ n s e. (rw c.in_default.is at c.read.ensures) n s.in_range e) c.nothing-in_default.ensures) (λ c. search rules) (λ c κs. omega (arith, (sized c.before).key_size)) (λ c. search rules) (λ c κs. omega (arith, (sized c.before.before.before.before).id_fits)) returns-3)
+    c.nothing.ensures) (λ c κs. search rules) (λ c. search rules) (λ c. search rules) (λ c κs. search rules)
+    (λ c. no_token_of _ _ _ (λ n s e. (rw c.in_default.is at c.read.ensures) n s.in_range e) c.nothing-in_default.ensures)
+    (λ c. search rules) (λ c κs. omega (arith, (sized c.before).key_size)) (λ c. search rules)
+    (λ c κs. omega (arith, (sized c.before.before.before.before).id_fits)) returns-3)

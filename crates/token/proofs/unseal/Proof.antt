@@ -38,7 +38,10 @@ returns c =
 pub unseal_spec : {M : Type 1} → statement M
 unfolding opened_token
 unseal_spec =
-    tie.close (tie.spec (λ c. search rules) (λ c. sym (length-take-le _ _ c.requires.2)) (λ c κs. let s = c.before.before.before.before.before in
-    (s.requires.0, s.requires.1, omega (arith, s.requires.2), s.requires.3, length-take-le _ _ s.requires.2)) (λ c. search rules) array-share-prefix-text (λ c. sym (length-take-le _ _ (array-share-prefix-text c.before))) (λ c κs. search rules) (λ c. search rules) (λ c κs. search rules) returns (λ c. let a = c.args in
+    tie.close (tie.spec (λ c. search rules) (λ c. sym (length-take-le _ _ c.requires.2))
+    (λ c κs. let s = c.before.before.before.before.before in
+    (s.requires.0, s.requires.1, omega (arith, s.requires.2), s.requires.3, length-take-le _ _ s.requires.2)) (λ c. search rules)
+    array-share-prefix-text (λ c. sym (length-take-le _ _ (array-share-prefix-text c.before))) (λ c κs. search rules) (λ c. search rules)
+    (λ c κs. search rules) returns (λ c. let a = c.args in
     let u = c.unseal-opened in
     unseals_none (from_wrong (opened a.server_key.now a.iv.now [] a.s.now a.tag.now) (sym u.ensures.0 ∙ c.in-Wrong.is)) c.nothing.ensures))

@@ -23,4 +23,10 @@ loop-again c =
 
 pub digits_on_spec : {M : Type 1} → statement M
 digits_on_spec =
-    tie.close (tie.spec invariant-loop decreases-loop (λ c. search rules) (λ c. c.requires) (λ c. search rules) (λ c. found _ _ _ _ c.loop-i.invariant c.loop-i-test.true c.if-b-eq58.true) (λ c. no_digit _ _ _ _ c.loop-i.invariant c.if-b-eq58.false (λ low high. omega (arith, c.if-b-lt48.true))) (λ c. no_digit _ _ _ _ c.loop-i.invariant c.if-b-eq58.false (λ low high. omega (arith, c.if-b-gt57.true))) (λ c. too_large _ _ _ _ c.loop-i.invariant c.if-b-eq58.false c.if-run-value.true) (λ c. search rules) (λ c. omega (arith, c.shared_slice_known-1.given c.loop-i.i)) (λ c. omega (arith, c.shared_slice_known-1.given c.loop-i.i)) (λ c. search rules) (λ c. search rules) loop-again (λ c. run_ended _ _ _ _ c.loop-i.invariant c.loop-i-test.false))
+    tie.close (tie.spec invariant-loop decreases-loop (λ c. search rules) (λ c. c.requires) (λ c. search rules)
+    (λ c. found _ _ _ _ c.loop-i.invariant c.loop-i-test.true c.if-b-eq58.true)
+    (λ c. no_digit _ _ _ _ c.loop-i.invariant c.if-b-eq58.false (λ low high. omega (arith, c.if-b-lt48.true)))
+    (λ c. no_digit _ _ _ _ c.loop-i.invariant c.if-b-eq58.false (λ low high. omega (arith, c.if-b-gt57.true)))
+    (λ c. too_large _ _ _ _ c.loop-i.invariant c.if-b-eq58.false c.if-run-value.true) (λ c. search rules)
+    (λ c. omega (arith, c.shared_slice_known-1.given c.loop-i.i)) (λ c. omega (arith, c.shared_slice_known-1.given c.loop-i.i))
+    (λ c. search rules) (λ c. search rules) loop-again (λ c. run_ended _ _ _ _ c.loop-i.invariant c.loop-i-test.false))

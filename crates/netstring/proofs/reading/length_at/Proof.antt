@@ -18,9 +18,9 @@ returns-3 c =
 
 digits-on-requires : tie.Need-digits_on-requires
 digits-on-requires c κs =
-    let start = c.before.before.before.before.before.before in
-    first_digit _ _ (omega (arith, start.requires)) (omega arith) (omega arith)
+    first_digit _ _ (omega (arith, c.requires)) (omega arith) (omega arith)
 
 pub length_at_spec : {M : Type 1} → statement M
 length_at_spec =
-    tie.close (tie.spec (λ c. nothing_left c.args.run.now c.args.at (omega (arith, c.if-at-run.true))) (λ c. search rules) returns-2 returns-3 (λ c κs. search rules) (λ c. search rules) (λ c. search rules) digits-on-requires (λ c. search rules))
+    tie.close (tie.spec (λ c. nothing_left c.args.run.now c.args.at (omega (arith, c.if-at-run.true))) (λ c. search rules) returns-2
+    returns-3 (λ c κs. search rules) (λ c. search rules) (λ c. search rules) digits-on-requires (λ c. search rules))

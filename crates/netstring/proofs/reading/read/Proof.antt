@@ -20,4 +20,7 @@ returns c =
 
 pub read_spec : {M : Type 1} → statement M
 read_spec =
-    tie.close (tie.spec (λ c κs. search rules) (λ c. search rules) (λ c. search rules) returns (λ c. omega (arith, (known c).within)) (λ c. omega (arith, (known c).within)) (λ c. too_short _ _ _ _ (known c.before) c.if-run-start.true) (λ c. search rules) (λ c. search rules) (λ c. no_comma_lem _ _ _ _ (known c.before.before.before) c.if-run-end-ne44.true) (λ c. search rules) (λ c. part_found _ _ _ _ (known c.before.before.before) c.if-run-start.false c.if-run-end-ne44.false))
+    tie.close (tie.spec (λ c κs. search rules) (λ c. search rules) (λ c. search rules) returns (λ c. omega (arith, (known c).within))
+    (λ c. omega (arith, (known c).within)) (λ c. too_short _ _ _ _ (known c.before) c.if-run-start.true) (λ c. search rules)
+    (λ c. search rules) (λ c. no_comma_lem _ _ _ _ (known c.before.before.before) c.if-run-end-ne44.true) (λ c. search rules)
+    (λ c. part_found _ _ _ _ (known c.before.before.before) c.if-run-start.false c.if-run-end-ne44.false))

@@ -55,13 +55,13 @@ whole c =
 
 after-blocks-requires : tie.Need-after_blocks-closed-requires
 after-blocks-requires c κs =
-    omega (arith, whole c, ends c.before.before.before.before.before.before.before.before.before, room c.before.before.before.before.before.before.before.before.before, c.put64.auto, c.put_front.auto, length-set c.put_front.new.out c.begun-begun.result 128)
+    let begun = c.before.before.before.before.before.before.before.before.before in
+    omega (arith, whole c, ends begun, room begun, c.put64.auto, c.put_front.auto, length-set c.put_front.new.out c.begun-begun.result 128)
 
 returns : tie.Need-returns
 unfolding sha2
 returns c h m p =
-    let start = c.before.before.before.before.before.before.before.before.before.before.before.before.before.before.before.before in
-    let self = start.args.self in
+    let self = c.args.self in
     let n = self.length in
     let begun = c.begun-begun in
     let put = c.put64 in
@@ -76,7 +76,7 @@ returns c h m p =
     (closed_by h self (padding self.hash n) m put.new.out c.after_blocks-closed.result c.blocks_in.result
     (whole c.before.before ∙ sym (length_padding self.hash n))
     full
-    (rw (whole c.before.before, is) (padding_laid self.hash n tail start.requires kept))
+    (rw (whole c.before.before, is) (padding_laid self.hash n tail c.requires kept))
     c.after_blocks-closed.ensures
     p)
     in
@@ -86,4 +86,9 @@ returns c h m p =
 
 pub finish_spec : {M : Type 1} → statement M
 finish_spec =
-    tie.close (tie.spec (λ c κs. search rules) (λ c. omega (arith, begun_small c)) (λ c κs. search rules) add-end-2 (λ c κs. search rules) (λ c. omega (arith, room c)) (λ c. search rules) array-share-prefix-tail (λ c. sym (front c.before)) (λ c κs. omega (arith, front c.before, room c.before.before)) (λ c. omega (arith, c.put_front.auto, room c.before.before.before.before)) (λ c. search rules) (λ c. omega (arith, room c.before.before.before.before.before)) (λ c. omega (arith, c.requires)) (λ c κs. simp length-set (omega (arith, c.put_front.auto, room c.before.before.before.before.before))) (λ c. search rules) (λ c κs. search rules) after-blocks-requires (λ c κs. search rules) returns)
+    tie.close (tie.spec (λ c κs. search rules) (λ c. omega (arith, begun_small c)) (λ c κs. search rules) add-end-2 (λ c κs. search rules)
+    (λ c. omega (arith, room c)) (λ c. search rules) array-share-prefix-tail (λ c. sym (front c.before))
+    (λ c κs. omega (arith, front c.before, room c.before.before)) (λ c. omega (arith, c.put_front.auto, room c.before.before.before.before))
+    (λ c. search rules) (λ c. omega (arith, room c.before.before.before.before.before)) (λ c. omega (arith, c.requires))
+    (λ c κs. simp length-set (omega (arith, c.put_front.auto, room c.before.before.before.before.before))) (λ c. search rules)
+    (λ c κs. search rules) after-blocks-requires (λ c κs. search rules) returns)

@@ -10,8 +10,7 @@ use Rattle.sha_2.proofs.State.whole.Tie as tie
 
 after-blocks-requires : tie.Need-after_blocks-next-requires
 after-blocks-requires c κs =
-    let start = c.before.before.before.before in
-    rw c.blocks_in-n.ensures (counts start.args.self.hash (length start.args.part.now) 0).whole
+    rw c.blocks_in-n.ensures (counts c.args.self.hash (length c.args.part.now) 0).whole
 
 -- the whole blocks' bytes, as the code counts them
 counted : (h : Hash) (n size blocks : ℕ) → size ≡ block_size h → blocks ≡ n / block_size h → size * blocks ≤ n
@@ -19,19 +18,16 @@ counted h n size blocks e f = rw (e, f) (counts h n 0).whole
 
 mul_at : tie.Need-overflow_mul-at
 mul_at c =
-    let start = c.before.before.before.before.before.before in
-    omega (arith, counted start.args.self.hash (length start.args.part.now) _ _ c.block_size.ensures c.blocks_in-n.ensures, start.requires.1)
+    omega (arith, counted c.args.self.hash (length c.args.part.now) _ _ c.block_size.ensures c.blocks_in-n.ensures, c.requires.1)
 
 sub-put-at : tie.Need-slice_bounds-put_at-count
 sub-put-at c =
-    let start = c.before.before.before.before.before.before.before in
-    counted start.args.self.hash (length start.args.part.now) _ _ c.block_size.ensures c.blocks_in-n.ensures
+    counted c.args.self.hash (length c.args.part.now) _ _ c.block_size.ensures c.blocks_in-n.ensures
 
 put-at-requires : tie.Need-put_at-requires
 put-at-requires c κs =
-    let start = c.before.before.before.before.before.before.before.before in
-    let self = start.args.self in
-    let part : List ℕ = start.args.part.now in
+    let self = c.args.self in
+    let part : List ℕ = c.args.part.now in
     let full : length self.tail ≡ 128 = search rules in
     let numbers = counts self.hash 0 (length part) in
     rw (c.block_size.ensures, c.blocks_in-n.ensures, rest_of part, length-drop)
@@ -39,11 +35,10 @@ put-at-requires c κs =
 
 returns : tie.Need-returns
 returns c =
-    let start = c.before.before.before.before.before.before.before.before.before.before in
-    let self = start.args.self in
-    let part : List ℕ = start.args.part.now in
+    let self = c.args.self in
+    let part : List ℕ = c.args.part.now in
     let full : length self.tail ≡ 128 = search rules in
-    took_whole self _ part full refl refl start.requires.0
+    took_whole self _ part full refl refl c.requires.0
     (λ fit. c.after_blocks-next.ensures fit ∙ ap (after_blocks self.hash self.value part) c.blocks_in-n.ensures)
     (c.put_at.ensures.is
     ∙ ap (spliced self.tail 0) (rest_of part _)
@@ -51,4 +46,5 @@ returns c =
 
 pub whole_spec : {M : Type 1} → statement M
 whole_spec =
-    tie.close (tie.spec (λ c κs. search rules) after-blocks-requires (λ c κs. search rules) mul_at (λ c. search rules) sub-put-at sub-put-at (λ c. search rules) put-at-requires (λ c. search rules) returns)
+    tie.close (tie.spec (λ c κs. search rules) after-blocks-requires (λ c κs. search rules) mul_at (λ c. search rules) sub-put-at sub-put-at
+    (λ c. search rules) put-at-requires (λ c. search rules) returns)

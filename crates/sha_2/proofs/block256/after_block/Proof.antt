@@ -10,9 +10,8 @@ use Rattle.sha_2.proofs.block256.after_block.Tie as tie
 
 returns : tie.Need-returns
 returns c =
-    let start = c.before.before.before.before.before.before.before.before.before.before in
-    let block : List ℕ = start.args.block.now in
-    let v : Words = wide start.args.v in
+    let block : List ℕ = c.args.block.now in
+    let v : Words = wide c.args.v in
     all_turned Sha256 block v _ _ _
     (c.rounds_48_63-x.ensures block v
     (c.rounds_32_47-x.ensures block v

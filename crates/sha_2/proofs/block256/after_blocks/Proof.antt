@@ -38,12 +38,13 @@ loop-again c =
 
 returns : tie.Need-returns invariant-loop decreases-loop
 returns c fits =
-    let start = c.before.before.before.before.before in
     let loop = c.loop-i in
-    let e : loop.i ≡ start.args.n = omega arith in
+    let e : loop.i ≡ c.args.n = omega arith in
     c.widened.ensures ∙ loop.invariant.1
-    ∙ ap₂ (λ (v : Words) (i : ℕ). after_blocks Sha256 v start.args.m.now i) (c.narrowed-x.ensures fits) e
+    ∙ ap₂ (λ (v : Words) (i : ℕ). after_blocks Sha256 v c.args.m.now i) (c.narrowed-x.ensures fits) e
 
 pub after_blocks_spec : {M : Type 1} → statement M
 after_blocks_spec =
-    tie.close (tie.spec invariant-loop decreases-loop (λ c κs. search rules) loop-holds (λ c. omega arith) (λ c. omega arith) (λ c. omega arith) (λ c. omega arith) (λ c. omega arith) after-block-requires (λ c. omega arith) (λ c. omega arith) loop-again (λ c κs. search rules) returns)
+    tie.close (tie.spec invariant-loop decreases-loop (λ c κs. search rules) loop-holds (λ c. omega arith) (λ c. omega arith)
+    (λ c. omega arith) (λ c. omega arith) (λ c. omega arith) after-block-requires (λ c. omega arith) (λ c. omega arith) loop-again
+    (λ c κs. search rules) returns)

@@ -9,14 +9,15 @@ use Rattle.sha_2.proofs.block256.turn.Tie as tie
 
 returns : tie.Need-returns
 returns c block v0 before =
-    let start = c.before.before.before.before.before.before in
-    let t = start.args.t in
-    later_turned Sha256 block v0 t (wide start.args.v) (wide c.round.result) start.args.w.now start.args.k c.mix-x.result before start.requires.2
+    let t = c.args.t in
+    later_turned Sha256 block v0 t (wide c.args.v) (wide c.round.result) c.args.w.now c.args.k c.mix-x.result before c.requires.2
     c.round.ensures
-    start.requires.1
-    start.requires.0
+    c.requires.1
+    c.requires.0
     c.mix-x.ensures
 
 pub turn_spec : {M : Type 1} → statement M
 turn_spec =
-    tie.close (tie.spec (λ c. search rules) (λ c. search rules) (λ c. search rules) (λ c. search rules) (λ c. search rules) (λ c. search rules) (λ c. search rules) (λ c. search rules) (λ c. search rules) (λ c. search rules) (λ c. search rules) (λ c. search rules) (λ c κs. search rules) (λ c. search rules) (λ c. search rules) (λ c κs. search rules) returns)
+    tie.close (tie.spec (λ c. search rules) (λ c. search rules) (λ c. search rules) (λ c. search rules) (λ c. search rules)
+    (λ c. search rules) (λ c. search rules) (λ c. search rules) (λ c. search rules) (λ c. search rules) (λ c. search rules)
+    (λ c. search rules) (λ c κs. search rules) (λ c. search rules) (λ c. search rules) (λ c κs. search rules) returns)

@@ -9,9 +9,8 @@ use Rattle.sha_2.proofs.block512.after_block.Tie as tie
 
 returns : tie.Need-returns
 returns c =
-    let start = c.before.before.before.before.before.before.before.before.before.before.before.before in
-    let block : List ℕ = start.args.block.now in
-    let v : Words = start.args.v in
+    let block : List ℕ = c.args.block.now in
+    let v : Words = c.args.v in
     all_turned Sha512 block v _ _ _
     (c.rounds_64_79-x.ensures block v
     (c.rounds_48_63-x.ensures block v
@@ -23,4 +22,5 @@ returns c =
 
 pub after_block_spec : {M : Type 1} → statement M
 after_block_spec =
-    tie.close (tie.spec (λ c κs. search rules) (λ c κs. search rules) (λ c κs. search rules) (λ c κs. search rules) (λ c κs. search rules) (λ c κs. search rules) returns)
+    tie.close (tie.spec (λ c κs. search rules) (λ c κs. search rules) (λ c κs. search rules) (λ c κs. search rules) (λ c κs. search rules)
+    (λ c κs. search rules) returns)

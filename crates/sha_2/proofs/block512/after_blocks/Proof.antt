@@ -36,10 +36,10 @@ loop-again c =
 
 returns : tie.Need-returns invariant-loop decreases-loop
 returns c =
-    let start = c.before.before.before in
-    let e : c.loop-i.i ≡ start.args.n = omega arith in
-    c.loop-i.invariant.1 ∙ ap (after_blocks Sha512 start.args.v start.args.m.now) e
+    let e : c.loop-i.i ≡ c.args.n = omega arith in
+    c.loop-i.invariant.1 ∙ ap (after_blocks Sha512 c.args.v c.args.m.now) e
 
 pub after_blocks_spec : {M : Type 1} → statement M
 after_blocks_spec =
-    tie.close (tie.spec invariant-loop decreases-loop loop-holds (λ c. omega arith) (λ c. omega arith) (λ c. omega arith) (λ c. omega arith) (λ c. omega arith) after-block-requires (λ c. omega arith) (λ c. omega arith) loop-again returns)
+    tie.close (tie.spec invariant-loop decreases-loop loop-holds (λ c. omega arith) (λ c. omega arith) (λ c. omega arith) (λ c. omega arith)
+    (λ c. omega arith) after-block-requires (λ c. omega arith) (λ c. omega arith) loop-again returns)

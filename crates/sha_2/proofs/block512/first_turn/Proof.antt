@@ -8,12 +8,11 @@ use Rattle.sha_2.proofs.block512.first_turn.Tie as tie
 
 returns : tie.Need-returns
 returns c v0 before =
-    let start = c.before.before.before in
-    let t = start.args.t in
-    first_turned Sha512 start.args.block.now v0 t start.args.v c.round.result start.args.w.now start.args.k c.load64-x.result before start.requires.2
+    let t = c.args.t in
+    first_turned Sha512 c.args.block.now v0 t c.args.v c.round.result c.args.w.now c.args.k c.load64-x.result before c.requires.2
     c.round.ensures
     (omega arith)
-    start.requires.0
+    c.requires.0
     c.load64-x.ensures
 
 pub first_turn_spec : {M : Type 1} → statement M

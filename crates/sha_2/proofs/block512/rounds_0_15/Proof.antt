@@ -29,4 +29,11 @@ returns c v0 before =
 pub rounds_0_15_spec : {M : Type 1} → statement M
 unfolding K
 rounds_0_15_spec =
-    tie.close (tie.spec (λ c κs. (lit< tt, c.requires, refl)) (λ c κs. (lit< tt, c.requires, refl)) (λ c κs. (lit< tt, c.requires, refl)) (λ c κs. (lit< tt, c.requires, refl)) (λ c κs. (lit< tt, (from5 c).requires, refl)) (λ c κs. (lit< tt, (from5 c.before.before).requires, refl)) (λ c κs. (lit< tt, (from5 c.before.before.before.before).requires, refl)) (λ c κs. (lit< tt, (from5 c.before.before.before.before.before.before).requires, refl)) (λ c κs. (lit< tt, (from9 c).requires, refl)) (λ c κs. (lit< tt, (from9 c.before.before).requires, refl)) (λ c κs. (lit< tt, (from9 c.before.before.before.before).requires, refl)) (λ c κs. (lit< tt, (from9 c.before.before.before.before.before.before).requires, refl)) (λ c κs. (lit< tt, (from13 c).requires, refl)) (λ c κs. (lit< tt, (from13 c.before.before).requires, refl)) (λ c κs. (lit< tt, (from13 c.before.before.before.before).requires, refl)) (λ c κs. (lit< tt, (from13 c.before.before.before.before.before.before).requires, refl)) returns)
+    tie.close (tie.spec (λ c κs. (lit< tt, c.requires, refl)) (λ c κs. (lit< tt, c.requires, refl)) (λ c κs. (lit< tt, c.requires, refl))
+    (λ c κs. (lit< tt, c.requires, refl)) (λ c κs. (lit< tt, (from5 c).requires, refl))
+    (λ c κs. (lit< tt, (from5 c.before.before).requires, refl)) (λ c κs. (lit< tt, (from5 c.before.before.before.before).requires, refl))
+    (λ c κs. (lit< tt, (from5 c.before.before.before.before.before.before).requires, refl)) (λ c κs. (lit< tt, (from9 c).requires, refl))
+    (λ c κs. (lit< tt, (from9 c.before.before).requires, refl)) (λ c κs. (lit< tt, (from9 c.before.before.before.before).requires, refl))
+    (λ c κs. (lit< tt, (from9 c.before.before.before.before.before.before).requires, refl)) (λ c κs. (lit< tt, (from13 c).requires, refl))
+    (λ c κs. (lit< tt, (from13 c.before.before).requires, refl)) (λ c κs. (lit< tt, (from13 c.before.before.before.before).requires, refl))
+    (λ c κs. (lit< tt, (from13 c.before.before.before.before.before.before).requires, refl)) returns)

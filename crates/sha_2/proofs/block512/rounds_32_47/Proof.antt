@@ -19,4 +19,9 @@ returns c block v0 before =
 pub rounds_32_47_spec : {M : Type 1} → statement M
 unfolding K
 rounds_32_47_spec =
-    tie.close (tie.spec (λ c κs. (lit≤ tt, lit< tt, refl)) (λ c κs. (lit≤ tt, lit< tt, refl)) (λ c κs. (lit≤ tt, lit< tt, refl)) (λ c κs. (lit≤ tt, lit< tt, refl)) (λ c κs. (lit≤ tt, lit< tt, refl)) (λ c κs. (lit≤ tt, lit< tt, refl)) (λ c κs. (lit≤ tt, lit< tt, refl)) (λ c κs. (lit≤ tt, lit< tt, refl)) (λ c κs. (lit≤ tt, lit< tt, refl)) (λ c κs. (lit≤ tt, lit< tt, refl)) (λ c κs. (lit≤ tt, lit< tt, refl)) (λ c κs. (lit≤ tt, lit< tt, refl)) (λ c κs. (lit≤ tt, lit< tt, refl)) (λ c κs. (lit≤ tt, lit< tt, refl)) (λ c κs. (lit≤ tt, lit< tt, refl)) (λ c κs. (lit≤ tt, lit< tt, refl)) returns)
+    tie.close (tie.spec (λ c κs. (lit≤ tt, lit< tt, refl)) (λ c κs. (lit≤ tt, lit< tt, refl)) (λ c κs. (lit≤ tt, lit< tt, refl))
+    (λ c κs. (lit≤ tt, lit< tt, refl)) (λ c κs. (lit≤ tt, lit< tt, refl)) (λ c κs. (lit≤ tt, lit< tt, refl))
+    (λ c κs. (lit≤ tt, lit< tt, refl)) (λ c κs. (lit≤ tt, lit< tt, refl)) (λ c κs. (lit≤ tt, lit< tt, refl))
+    (λ c κs. (lit≤ tt, lit< tt, refl)) (λ c κs. (lit≤ tt, lit< tt, refl)) (λ c κs. (lit≤ tt, lit< tt, refl))
+    (λ c κs. (lit≤ tt, lit< tt, refl)) (λ c κs. (lit≤ tt, lit< tt, refl)) (λ c κs. (lit≤ tt, lit< tt, refl))
+    (λ c κs. (lit≤ tt, lit< tt, refl)) returns)

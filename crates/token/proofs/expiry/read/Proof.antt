@@ -25,7 +25,10 @@ returns-4 c = (
 
 pub read_spec : {M : Type 1} → statement M
 read_spec =
-    tie.close (tie.spec (λ c. λ n below e. omega (arith, c.if-digits-gt10.true, decimal_length 9 n (omega arith), ap length e)) (λ c κs. search rules) (λ c. λ n below e. omega (arith, c.if-n-gt4294967295.true, c.value-n.ensures, only_number c.args.digits.now n e)) (λ c κs. search rules) (λ c. search rules) (λ c. search rules) (λ c. search rules) (λ c κs. search rules) (λ c. let digits = c.args.digits.now in
+    tie.close (tie.spec (λ c. λ n below e. omega (arith, c.if-digits-gt10.true, decimal_length 9 n (omega arith), ap length e))
+    (λ c κs. search rules) (λ c. λ n below e. omega (arith, c.if-n-gt4294967295.true, c.value-n.ensures, only_number c.args.digits.now n e))
+    (λ c κs. search rules) (λ c. search rules) (λ c. search rules) (λ c. search rules) (λ c κs. search rules)
+    (λ c. let digits = c.args.digits.now in
     λ n below e.
     let shown : decimal c.value-n.result ≡ digits = ap decimal (c.value-n.ensures ∙ only_number digits n e) ∙ sym e in
     false≢true (sym c.if-not-same.true ∙ compared c.before ∙ ap (same digits) shown ∙ same_self digits)) (λ c. search rules) returns-4)

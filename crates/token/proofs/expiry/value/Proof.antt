@@ -29,6 +29,9 @@ loop-again c =
 pub value_spec : {M : Type 1} → statement M
 unfolding value_after
 value_spec =
-    tie.close (tie.spec invariant-loop decreases-loop (λ c. (omega arith, refl, omega arith)) (λ c. omega (arith, bounded c.loop-i.i c.loop-i.value (omega (arith, c.requires)) c.loop-i.invariant.2)) (λ c. search rules) (λ c κs. search rules) (λ c. let w = c.loop-i in
-    omega (arith, bounded w.i w.value (omega (arith, c.requires)) w.invariant.2, c.digit.ensures.1)) (λ c. search rules) (λ c. search rules) loop-again (λ c. let w = c.loop-i in
+    tie.close (tie.spec invariant-loop decreases-loop (λ c. (omega arith, refl, omega arith))
+    (λ c. omega (arith, bounded c.loop-i.i c.loop-i.value (omega (arith, c.requires)) c.loop-i.invariant.2)) (λ c. search rules)
+    (λ c κs. search rules) (λ c. let w = c.loop-i in
+    omega (arith, bounded w.i w.value (omega (arith, c.requires)) w.invariant.2, c.digit.ensures.1)) (λ c. search rules) (λ c. search rules)
+    loop-again (λ c. let w = c.loop-i in
     w.invariant.1 ∙ ap (value_after 0) (take_all w.i c.args.digits.now c.loop-i-test.false)))
