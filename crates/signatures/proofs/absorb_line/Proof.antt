@@ -1,6 +1,5 @@
 -- `absorb_line` meets its contract: the line is taken in by its five pieces.
 -- Assumes nothing.
-use borrow.Author.Rules.{rules}
 use mathlib.Core.Path.{◌≡◌, sym, subst}
 use mathlib.Core.List.{List, [], ◌∷◌}
 use Prim.Native.Nat.{ℕ, ◌+◌}
@@ -18,17 +17,13 @@ size s = line_size s.args.name.now s.args.value.now s.requires.0
 
 returns : tie.Need-returns
 returns c =
-    let s = c.before.before.before.before.before.before.before.before.before.before in
-    subst (λ (l : List ℕ). TookIn s.args.state l c.absorb5.result) (sym (line_pieces s.args.name.now s.args.value.now s.requires.0))
-    (took_in_turn _ _ _ (34 ∷ []) _ c.before.before.before.before.before.before.absorb.ensures
-    (took_in_turn _ _ _ s.args.name.now _ c.before.before.before.before.before.absorb2.ensures
-    (took_in_turn _ _ _ (34 ∷ 58 ∷ 32 ∷ []) _ c.before.before.before.absorb3.ensures
-    (took_in_turn _ _ _ s.args.value.now (10 ∷ []) c.before.before.absorb4.ensures c.absorb5.ensures))))
+    subst (λ (l : List ℕ). TookIn c.args.state l c.absorb.result) (sym (line_pieces c.args.name.now c.args.value.now c.requires.0))
+    (took_in_turn _ _ _ (34 ∷ []) _ c.absorb-s.ensures
+    (took_in_turn _ _ _ c.args.name.now _ c.absorb-s-2.ensures
+    (took_in_turn _ _ _ (34 ∷ 58 ∷ 32 ∷ []) _ c.absorb-s-3.ensures
+    (took_in_turn _ _ _ c.args.value.now (10 ∷ []) c.absorb-s-4.ensures c.absorb.ensures))))
 
 pub absorb_line_spec : {M : Type 1} → statement M
 absorb_line_spec =
-    tie.close (tie.spec (λ c. search rules) (λ c κs. omega (arith, size c.before.before.before))
-    (λ c κs. omega (arith, size c.before.before.before.before))
-    (λ c. search rules) (λ c κs. omega (arith, size c.before.before.before.before.before.before))
-    (λ c κs. omega (arith, size c.before.before.before.before.before.before.before))
-    (λ c. search rules) (λ c κs. omega (arith, size c.before.before.before.before.before.before.before.before.before)) returns)
+    tie.close (tie.spec (λ c κs. omega (arith, size c.before.before.before.before)) (λ c κs. omega (arith, size c.before.before.before.before.before)) (λ c κs. omega (arith, size c.before.before.before.before.before.before.before.before))
+    (λ c κs. omega (arith, size c.before.before.before.before.before.before.before.before.before)) (λ c κs. omega (arith, size c.before.before.before.before.before.before.before.before.before.before.before.before)) returns)

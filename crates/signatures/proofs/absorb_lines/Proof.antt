@@ -22,7 +22,7 @@ use Rattle.signatures.proofs.Values.{listed_start}
 use Rattle.signatures.proofs.absorb_lines.Statement.{statement}
 use Rattle.signatures.proofs.absorb_lines.Tie as tie
 
-abbrev invariant-loop : tie.invariant-loop
+abbrev invariant-loop : tie.invariant-loop-at
 invariant-loop method authority path block names buffer₀ s₀ at₀ buffer s at =
     (length buffer ≡ 16384)
     × (all_components (names_from names at) ≡ true)
@@ -30,79 +30,78 @@ invariant-loop method authority path block names buffer₀ s₀ at₀ buffer s a
     × ((r : State) → TookIn s (component_lines (message_of method authority path block) (names_from names at)) r
     → TookIn s₀ (component_lines (message_of method authority path block) (listed names)) r)
 
-abbrev decreases-loop : tie.decreases-loop
+abbrev decreases-loop : tie.decreases-loop-at
 decreases-loop method authority path block names buffer₀ s₀ at₀ buffer s at = length names + 1 - at
 
 abbrev message : tie.Start invariant-loop decreases-loop → Message
 message s = message_of s.args.method.now s.args.authority.now s.args.path.now s.args.block.now
 
-abbrev begun : tie.After-buffer3 invariant-loop decreases-loop → tie.Start invariant-loop decreases-loop
+abbrev begun : tie.After-buffer-in-loop-at-2-1 invariant-loop decreases-loop → tie.Start invariant-loop decreases-loop
 begun c = c.before.before.before.before.before.before.before.before.before.before.before.before.before.before
 
 -- the name, its value as it stands in the buffer, and what follows its line
-abbrev name : tie.After-buffer3 invariant-loop decreases-loop → List ℕ
-name c = cut (begun c).args.names.now c.before.before.before.before.before.before.before.loop.at c.before.before.before.before.before.name-end.result
+abbrev name : tie.After-buffer-in-loop-at-2-1 invariant-loop decreases-loop → List ℕ
+name c = cut c.args.names.now c.loop-at.at c.name_end-end.result
 
-abbrev shown : tie.After-buffer3 invariant-loop decreases-loop → List ℕ
-shown c = take c.before.before.put-value.result.size c.before.before.put-value.new.1.1.1.1.1.0
+abbrev shown : tie.After-buffer-in-loop-at-2-1 invariant-loop decreases-loop → List ℕ
+shown c = take c.put_value-value.result.size c.put_value-value.new.out
 
-abbrev rest : tie.After-buffer3 invariant-loop decreases-loop → List ℕ
-rest c = component_lines (message (begun c)) (names_from (begun c).args.names.now (c.before.before.before.before.before.name-end.result + 1))
+abbrev rest : tie.After-buffer-in-loop-at-2-1 invariant-loop decreases-loop → List ℕ
+rest c = component_lines (message (begun c)) (names_from c.args.names.now (c.name_end-end.result + 1))
 
-line : (c : tie.After-buffer3 invariant-loop decreases-loop)
-    → component_lines (message (begun c)) (names_from (begun c).args.names.now c.before.before.before.before.before.before.before.loop.at)
+line : (c : tie.After-buffer-in-loop-at-2-1 invariant-loop decreases-loop)
+    → component_lines (message (begun c)) (names_from c.args.names.now c.loop-at.at)
     ≡ component_line (name c) (shown c) ++ rest c
 unfolding value_of
 line c =
-    lines_first (message (begun c)) (begun c).args.names.now _ _ (search rules) c.before.before.before.before.before.name-end.ensures
-    ∙ ap (λ (v : List ℕ). component_line (name c) v ++ rest c) (sym c.before.before.put-value.ensures.is)
+    lines_first (message (begun c)) c.args.names.now _ _ (search rules) c.name_end-end.ensures
+    ∙ ap (λ (v : List ℕ). component_line (name c) v ++ rest c) (sym c.put_value-value.ensures.is)
 
-long : (c : tie.After-buffer3 invariant-loop decreases-loop)
-    → length (component_lines (message (begun c)) (names_from (begun c).args.names.now c.before.before.before.before.before.before.before.loop.at))
+long : (c : tie.After-buffer-in-loop-at-2-1 invariant-loop decreases-loop)
+    → length (component_lines (message (begun c)) (names_from c.args.names.now c.loop-at.at))
     ≡ length (component_line (name c) (shown c)) + length (rest c)
 long c = ap length (line c) ∙ length-append (component_line (name c) (shown c)) (rest c)
 
-components : (c : tie.After-buffer3 invariant-loop decreases-loop)
-    → (is_component (name c) ≡ true) × (all_components (names_from (begun c).args.names.now (c.before.before.before.before.before.name-end.result + 1)) ≡ true)
+components : (c : tie.After-buffer-in-loop-at-2-1 invariant-loop decreases-loop)
+    → (is_component (name c) ≡ true) × (all_components (names_from c.args.names.now (c.name_end-end.result + 1)) ≡ true)
 components c =
-    components_first (message (begun c)) (begun c).args.names.now _ _ (search rules) c.before.before.before.before.before.name-end.ensures
-    c.before.before.before.before.before.before.before.loop.invariant.1
+    components_first (message (begun c)) c.args.names.now _ _ (search rules) c.name_end-end.ensures
+    c.loop-at.invariant.1
 
-returns : tie.Need-returns invariant-loop decreases-loop
+returns : tie.Need-returns-then-names-eq0 invariant-loop decreases-loop
 returns c =
     let s = c.before.before.before.before.before.before in
-    rw (lines_none (message s) s.args.names.now c.if1.true) (took_none s.args.state)
+    rw (lines_none (message s) s.args.names.now c.if-names-eq0.true) (took_none s.args.state)
 
-loop-holds : tie.Need-loop-init invariant-loop decreases-loop
+loop-holds : tie.Need-loop-at-init invariant-loop decreases-loop
 loop-holds c =
     let s = c.before.before.before.before.before.before in
-    let from = listed_start s.args.names.now c.if1.false in
+    let from = listed_start s.args.names.now c.if-names-eq0.false in
     (search rules, ap all_components (sym from) ∙ s.requires.1, rw from at s.requires.2, λ r p. rw from p)
 
-absorb-line-requires : tie.Need-absorb-line-requires invariant-loop decreases-loop
+absorb-line-requires : tie.Need-absorb_line-s-requires invariant-loop decreases-loop
 absorb-line-requires c κs =
-    (component_quoted (name c) (components c).0, omega (arith, long c, c.before.before.before.before.before.before.before.loop.invariant.2))
+    (component_quoted (name c) (components c).0, omega (arith, long c, c.loop-at.invariant.2))
 
-loop-again : tie.Need-loop-preserved invariant-loop decreases-loop
+loop-again : tie.Need-loop-at-preserved invariant-loop decreases-loop
 loop-again c =
     let at = c.before in
-    let loop = at.before.before.before.before.before.before.before.loop in (
-      at.before.before.put-value.auto.1.1.1.1.1.0 ∙ loop.invariant.0,
+    let loop = at.loop-at in (
+      at.put_value-value.auto.out ∙ loop.invariant.0,
       (components at).1,
-      omega (arith, long at, loop.invariant.2, c.absorb-line.ensures.counted),
-      λ r p. loop.invariant.3 r (subst (λ (l : List ℕ). TookIn loop.s l r) (sym (line at)) (took_in_turn _ _ r (component_line (name at) (shown at)) (rest at) c.absorb-line.ensures p)),
+      omega (arith, long at, loop.invariant.2, c.absorb_line-s.ensures.counted),
+      λ r p. loop.invariant.3 r (subst (λ (l : List ℕ). TookIn loop.s l r) (sym (line at)) (took_in_turn _ _ r (component_line (name at) (shown at)) (rest at) c.absorb_line-s.ensures p)),
     )
 
-returns-2 : tie.Need-returns-2 invariant-loop decreases-loop
+returns-2 : tie.Need-returns invariant-loop decreases-loop
 returns-2 c =
     let s = c.before.before.before.before.before.before.before.before in
-    let loop = c.before.loop in
+    let loop = c.loop-at in
     loop.invariant.3 loop.s (rw (lines_past (message s) s.args.names.now loop.at (search rules)) (took_none loop.s))
 
 pub absorb_lines_spec : {M : Type 1} → statement M
 absorb_lines_spec =
-    tie.close (tie.spec invariant-loop decreases-loop returns loop-holds (λ c κs. search rules) (λ c. search rules) (λ c. search rules) (λ c. search rules)
-    (λ c. sym c.before.before.before.before.loop.invariant.0)
-    (λ c κs. (c.before.before.before.before.before.before.before.before.before.before.before.requires.0, c.before.before.before.before.loop.invariant.0))
-    (λ c. c.before.put-value.ensures.within) (λ c. sym (length-take-le _ _ c.before.before.put-value.ensures.within)) absorb-line-requires
-    (λ c. omega (arith, c.before.before.before.before.before.before.name-end.ensures.within, (begun c.before).good)) (λ c. search rules) loop-again returns-2)
+    tie.close (tie.spec invariant-loop decreases-loop returns loop-holds (λ c κs. search rules) (λ c. search rules) (λ c. search rules)
+    (λ c. search rules) (λ c. sym c.loop-at.invariant.0) (λ c κs. (c.requires.0, c.loop-at.invariant.0)) (λ c. c.put_value-value.ensures.within)
+    (λ c. sym (length-take-le _ _ c.put_value-value.ensures.within)) absorb-line-requires
+    (λ c. search rules) (λ c. search rules) loop-again returns-2)

@@ -1,6 +1,5 @@
 -- `code` meets its contract: the state takes in the components' lines and the parameters'.
 -- Assumes nothing.
-use borrow.Author.Rules.{rules}
 use mathlib.Core.Path.{sym, ap, subst}
 use mathlib.Core.List.{List, ◌++◌}
 use Prim.Native.Nat.{ℕ, ◌≤◌}
@@ -28,24 +27,18 @@ short s = base_short (message s) s.requires.0 s.args.names.now s.requires.1 s.re
 returns : tie.Need-returns
 unfolding code_of base_with codes
 returns c =
-    let s = c.before.before.before.before.before.before.before.before.before.before.before.before.before in
+    let s = c.before.before.before.before.before.before.before.before.before.before.before.before.before.before in
     let ps = s.args.params.now in
     let took =
-    took_in_turn _ _ _ (component_lines (message s) (listed s.args.names.now)) (opening ++ ps) c.before.before.before.before.absorb-lines.ensures
-    (took_in_turn _ _ _ opening ps c.before.before.absorb.ensures c.before.absorb2.ensures) in
+    took_in_turn _ _ _ (component_lines (message s) (listed s.args.names.now)) (opening ++ ps) c.absorb_lines-s.ensures
+    (took_in_turn _ _ _ opening ps c.absorb-s.ensures c.absorb-s-2.ensures) in
     c.finish.ensures _
-    (subst (λ (l : List ℕ). Taken Sha256 c.before.absorb2.result (inner_key (sha2 Sha256) (block_size Sha256) s.args.key.now ++ l))
+    (subst (λ (l : List ℕ). Taken Sha256 c.absorb-s-2.result (inner_key (sha2 Sha256) (block_size Sha256) s.args.key.now ++ l))
     (ap (λ (l : List ℕ). component_lines (message s) (listed s.args.names.now) ++ l) (sym (last_pieces ps)))
-    (took.appended Sha256 _ c.before.before.before.before.before.begin.ensures.1))
+    (took.appended Sha256 _ c.begin-s.ensures.1))
 
 pub code_spec : {M : Type 1} → statement M
 code_spec =
-    tie.close (tie.spec (λ c κs. omega (arith, c.before.before.before.before.before.before.before.requires.4))
-    (λ c κs. let s = c.before.before.before.before.before.before.before.before in
-    (s.requires.0, s.requires.2, omega (arith, short s)))
-    (λ c. search rules)
-    (λ c κs. omega (arith, short c.before.before.before.before.before.before.before.before.before.before))
-    (λ c κs. omega (arith, short c.before.before.before.before.before.before.before.before.before.before.before, c.before.before.before.before.before.before.before.before.before.before.before.requires.3))
-    (λ c κs. let s = c.before.before.before.before.before.before.before.before.before.before.before.before in
-    (omega (arith, s.requires.4), omega (arith, short s, s.requires.3)))
-    returns)
+    tie.close (tie.spec (λ c κs. omega (arith, c.requires.4)) (λ c κs. (c.requires.0, c.requires.2, omega (arith, short c.before.before.before.before.before.before.before.before)))
+    (λ c κs. omega (arith, short c.before.before.before.before.before.before.before.before.before.before.before)) (λ c κs. omega (arith, short c.before.before.before.before.before.before.before.before.before.before.before.before, c.requires.3))
+    (λ c κs. (omega (arith, c.requires.4), omega (arith, short c.before.before.before.before.before.before.before.before.before.before.before.before.before, c.requires.3))) returns)

@@ -9,16 +9,17 @@ use Rattle.cells.proofs.Digits.{shown_piece}
 use Rattle.signatures.proofs.put_number.Statement.{statement}
 use Rattle.signatures.proofs.put_number.Tie as tie
 
-put-at-requires : tie.Need-put-at-requires
+put-at-requires : tie.Need-put_at-requires
 put-at-requires c κs =
-    let shown = c.before.before.before.before.digits in
-    omega (arith, c.before.before.before.before.before.before.requires, ap length (shown_piece _ shown.result shown.ensures))
+    let shown = c.digits-shown in
+    omega (arith, c.requires, ap length (shown_piece _ shown.result shown.ensures))
 
 returns : tie.Need-returns
 returns c =
-    let shown = c.before.before.before.before.before.before.before.digits in
-    subst (Laid _ _ _ _) (shown_piece _ shown.result shown.ensures) c.before.before.put-at.ensures
+    let shown = c.digits-shown in
+    subst (Laid _ _ _ _) (shown_piece _ shown.result shown.ensures) c.put_at.ensures
 
 pub put_number_spec : {M : Type 1} → statement M
 put_number_spec =
-    tie.close (tie.spec (λ c κs. search rules) (λ c. search rules) (λ c. search rules) (λ c. search rules) put-at-requires (λ c. search rules) returns)
+    tie.close (tie.spec (λ c κs. search rules) (λ c. search rules) (λ c. search rules) (λ c. search rules) put-at-requires (λ c. search rules)
+    returns)

@@ -11,18 +11,18 @@ use Rattle.signatures.specs.Components.{small}
 use Rattle.signatures.proofs.components.all_small.Statement.{statement}
 use Rattle.signatures.proofs.components.all_small.Tie as tie
 
-abbrev invariant-loop : tie.invariant-loop
+abbrev invariant-loop : tie.invariant-loop-i
 invariant-loop run good₀ i₀ good i = all small run ≡ (good && all small (drop i run))
 
-abbrev decreases-loop : tie.decreases-loop
+abbrev decreases-loop : tie.decreases-loop-i
 decreases-loop run good₀ i₀ good i = length run - i
 
-loop-again : tie.Need-loop-preserved invariant-loop decreases-loop
+loop-again : tie.Need-loop-i-preserved invariant-loop decreases-loop
 loop-again c =
-    let turn = c.before.before.before.loop in
-    turn.invariant ∙ rw (all_from small _ turn.i c.before.before.loop-test.true) (sym (and_assoc turn.good _ _))
+    let turn = c.loop-i in
+    turn.invariant ∙ rw (all_from small _ turn.i c.loop-i-test.true) (sym (and_assoc turn.good _ _))
 
 pub all_small_spec : {M : Type 1} → statement M
 all_small_spec =
-    tie.close (tie.spec invariant-loop decreases-loop (λ c. refl) (λ c. search rules) (λ c. search rules) (λ c. search rules) (λ c. search rules) loop-again
-    (λ c. sym (c.before.loop.invariant ∙ all_past small _ c.before.loop.good c.before.loop.i c.loop-test.false)))
+    tie.close (tie.spec invariant-loop decreases-loop (λ c. refl) (λ c. search rules) (λ c. search rules) (λ c. search rules) (λ c. search rules)
+    loop-again (λ c. sym (c.loop-i.invariant ∙ all_past small _ c.loop-i.good c.loop-i.i c.loop-i-test.false)))

@@ -10,7 +10,7 @@ unfolding good_message
 returns c =
     let asked = c.before.before.before in
     simp
-    (asked.before.is-token.ensures, asked.all-between.ensures, c.before.before.all_small.ensures, c.before.all-between2.ensures, c.good-block.ensures)
+    (asked.is_token.ensures, asked.all_between.ensures, c.all_small.ensures, c.all_between-2.ensures, c.good_block.ensures)
 
 pub good_message_spec : {M : Type 1} → statement M
 good_message_spec =

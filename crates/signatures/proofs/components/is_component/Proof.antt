@@ -7,7 +7,7 @@ use Rattle.signatures.proofs.components.is_component.Tie as tie
 
 returns : tie.Need-returns
 unfolding is_component is_field
-returns c = simp (c.before.before.is-derived.ensures, c.before.is-token.ensures, c.all_small.ensures)
+returns c = simp (c.is_derived.ensures, c.is_token.ensures, c.all_small.ensures)
 
 pub is_component_spec : {M : Type 1} → statement M
 is_component_spec = tie.close (tie.spec (λ c κs. search rules) (λ c κs. search rules) (λ c κs. search rules) returns)

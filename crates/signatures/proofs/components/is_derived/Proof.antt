@@ -8,8 +8,8 @@ use Rattle.signatures.proofs.components.is_derived.Tie as tie
 
 returns : tie.Need-returns
 unfolding is_derived codes
-returns c = simp (c.before.before.before.before.same.ensures, c.before.before.same2.ensures, c.same3.ensures)
+returns c = simp (c.same.ensures, c.same-2.ensures, c.same-3.ensures)
 
 pub is_derived_spec : {M : Type 1} → statement M
 is_derived_spec =
-    tie.close (tie.spec (λ c. search rules) (λ c κs. search rules) (λ c. search rules) (λ c κs. search rules) (λ c. search rules) (λ c κs. search rules) returns)
+    tie.close (tie.spec (λ c. search rules) (λ c. search rules) (λ c. search rules) returns)

@@ -9,5 +9,4 @@ use Rattle.signatures.proofs.components.put_whole.Tie as tie
 
 pub put_whole_spec : {M : Type 1} → statement M
 put_whole_spec =
-    tie.close (tie.spec (λ c κs. search rules) (λ c. search rules)
-    (λ c. value_laid refl refl (joined_one _) (search rules) c.before.before.put-at.ensures))
+    tie.close (tie.spec (λ c κs. search rules) (λ c. search rules) (λ c. value_laid refl refl (joined_one _) (search rules) c.put_at.ensures))

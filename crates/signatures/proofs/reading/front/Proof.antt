@@ -9,5 +9,5 @@ use Rattle.signatures.proofs.reading.front.Tie as tie
 
 pub front_spec : {M : Type 1} → statement M
 front_spec =
-    tie.close (tie.spec (λ c. sym (take_all c.before.args.n c.before.args.run.now (omega arith)))
-    (λ c. sym (length-take-le c.before.before.args.n c.before.before.args.run.now (omega arith))) (λ c. search rules))
+    tie.close (tie.spec (λ c. sym (take_all c.args.n c.args.run.now (omega arith)))
+    (λ c. sym (length-take-le c.args.n c.args.run.now (omega arith))) (λ c. search rules))

@@ -12,21 +12,21 @@ use Rattle.signatures.proofs.reading.good_signature.Statement.{statement}
 use Rattle.signatures.proofs.reading.good_signature.Tie as tie
 
 -- the code that is read
-read : (c : tie.After-front) → c.front.result.now ≡ code_in c.before.before.before.before.args.signature.now
-read c = code_told _ c.before.before.label_of.ensures c.before.past.ensures c.front.ensures
+read : (c : tie.After-front-code) → c.front-code.result.now ≡ code_in c.args.signature.now
+read c = code_told _ c.label_of-label.ensures c.past.ensures c.front-code.ensures
 
-fits : (c : tie.After-front) → length (signature_text c.before.before.label_of.result.now c.front.result.now) ≤ 4160
-fits c = signature_room _ c.before.before.label_of.ensures (read c) c.before.before.before.before.requires
+fits : (c : tie.After-front-code) → length (signature_text c.label_of-label.result.now c.front-code.result.now) ≤ 4160
+fits c = signature_room _ c.label_of-label.ensures (read c) c.requires
 
-within : (c : tie.After-put-signature) → c.put-signature.result ≤ length c.put-signature.new.0
-within c = laid_within (fits c.before.before) c.put-signature.ensures
+within : (c : tie.After-put_signature-end) → c.put_signature-end.result ≤ length c.put_signature-end.new.out
+within c = laid_within (fits c.before.before) c.put_signature-end.ensures
 
 returns : tie.Need-returns
 returns c =
     let put = c.before.before.before.before.before in
-    let label = put.before.before.before.before.label_of in
-    signature_judged _ label.ensures (read put.before.before) c.before.before.before.is_key.ensures c.before.before.of-digest.ensures
-    c.same.ensures (laid_front (fits put.before.before) put.put-signature.ensures)
+    let label = put.label_of-label in
+    signature_judged _ label.ensures (read put.before.before) c.is_key.ensures c.of_digest.ensures
+    c.same.ensures (laid_front (fits put.before.before) put.put_signature-end.ensures)
 
 pub good_signature_spec : {M : Type 1} → statement M
 good_signature_spec =

@@ -9,5 +9,5 @@ use Rattle.signatures.proofs.reading.label_of.Tie as tie
 
 pub label_of_spec : {M : Type 1} → statement M
 label_of_spec =
-    tie.close (tie.spec (λ c κs. search rules) (λ c. sym (length-take-le _ c.before.before.before.args.value.now c.before.end_Before.ensures.within))
-    (λ c. label_told c.before.before.before.args.value.now c.before.end_Before.ensures))
+    tie.close (tie.spec (λ c κs. search rules) (λ c. sym (length-take-le _ c.args.value.now c.end_before-size.ensures.within))
+    (λ c. label_told c.args.value.now c.end_before-size.ensures))

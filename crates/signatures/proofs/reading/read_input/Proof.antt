@@ -8,43 +8,40 @@ use Rattle.signatures.proofs.Told.{Reading, digits_few, list_room, key_room, all
 use Rattle.signatures.proofs.reading.read_input.Statement.{statement}
 use Rattle.signatures.proofs.reading.read_input.Tie as tie
 
-abbrev start : tie.After-past3 → tie.Start
-start c = c.before.before.before.before.before.before.before.before.before
-
-read : (c : tie.After-past3)
-    → Reading (start c).args.input.now c.before.before.before.before.past.result.now c.before.before.past2.result.now c.past3.result.now
-    c.before.before.before.before.before.end_Before.result c.before.before.before.end-before2.result c.before.read-integer.result
+read : (c : tie.After-past-last)
+    → Reading c.args.input.now c.past-list.result.now c.past-from.result.now c.past-last.result.now
+    c.end_before-label.result c.end_before-close.result c.read_integer-created.result
 read c = record {
-  label_ends = c.before.before.before.before.before.end_Before.ensures;
-  past_label = c.before.before.before.before.past.ensures;
-  list_ends = c.before.before.before.end-before2.ensures;
-  past_list = c.before.before.past2.ensures;
-  is_time = c.before.read-integer.ensures;
-  past_time = c.past3.ensures;
+  label_ends = c.end_before-label.ensures;
+  past_label = c.past-list.ensures;
+  list_ends = c.end_before-close.ensures;
+  past_list = c.past-from.ensures;
+  is_time = c.read_integer-created.ensures;
+  past_time = c.past-last.ensures;
 }
 
-add-past-3 : tie.Need-overflow-add-past-3
-add-past-3 c = omega (arith, digits_few c.read-integer.ensures)
+add-past-3 : tie.Need-overflow_add-digits
+add-past-3 c = omega (arith, digits_few c.read_integer-created.ensures)
 
-slice-aggregate-unlist : tie.Need-slice-aggregate-unlist
-slice-aggregate-unlist c = sym (length-take-le _ _ c.before.before.before.before.end-before2.ensures.within)
+slice-aggregate-unlist : tie.Need-slice_bounds-unlist-end
+slice-aggregate-unlist c = sym (length-take-le _ _ c.end_before-close.ensures.within)
 
 unlist-requires : tie.Need-unlist-requires
-unlist-requires c κs = let done = c.before.before in omega (arith, list_room (read done), (start done).requires.0)
+unlist-requires c κs = let done = c.before in omega (arith, list_room (read done), c.requires.0)
 
 unescape-requires : tie.Need-unescape-requires
 unescape-requires c κs =
-    let done = c.before.before.before.before.before.before.before in
-    omega (arith, key_room (read done) c.before.but_last.ensures, (start done).requires.1)
+    let done = c.before.before.before.before.before.before in
+    omega (arith, key_room (read done) c.but_last.ensures, c.requires.1)
 
 returns : tie.Need-returns
 returns c =
-    let done = c.before.before.before.before.before.before.before.before.before.before in
-    all_told (read done) (start done).requires c.before.before.before.before.before.before.before.unlist.ensures
-    c.before.before.before.before.but_last.ensures c.before.before.unescape.ensures
+    let done = c.before.before.before.before.before.before.before.before.before in
+    all_told (read done) c.requires c.unlist.ensures
+    c.but_last.ensures c.unescape.ensures
 
 pub read_input_spec : {M : Type 1} → statement M
 read_input_spec =
-    tie.close (tie.spec (λ c κs. search rules) (λ c. search rules) (λ c κs. search rules) (λ c κs. search rules) (λ c. search rules) (λ c κs. search rules)
-    (λ c κs. search rules) add-past-3 (λ c κs. search rules) slice-aggregate-unlist unlist-requires (λ c κs. search rules) unescape-requires
-    (λ c. search rules) (λ c. search rules) returns)
+    tie.close (tie.spec (λ c κs. search rules) (λ c. search rules) (λ c κs. search rules) (λ c κs. search rules) (λ c. search rules)
+    (λ c κs. search rules) (λ c κs. search rules) add-past-3 (λ c κs. search rules) slice-aggregate-unlist unlist-requires (λ c κs. search rules)
+    unescape-requires (λ c. search rules) (λ c. search rules) returns)
