@@ -1,38 +1,78 @@
 // Counts the lines of an access log by status, from standard input to standard output: document 02, K5.
 #![tactic(auto)]
 
-ghost use Rattle.std.specs.Prelude.{◌^◌, ◌<◌};
-ghost use Rattle.logs.specs.Counts.{sum};
+ghost use Rattle.std.specs.Prelude.{◌≡◌, ◌^◌, ◌<◌, length, IfOk, IfSome, OnOk};
+ghost use Rattle.std.specs.Io.KnownBytes.{Appends};
+ghost use Rattle.logs.specs.Counts.{sum, lines, counts};
+ghost use Rattle.logs.specs.Printed.{printed};
 
-use libc::{STDIN_FILENO, STDOUT_FILENO};
 use logs::State;
+use std::io;
+use std::io::{Read, Write};
+use std::process::ExitCode;
 
-// 2^48 - 1 reads are more than any log takes, and so few that no count passes its 64 bits.
-fn main() {
-    let mut buffer = io::large_buffer();
-    let mut state = State::new();
-    let mut reads: u64 = 281474976710655;
-    let mut got = libc::read(STDIN_FILENO, &mut buffer);
-    while (reads > 0) & (got > 0) {
-        let n = io::count(got, &buffer);
-        state = state.take_in(&buffer[..n]);
-        got = libc::read(STDIN_FILENO, &mut buffer);
-        reads -= 1;
+fn main(rt: HostRuntime) -> ExitCode {
+    let counts = match counted(&mut rt.stdin()) {
+        Ok(counts) => counts,
+        Err(error) => return failed(&rt, "status-counts: reading", error),
+    };
+    match write(&mut rt.stdout(), &counts) {
+        Ok(()) => ExitCode::SUCCESS,
+        Err(error) => failed(&rt, "status-counts: writing", error),
     }
-    if got != 0 {
-        os::fail(b"status-counts: reading");
-        return;
-    }
-    let counts = state.finish();
-    write(&counts);
 }
 
-fn write(counts: &[u64; 600])
+// Says on standard error what failed, and why.
+fn failed(rt: &(impl Eprint + AllocGlobal), what: &str, error: io::Error) -> ExitCode {
+    let _ = say(rt, what, error);
+    ExitCode::FAILURE
+}
+
+// The reason is the system's text, without the number that std puts behind it.
+fn say(rt: &(impl Eprint + AllocGlobal), what: &str, error: io::Error) -> io::Result<()> {
+    let text = error.to_string(rt.alloc())?;
+    let why = reason(text.as_str());
+    eprintln!(rt; "{what}: {why}")
+}
+
+fn reason(text: &str) -> &str {
+    match text.split_once(" (os error ") {
+        Some((why, _)) => why,
+        None => text,
+    }
+}
+
+fn large_buffer() -> [u8; 65536]
+    ensures { length result ≡ 65536 }
+{
+    [0; 65536]
+}
+
+// The counts of the log that is read until it ends. 2^48 - 1 reads are more than any log takes, and so few that no count passes its 64 bits.
+fn counted<R: Read>(input: &mut R) -> io::Result<[u64; 600]>
+    ensures fits { IfOk result (λ found. sum found < 2 ^ 64) }
+    ensures whole { IfOk result (λ found. IfSome (R.remaining input.old) (λ text. found ≡ counts (lines text))) }
+{
+    let mut buffer = large_buffer();
+    let mut state = State::new();
+    let mut reads: u64 = 281474976710655;
+    let mut n = input.read(&mut buffer)?;
+    while (reads > 0) & (n > 0) {
+        state = state.take_in(&buffer[..n]);
+        n = input.read(&mut buffer)?;
+        reads -= 1;
+    }
+    if n != 0 {
+        return Err(io::Error::other("the log does not end"));
+    }
+    Ok(state.finish())
+}
+
+fn write<W: Write>(out: &mut W, counts: &[u64; 600]) -> io::Result<()>
     requires { sum counts.now < 2 ^ 64 }
+    ensures { OnOk result (Appends (W.contents out.old) (W.contents out.new) (printed counts.now)) }
 {
     let mut text = [0u8; logs::TEXT_SIZE];
     let size = logs::print(counts, &mut text);
-    if !io::write_all(STDOUT_FILENO, &text[..size]) {
-        os::fail(b"status-counts: writing");
-    }
+    out.write_all(&text[..size])
 }

@@ -1,0 +1,2 @@
+-- Lemmas of this crate.
+pub mod Reading
