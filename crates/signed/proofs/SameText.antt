@@ -121,6 +121,7 @@ nonce_same m x y hx hy o e =
 
 -- equal rows of values are equal name by name
 each_same : (f g : List ℕ → List ℕ) (ns : List (List ℕ)) → map f ns ≡ map g ns → (name : List ℕ) → Memᴰ name ns → f name ≡ g name
+each_same f g [] e name m = elim m [ ]
 each_same f g (n ∷ ns) e name (Memᴰ.head p) = cc
 each_same f g (n ∷ ns) e name (Memᴰ.tail m) = each_same f g ns (cc) name m
 

@@ -36,4 +36,6 @@ returns-2 c = after _ _ (record { colon = _; end = _; is = c.in-Whole.ensures })
 
 pub again_spec : {M : Type 1} → statement M
 again_spec =
-    tie.close (tie.spec (λ c κs. omega (arith, stands_within _ _ c.requires)) (λ c. search rules) (λ c. search rules) returns (λ c. omega (arith, c.in-Whole.ensures)) (λ c. omega (arith, c.in-Whole.ensures)) (λ c. omega (arith, c.in-Whole.ensures)) (λ c. omega (arith, c.in-Whole.ensures)) (λ c κs. omega (arith, c.in-Whole.ensures)) returns-2)
+    tie.close (tie.spec (λ c κs. omega (arith, stands_within _ _ c.requires)) (λ c. search rules) (λ c. search rules) returns
+    (λ c. omega (arith, c.in-Whole.ensures)) (λ c. omega (arith, c.in-Whole.ensures)) (λ c. omega (arith, c.in-Whole.ensures))
+    (λ c. omega (arith, c.in-Whole.ensures)) (λ c κs. omega (arith, c.in-Whole.ensures)) returns-2)

@@ -37,4 +37,5 @@ returns-2 c =
 
 pub back_spec : {M : Type 1} → statement M
 back_spec =
-    tie.close (tie.spec invariant-loop decreases-loop (λ c. (search rules, omega arith, refl)) (λ c. search rules) (λ c. search rules) (λ c κs. search rules) returns (λ c. search rules) (λ c. search rules) loop-again returns-2)
+    tie.close (tie.spec invariant-loop decreases-loop (λ c. (search rules, omega arith, refl)) (λ c. search rules) (λ c. search rules)
+    (λ c κs. search rules) returns (λ c. search rules) (λ c. search rules) loop-again returns-2)

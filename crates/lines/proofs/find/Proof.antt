@@ -49,4 +49,7 @@ returns-3 c =
 
 pub find_spec : {M : Type 1} → statement M
 find_spec =
-    tie.close (tie.spec invariant-loop decreases-loop (λ c. (omega arith, search rules, refl)) (λ c κs. search rules) (λ c. search rules) (λ c. search rules) returns (λ c. omega (arith, c.in-Whole.ensures)) (λ c. omega (arith, c.in-Whole.ensures)) (λ c. omega (arith, c.in-Whole.ensures)) (λ c κs. search rules) returns-2 (λ c. omega (arith, c.in-Whole.ensures)) (λ c. omega (arith, c.in-Whole.ensures)) loop-again returns-3)
+    tie.close (tie.spec invariant-loop decreases-loop (λ c. (omega arith, search rules, refl)) (λ c κs. search rules) (λ c. search rules)
+    (λ c. search rules) returns (λ c. omega (arith, c.in-Whole.ensures)) (λ c. omega (arith, c.in-Whole.ensures))
+    (λ c. omega (arith, c.in-Whole.ensures)) (λ c κs. search rules) returns-2 (λ c. omega (arith, c.in-Whole.ensures))
+    (λ c. omega (arith, c.in-Whole.ensures)) loop-again returns-3)

@@ -15,4 +15,8 @@ invariant-loop run at i₀ i = Passed blank run at i
 
 pub front_spec : {M : Type 1} → statement M
 front_spec =
-    tie.close (tie.spec invariant-loop (λ run at i₀ i. length run - i) (λ c. passed_none blank _ _ c.requires) (λ c. search rules) (λ c κs. search rules) (λ c. passed_stop blank _ _ _ c.loop-i.invariant (search rules) (sym c.is_blank.ensures ∙ c.if-not-is_blank.true)) (λ c. search rules) (λ c. search rules) (λ c. passed_more blank _ _ _ c.loop-i.invariant (search rules) (sym c.is_blank.ensures ∙ c.if-not-is_blank.false)) (λ c. passed_end blank _ _ _ c.loop-i.invariant c.loop-i-test.false))
+    tie.close (tie.spec invariant-loop (λ run at i₀ i. length run - i) (λ c. passed_none blank _ _ c.requires) (λ c. search rules)
+    (λ c κs. search rules) (λ c. passed_stop blank _ _ _ c.loop-i.invariant (search rules) (sym c.is_blank.ensures ∙ c.if-not-is_blank.true))
+    (λ c. search rules) (λ c. search rules)
+    (λ c. passed_more blank _ _ _ c.loop-i.invariant (search rules) (sym c.is_blank.ensures ∙ c.if-not-is_blank.false))
+    (λ c. passed_end blank _ _ _ c.loop-i.invariant c.loop-i-test.false))

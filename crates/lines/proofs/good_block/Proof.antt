@@ -28,4 +28,6 @@ loop-again c = let whole = c.in-Whole.ensures in (whole.within, c.loop-at.invari
 
 pub good_block_spec : {M : Type 1} → statement M
 good_block_spec =
-    tie.close (tie.spec invariant-loop decreases-loop (λ c. (omega arith, refl)) (λ c κs. search rules) (λ c. search rules) (λ c. search rules) returns (λ c. omega (arith, c.in-Whole.ensures)) (λ c. omega (arith, c.in-Whole.ensures)) loop-again (λ c. sym (c.loop-at.invariant.1 ∙ good_end _ _ c.loop-at-test.false)))
+    tie.close (tie.spec invariant-loop decreases-loop (λ c. (omega arith, refl)) (λ c κs. search rules) (λ c. search rules) (λ c. search rules)
+    returns (λ c. omega (arith, c.in-Whole.ensures)) (λ c. omega (arith, c.in-Whole.ensures)) loop-again
+    (λ c. sym (c.loop-at.invariant.1 ∙ good_end _ _ c.loop-at-test.false)))

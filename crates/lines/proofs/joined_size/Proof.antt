@@ -37,5 +37,12 @@ sums c =
 
 pub joined_size_spec : {M : Type 1} → statement M
 joined_size_spec =
-    tie.close (tie.spec invariant-loop decreases-loop (λ c κs. omega (arith, stands_within _ _ c.requires)) (λ c. (c.requires, simp (← c.value_at-first.ensures) (omega arith))) (λ c κs. c.loop-next.invariant.0) (λ c. search rules) (λ c. search rules) (λ c. let loop = c.loop-next in
-    omega (arith, loop.invariant.1, ap length (own_alone _ _ (rw c.in_default.is at c.again.ensures)))) (λ c κs. let found = rw c.in-At.is at c.again.ensures in omega (arith, stands_within _ _ found.found.stands)) (λ c. omega (arith, sums c, own_short _ _ c.requires)) (λ c. omega (arith, sums c, own_begins _ _ (next c).found.stands, own_short _ _ c.requires, ap length c.value_at-value.ensures)) (λ c. omega (arith, (next c).found.from, stands_within _ _ (next c).found.stands)) (λ c. ((next c).found.stands, omega (arith, sums c, ap length c.value_at-value.ensures))))
+    tie.close (tie.spec invariant-loop decreases-loop (λ c κs. omega (arith, stands_within _ _ c.requires))
+    (λ c. (c.requires, simp (← c.value_at-first.ensures) (omega arith))) (λ c κs. c.loop-next.invariant.0) (λ c. search rules) (λ c. search rules)
+    (λ c. let loop = c.loop-next in
+    omega (arith, loop.invariant.1, ap length (own_alone _ _ (rw c.in_default.is at c.again.ensures))))
+    (λ c κs. let found = rw c.in-At.is at c.again.ensures in omega (arith, stands_within _ _ found.found.stands))
+    (λ c. omega (arith, sums c, own_short _ _ c.requires))
+    (λ c. omega (arith, sums c, own_begins _ _ (next c).found.stands, own_short _ _ c.requires, ap length c.value_at-value.ensures))
+    (λ c. omega (arith, (next c).found.from, stands_within _ _ (next c).found.stands))
+    (λ c. ((next c).found.stands, omega (arith, sums c, ap length c.value_at-value.ensures))))

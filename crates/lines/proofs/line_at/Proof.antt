@@ -32,4 +32,5 @@ returns-3 c =
 
 pub line_at_spec : {M : Type 1} → statement M
 line_at_spec =
-    tie.close (tie.spec (λ c κs. search rules) (λ c κs. search rules) returns (λ c. search rules) value-end-requires (λ c κs. search rules) (λ c. search rules) (λ c κs. search rules) returns-2 returns-3)
+    tie.close (tie.spec (λ c κs. search rules) (λ c κs. search rules) returns (λ c. search rules) value-end-requires (λ c κs. search rules)
+    (λ c. search rules) (λ c κs. search rules) returns-2 returns-3)

@@ -23,4 +23,5 @@ returns c =
 
 pub trim_spec : {M : Type 1} → statement M
 trim_spec =
-    tie.close (tie.spec (λ c. sym (length-take-le _ _ c.requires.1)) (λ c κs. let a = c.args in omega (arith, length-take-le a.«end» a.block.now c.requires.1)) (λ c κs. omega (arith, (first c).0)) returns)
+    tie.close (tie.spec (λ c. sym (length-take-le _ _ c.requires.1))
+    (λ c κs. let a = c.args in omega (arith, length-take-le a.«end» a.block.now c.requires.1)) (λ c κs. omega (arith, (first c).0)) returns)

@@ -15,4 +15,6 @@ returns-2 c = simp (lines_at _ _ _ _ c.in-Whole.ensures, c.trim-value.ensures.is
 
 pub value_at_spec : {M : Type 1} → statement M
 value_at_spec =
-    tie.close (tie.spec (λ c κs. search rules) (λ c. search rules) (λ c. search rules) (λ c. search rules) returns (λ c. omega (arith, c.in-Whole.ensures)) (λ c κs. omega (arith, c.in-Whole.ensures)) (λ c. search rules) (λ c. search rules) (λ c. omega (arith, c.in-Whole.ensures, c.trim-value.ensures.within)) returns-2)
+    tie.close (tie.spec (λ c κs. search rules) (λ c. search rules) (λ c. search rules) (λ c. search rules) returns
+    (λ c. omega (arith, c.in-Whole.ensures)) (λ c κs. omega (arith, c.in-Whole.ensures)) (λ c. search rules) (λ c. search rules)
+    (λ c. omega (arith, c.in-Whole.ensures, c.trim-value.ensures.within)) returns-2)

@@ -15,4 +15,8 @@ invariant-loop block at i₀ i = Passed value_byte block at i
 
 pub value_end_spec : {M : Type 1} → statement M
 value_end_spec =
-    tie.close (tie.spec invariant-loop (λ block at i₀ i. length block - i) (λ c κs. search rules) (λ c. c.past_sixteens-i.ensures) (λ c. search rules) (λ c κs. search rules) (λ c. passed_stop value_byte _ _ _ c.loop-i.invariant (search rules) (sym c.value_byte.ensures ∙ c.if-not-value_byte.true)) (λ c. search rules) (λ c. search rules) (λ c. passed_more value_byte _ _ _ c.loop-i.invariant (search rules) (sym c.value_byte.ensures ∙ c.if-not-value_byte.false)) (λ c. passed_end value_byte _ _ _ c.loop-i.invariant c.loop-i-test.false))
+    tie.close (tie.spec invariant-loop (λ block at i₀ i. length block - i) (λ c κs. search rules) (λ c. c.past_sixteens-i.ensures) (λ c. search rules)
+    (λ c κs. search rules) (λ c. passed_stop value_byte _ _ _ c.loop-i.invariant (search rules) (sym c.value_byte.ensures ∙ c.if-not-value_byte.true))
+    (λ c. search rules) (λ c. search rules)
+    (λ c. passed_more value_byte _ _ _ c.loop-i.invariant (search rules) (sym c.value_byte.ensures ∙ c.if-not-value_byte.false))
+    (λ c. passed_end value_byte _ _ _ c.loop-i.invariant c.loop-i-test.false))

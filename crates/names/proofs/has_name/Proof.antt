@@ -35,4 +35,5 @@ returns-2 c = sym (reached_end c.loop-place.invariant (search rules))
 
 pub has_name_spec : {M : Type 1} → statement M
 has_name_spec =
-    tie.close (tie.spec invariant-loop decreases-loop (λ c. record { is = refl }) (λ c κs. search rules) (λ c. search rules) (λ c. search rules) (λ c. search rules) (λ c κs. search rules) returns (λ c. search rules) (λ c. search rules) loop-again returns-2)
+    tie.close (tie.spec invariant-loop decreases-loop (λ c. record { is = refl }) (λ c κs. search rules) (λ c. search rules) (λ c. search rules)
+    (λ c. search rules) (λ c κs. search rules) returns (λ c. search rules) (λ c. search rules) loop-again returns-2)

@@ -20,4 +20,7 @@ decreases-loop run at i₀ i = length run - i
 
 pub name_end_spec : {M : Type 1} → statement M
 name_end_spec =
-    tie.close (tie.spec invariant-loop decreases-loop (λ c. passed_none no_comma _ _ c.requires) (λ c. search rules) (λ c. passed_stop no_comma _ _ _ c.loop-i.invariant (search rules) (ap not (eq-eqb _ _ c.if-run-i-eq44.true))) (λ c. search rules) (λ c. search rules) (λ c. passed_more no_comma _ _ _ c.loop-i.invariant (search rules) (ap not (ne_eqb _ _ c.if-run-i-eq44.false))) (λ c. passed_end no_comma _ _ _ c.loop-i.invariant c.loop-i-test.false))
+    tie.close (tie.spec invariant-loop decreases-loop (λ c. passed_none no_comma _ _ c.requires) (λ c. search rules)
+    (λ c. passed_stop no_comma _ _ _ c.loop-i.invariant (search rules) (ap not (eq-eqb _ _ c.if-run-i-eq44.true))) (λ c. search rules)
+    (λ c. search rules) (λ c. passed_more no_comma _ _ _ c.loop-i.invariant (search rules) (ap not (ne_eqb _ _ c.if-run-i-eq44.false)))
+    (λ c. passed_end no_comma _ _ _ c.loop-i.invariant c.loop-i-test.false))

@@ -42,4 +42,5 @@ loop-again c =
 
 pub next_name_spec : {M : Type 1} → statement M
 next_name_spec =
-    tie.close (tie.spec invariant-loop decreases-loop returns (λ c. (omega arith, record { is = refl })) (λ c κs. search rules) returns-2 (λ c. search rules) (λ c. search rules) loop-again (λ c. reached_end c.loop-place.invariant.1 (search rules) ∙ chosen_end _))
+    tie.close (tie.spec invariant-loop decreases-loop returns (λ c. (omega arith, record { is = refl })) (λ c κs. search rules) returns-2
+    (λ c. search rules) (λ c. search rules) loop-again (λ c. reached_end c.loop-place.invariant.1 (search rules) ∙ chosen_end _))

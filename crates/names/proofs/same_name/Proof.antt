@@ -40,4 +40,6 @@ returns-3 c =
 
 pub same_name_spec : {M : Type 1} → statement M
 same_name_spec =
-    tie.close (tie.spec invariant-loop decreases-loop (λ c. sym (other_length _ _ c.if-a-b.true)) (λ c. (omega arith, search rules, refl)) (λ c. search rules) (λ c κs. search rules) (λ c. search rules) (λ c κs. search rules) returns-2 (λ c. search rules) (λ c. search rules) loop-again returns-3)
+    tie.close (tie.spec invariant-loop decreases-loop (λ c. sym (other_length _ _ c.if-a-b.true)) (λ c. (omega arith, search rules, refl))
+    (λ c. search rules) (λ c κs. search rules) (λ c. search rules) (λ c κs. search rules) returns-2 (λ c. search rules) (λ c. search rules) loop-again
+    returns-3)

@@ -24,4 +24,5 @@ returns-2 c = simp (← c.good_allowed.ensures, ← c.good_extra.ensures, c.if-n
 
 pub check_spec : {M : Type 1} → statement M
 check_spec =
-    tie.close (tie.spec (λ c κs. search rules) (λ c κs. search rules) (λ c κs. search rules) (λ c κs. search rules) (λ c κs. search rules) returns returns-2)
+    tie.close (tie.spec (λ c κs. search rules) (λ c κs. search rules) (λ c κs. search rules) (λ c κs. search rules) (λ c κs. search rules) returns
+    returns-2)

@@ -11,8 +11,6 @@ use Rattle.signed.proofs.absorb_mask.Tie as tie
 pub absorb_mask_spec : {M : Type 1} → statement M
 absorb_mask_spec =
     tie.close (tie.spec (λ c κs. search rules)
-    (λ c. let n : length c.before.mask-bytes.result.bytes ≡ 9 = search rules in
-    omega (arith, length_mask_bytes c.before.before.args.mask, c.before.mask-bytes.ensures.0))
-    (λ c. c.before.before.mask-bytes.ensures.0 ∙ sym (ap length c.before.before.mask-bytes.ensures.1))
-    (λ c κs. rw c.before.before.mask-bytes.ensures.1 c.before.before.before.requires)
-    (λ c. rw c.before.before.before.mask-bytes.ensures.1 at c.absorb.ensures))
+    (λ c. let n : length c.mask_bytes-m.result.bytes ≡ 9 = search rules in
+    omega (arith, length_mask_bytes c.args.mask, c.mask_bytes-m.ensures.0)) (λ c. c.mask_bytes-m.ensures.0 ∙ sym (ap length c.mask_bytes-m.ensures.1))
+    (λ c κs. rw c.mask_bytes-m.ensures.1 c.requires) (λ c. rw c.mask_bytes-m.ensures.1 at c.absorb.ensures))

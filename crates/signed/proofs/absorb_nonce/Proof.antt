@@ -9,6 +9,5 @@ use Rattle.signed.proofs.absorb_nonce.Tie as tie
 pub absorb_nonce_spec : {M : Type 1} → statement M
 unfolding nonce_of
 absorb_nonce_spec =
-    tie.close (tie.spec (λ c κs. simp (eq-eqb _ 1 c.if1.true) at c.before.requires)
-    (λ c. simp (eq-eqb _ 1 c.before.if1.true) c.absorb-number.ensures)
-    (λ c. simp (ne_eqb _ 1 c.if1.false) (took_none c.before.args.state)))
+    tie.close (tie.spec (λ c κs. simp (eq-eqb _ 1 c.if-mask-eq1.true) at c.requires)
+    (λ c. simp (eq-eqb _ 1 c.if-mask-eq1.true) c.absorb_number.ensures) (λ c. simp (ne_eqb _ 1 c.if-mask-eq1.false) (took_none c.args.state)))

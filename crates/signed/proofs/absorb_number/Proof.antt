@@ -11,9 +11,7 @@ use Rattle.signed.proofs.absorb_number.Tie as tie
 pub absorb_number_spec : {M : Type 1} → statement M
 absorb_number_spec =
     tie.close (tie.spec (λ c κs. search rules)
-    (λ c. let start = c.before.before in
-    let n : length c.before.number-bytes.result.bytes ≡ 4 = search rules in
-    omega (arith, length_number start.args.n start.ranges.n.fits, c.before.number-bytes.ensures.0))
-    (λ c. c.before.before.number-bytes.ensures.0 ∙ sym (ap length c.before.before.number-bytes.ensures.1))
-    (λ c κs. rw c.before.before.number-bytes.ensures.1 c.before.before.before.requires)
-    (λ c. rw c.before.before.before.number-bytes.ensures.1 at c.absorb.ensures))
+    (λ c. let n : length c.number_bytes-m.result.bytes ≡ 4 = search rules in
+    omega (arith, length_number c.args.n c.ranges.n.fits, c.number_bytes-m.ensures.0))
+    (λ c. c.number_bytes-m.ensures.0 ∙ sym (ap length c.number_bytes-m.ensures.1)) (λ c κs. rw c.number_bytes-m.ensures.1 c.requires)
+    (λ c. rw c.number_bytes-m.ensures.1 at c.absorb.ensures))

@@ -36,16 +36,17 @@ module _ (aside head : List ℕ) (p q : ℕ) where
 
 pub absorb_value_spec : {M : Type 1} → statement M
 absorb_value_spec =
-    tie.close (tie.spec
-    (λ c κs. (c.before.before.before.requires.1 (omega arith)).0)
-    (λ c κs. let pre = c.before.before.before.before.requires in
-    rw c.place_of.ensures ((pre.1 (omega arith)).1, rw (by_aside _ _ _ _ c.before.if1.true) at pre.2))
-    (λ c. rw (by_aside _ _ _ _ c.before.before.if1.true, ← c.before.place_of.ensures) c.absorb-joined.ensures)
-    (λ c κs. let s = c.before.before.before.before in (s.requires.0 (several s.args.in_head s.args.in-aside c.if2.true)).0)
-    (λ c κs. let s = c.before.before.before.before.before in
-    rw c.place-of2.ensures ((s.requires.0 (several s.args.in_head s.args.in-aside c.before.if2.true)).1, rw (by_head _ _ s.args.in_head s.args.in-aside c.before.if2.true) at s.requires.2))
-    (λ c. let s = c.before.before.before.before.before.before in
-    rw (by_head _ _ s.args.in_head s.args.in-aside c.before.before.if2.true, ← c.before.place-of2.ensures) c.absorb-joined2.ensures)
-    (λ c κs. let pre = c.before.before.before.before.requires in (pre.0, pre.1))
-    (λ c κs. rw c.covered.ensures (rw (by_one _ _ _ _ c.before.before.if1.false c.before.if2.false) at c.before.before.before.before.before.requires.2))
-    (λ c. rw (by_one _ _ _ _ c.before.before.before.if1.false c.before.before.if2.false, ← c.before.covered.ensures) c.absorb.ensures))
+    tie.close (tie.spec (λ c κs. (c.requires.1 (omega arith)).0)
+    (λ c κs. let pre = c.requires in
+    rw c.place_of.ensures ((pre.1 (omega arith)).1, rw (by_aside _ _ _ _ c.if-in_aside-ge32768.true) at pre.2))
+    (λ c. rw (by_aside _ _ _ _ c.if-in_aside-ge32768.true, ← c.place_of.ensures) c.absorb_joined.ensures)
+    (λ c κs. (c.requires.0 (several c.args.in_head c.args.in_aside c.if-in_aside-in_head.true)).0)
+    (λ c κs. rw c.place_of-then-in_aside-in_head.ensures (
+      (c.requires.0 (several c.args.in_head c.args.in_aside c.if-in_aside-in_head.true)).1,
+      rw (by_head _ _ c.args.in_head c.args.in_aside c.if-in_aside-in_head.true) at c.requires.2,
+    ))
+    (λ c. rw (by_head _ _ c.args.in_head c.args.in_aside c.if-in_aside-in_head.true, ← c.place_of-then-in_aside-in_head.ensures)
+    c.absorb_joined-then-in_aside-in_head.ensures)
+    (λ c κs. let pre = c.requires in (pre.0, pre.1))
+    (λ c κs. rw c.covered-value.ensures (rw (by_one _ _ _ _ c.if-in_aside-ge32768.false c.if-in_aside-in_head.false) at c.requires.2))
+    (λ c. rw (by_one _ _ _ _ c.if-in_aside-ge32768.false c.if-in_aside-in_head.false, ← c.covered-value.ensures) c.absorb.ensures))

@@ -34,7 +34,7 @@ short s = let a = s.args in
     request_short a.hash a.mask a.n.0 a.t.0 a.lt.0 a.method.now a.extra.now a.aside.now a.head.now a.path.now a.body.now s.requires.1 s.requires.2 s.requires.3 s.requires.4 s.requires.5 s.requires.6
 
 -- the values by the notes are the covered ones
-told : (s : tie.Start) → values_by s.args.aside.now s.args.head.now s.args.in_head.now s.args.in-aside.now ≡ held s
+told : (s : tie.Start) → values_by s.args.aside.now s.args.head.now s.args.in_head.now s.args.in_aside.now ≡ held s
 unfolding covered_values
 told s = values_noted s.requires.7
 
@@ -42,23 +42,21 @@ returns : tie.Need-returns
 returns c =
     let s = c.before.before.before.before.before.before.before.before.before.before.before.before.before.before in
     let took =
-    took_then (opens s) (held s ++ ends s) c.before.before.before.opening.ensures
-    (took_then (held s) (ends s) (rw (told s) at c.before.before.values.ensures) c.before.ending.ensures) in
+    took_then (opens s) (held s ++ ends s) c.opening-s.ensures
+    (took_then (held s) (ends s) (rw (told s) at c.values-s.ensures) c.ending-s.ensures) in
     c.finish.ensures _
-    (subst (λ (text : List ℕ). Taken s.args.hash c.before.ending.result (key s ++ text))
+    (subst (λ (text : List ℕ). Taken s.args.hash c.ending-s.result (key s ++ text))
     (parts_joined s.args.hash s.args.mask s.args.n.0 s.args.t.0 s.args.lt.0 s.args.method.now s.args.extra.now s.args.aside.now s.args.head.now
     s.args.path.now s.args.body.now)
-    (took.appended s.args.hash (key s) c.before.before.before.before.begin.ensures.1))
+    (took.appended s.args.hash (key s) c.begin-s.ensures.1))
 
 pub code_spec : {M : Type 1} → statement M
 code_spec =
-    tie.close (tie.spec (λ c κs. search rules)
-    (λ c κs. omega (arith, short c.before.before.before.before.before.before.before.before.before.before))
+    tie.close (tie.spec (λ c κs. search rules) (λ c κs. omega (arith, short c.before.before.before.before.before.before.before.before.before.before))
     (λ c κs. let s = c.before.before.before.before.before.before.before.before.before.before.before in
     let on = s.requires.7 in
     (on.long_head ∙ sym on.long_aside, (placed_noted on).0, (placed_noted on).1, rw (told s) (omega (arith, short s))))
     (λ c κs. let s = c.before.before.before.before.before.before.before.before.before.before.before.before in
     omega (arith, short s, ap size (told s)))
     (λ c κs. let s = c.before.before.before.before.before.before.before.before.before.before.before.before.before in
-    (s.requires.0, omega (arith, short s, ap size (told s))))
-    returns)
+    (s.requires.0, omega (arith, short s, ap size (told s)))) returns)

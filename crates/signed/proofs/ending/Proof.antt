@@ -7,6 +7,5 @@ use Rattle.signed.proofs.ending.Tie as tie
 
 pub ending_spec : {M : Type 1} → statement M
 ending_spec =
-    tie.close (tie.spec (λ c κs. room_first c.before.before.args.state (_ ∷ []) (_ ∷ []) c.before.before.requires)
-    (λ c κs. room_rest (_ ∷ []) (_ ∷ []) c.before.before.before.requires c.absorb.ensures)
-    (λ c. took_then (_ ∷ []) (_ ∷ []) c.before.absorb.ensures c.absorb2.ensures))
+    tie.close (tie.spec (λ c κs. room_first c.args.state (_ ∷ []) (_ ∷ []) c.requires)
+    (λ c κs. room_rest (_ ∷ []) (_ ∷ []) c.requires c.absorb-s.ensures) (λ c. took_then (_ ∷ []) (_ ∷ []) c.absorb-s.ensures c.absorb.ensures))

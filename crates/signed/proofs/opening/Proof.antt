@@ -17,7 +17,7 @@ room : (s : tie.Start) → s.args.state.length + size (s.args.method.now ∷ [])
     + size (s.args.extra.now ∷ []) + size (carried (nonce_of s.args.mask s.args.n.0)) + size (number_bytes s.args.t.0 ∷ []) + size (number_bytes s.args.lt.0 ∷ []) < 2 ^ 61
 room s = omega (arith, s.requires, opening_size s.args.hash s.args.mask s.args.n.0 s.args.t.0 s.args.lt.0 s.args.method.now s.args.extra.now)
 
-hashed : (c : tie.After-mask) → size (mask_bytes c.mask.result ∷ []) ≡ size (mask_bytes (hash_mask c.before.before.before.before.args.hash) ∷ [])
+hashed : (c : tie.After-mask) → size (mask_bytes c.mask.result ∷ []) ≡ size (mask_bytes (hash_mask c.args.hash) ∷ [])
 hashed c = ap (λ (m : ℕ). size (mask_bytes m ∷ [])) c.mask.ensures
 
 pub opening_spec : {M : Type 1} → statement M
@@ -29,10 +29,10 @@ opening_spec =
     (λ c κs. omega (arith, room c.before.before.before.before.before.before.before, hashed c.before.before.before))
     (λ c κs. omega (arith, room c.before.before.before.before.before.before.before.before, hashed c.before.before.before.before))
     (λ c κs. omega (arith, room c.before.before.before.before.before.before.before.before.before, hashed c.before.before.before.before.before))
-    (λ c. let args = c.before.before.before.before.before.before.before.before.before.before.args in
-    took_then (_ ∷ []) _ c.before.before.before.before.before.before.before.absorb.ensures
-    (took_then (_ ∷ []) _ (rw c.before.before.before.before.before.before.mask.ensures at c.before.before.before.before.before.absorb-mask.ensures)
-    (took_then (_ ∷ []) _ c.before.before.before.before.absorb-mask2.ensures
-    (took_then (_ ∷ []) _ c.before.before.before.absorb2.ensures
-    (took_then (carried (nonce_of args.mask args.n.0)) _ c.before.before.absorb-nonce.ensures
-    (took_then (_ ∷ []) (_ ∷ []) c.before.absorb-number.ensures c.absorb-number2.ensures)))))))
+    (λ c. let args = c.args in
+    took_then (_ ∷ []) _ c.absorb-s.ensures
+    (took_then (_ ∷ []) _ (rw c.mask.ensures at c.absorb_mask-s.ensures)
+    (took_then (_ ∷ []) _ c.absorb_mask-s-2.ensures
+    (took_then (_ ∷ []) _ c.absorb-s-2.ensures
+    (took_then (carried (nonce_of args.mask args.n.0)) _ c.absorb_nonce-s.ensures
+    (took_then (_ ∷ []) (_ ∷ []) c.absorb_number-s.ensures c.absorb_number.ensures)))))))

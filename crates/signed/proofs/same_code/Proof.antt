@@ -10,18 +10,18 @@ use Rattle.signed.proofs.same_code.Statement.{statement}
 use Rattle.signed.proofs.same_code.Tie as tie
 
 -- the array has 64 bytes
-full : (c : tie.Start) → length c.args.t2 ≡ 64
+full : (c : tie.Start) → length c.args.code ≡ 64
 full c = search rules
 
 -- the code at the front of its array
-code-front : (c : tie.After-size) → Front c.size.result c.before.before.args.t2
-code-front c = digest_front c.before.before.args.hash _ c.before.before.args.t2 c.size.ensures (full c.before.before)
+code_front : (c : tie.After-size-size) → Front c.size-size.result c.args.code
+code_front c = digest_front c.args.hash _ c.args.code c.size-size.ensures (full c.before.before)
 
 returns : tie.Need-returns
 returns c =
-    let args = c.before.before.before.before.args in
-    c.same.ensures ∙ ap (λ (n : ℕ). same args.c.now (take n args.t2)) c.before.before.size.ensures
+    let args = c.args in
+    c.same.ensures ∙ ap (λ (n : ℕ). same args.c.now (take n args.code)) c.size-size.ensures
 
 pub same_code_spec : {M : Type 1} → statement M
 same_code_spec =
-    tie.close (tie.spec (λ c κs. search rules) (λ c. (code-front c).ranges) (λ c. (code-front c.before).long) (λ c κs. search rules) returns)
+    tie.close (tie.spec (λ c κs. search rules) (λ c. (code_front c).fits) (λ c. (code_front c.before).long) (λ c κs. search rules) returns)

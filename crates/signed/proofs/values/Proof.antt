@@ -28,30 +28,30 @@ from_end : (aside head ps qs : List ℕ) (i : ℕ) → length ps ≤ i → from 
 unfolding values_by
 from_end aside head ps qs i h = rw (drop_of_length-le ps {i = i} h)
 
-abbrev invariant-loop : tie.invariant-loop
-invariant-loop head aside in_head in-aside taken₀ i₀ taken i =
+abbrev invariant-loop : tie.invariant-loop-i
+invariant-loop head aside in_head in_aside taken₀ i₀ taken i =
     (i ≤ length in_head)
-    × Room taken (from aside head in_head in-aside i)
-    × ((r : State) → TookParts taken (from aside head in_head in-aside i) r → TookParts taken₀ (from aside head in_head in-aside 0) r)
+    × Room taken (from aside head in_head in_aside i)
+    × ((r : State) → TookParts taken (from aside head in_head in_aside i) r → TookParts taken₀ (from aside head in_head in_aside 0) r)
 
-abbrev decreases-loop : tie.decreases-loop
-decreases-loop head aside in_head in-aside taken₀ i₀ taken i = length in_head - i
+abbrev decreases-loop : tie.decreases-loop-i
+decreases-loop head aside in_head in_aside taken₀ i₀ taken i = length in_head - i
 
 pub values_spec : {M : Type 1} → statement M
 values_spec =
-    tie.close (tie.spec invariant-loop decreases-loop (λ c. let s = c.before.before.before.before in (omega arith, s.requires.3, λ r p. p))
-    (λ c. search rules) (λ c. search rules) (λ c. search rules)
-    (λ c. omega (arith, c.before.before.before.before.before.before.before.before.requires.0))
-    (λ c κs. let s = c.before.before.before.before.before.before.before.before in
-    let loop = c.before.before.before.loop in (
-      s.requires.1 loop.i,
-      s.requires.2 loop.i,
-      room_first loop.taken (_ ∷ []) _ (rw (from_more _ _ _ _ loop.i c.before.before.loop-test.true s.requires.0) at loop.invariant.1),
+    tie.close (tie.spec invariant-loop decreases-loop (λ c. (omega arith, c.requires.3, λ r p. p)) (λ c. search rules) (λ c. search rules)
+    (λ c. search rules) (λ c. omega (arith, c.requires.0))
+    (λ c κs. let loop = c.loop-i in (
+      c.requires.1 loop.i,
+      c.requires.2 loop.i,
+      room_first loop.taken (_ ∷ []) _ (rw (from_more _ _ _ _ loop.i c.loop-i-test.true c.requires.0) at loop.invariant.1),
     ))
     (λ c. search rules) (λ c. search rules)
-    (λ c. let s = c.before.before.before.before.before.before.before.before.before in
-    let loop = c.before.before.before.before.loop in
-    let more = from_more s.args.aside.now s.args.head.now s.args.in_head.now s.args.in-aside.now loop.i c.before.before.before.loop-test.true s.requires.0 in
-    (omega arith, room_rest (_ ∷ []) _ (rw more at loop.invariant.1) c.absorb-value.ensures, λ r p. loop.invariant.2 r (rw more (took_then (_ ∷ []) _ c.absorb-value.ensures p))))
-    (λ c. let loop = c.before.loop in
-    loop.invariant.2 loop.taken (rw (from_end _ _ _ _ loop.i c.loop-test.false) (took_none loop.taken))))
+    (λ c. let loop = c.loop-i in
+    let more = from_more c.args.aside.now c.args.head.now c.args.in_head.now c.args.in_aside.now loop.i c.loop-i-test.true c.requires.0 in (
+      omega arith,
+      room_rest (_ ∷ []) _ (rw more at loop.invariant.1) c.absorb_value-taken.ensures,
+      λ r p. loop.invariant.2 r (rw more (took_then (_ ∷ []) _ c.absorb_value-taken.ensures p)),
+    ))
+    (λ c. let loop = c.loop-i in
+    loop.invariant.2 loop.taken (rw (from_end _ _ _ _ loop.i c.loop-i-test.false) (took_none loop.taken))))

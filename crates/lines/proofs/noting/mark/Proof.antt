@@ -13,4 +13,5 @@ returns-2 c = simp (eq-eqb _ _ c.if-number-ne0.false)
 
 pub mark_spec : {M : Type 1} → statement M
 mark_spec =
-    tie.close (tie.spec (λ c. search rules) (λ c. search rules) (λ c. search rules) (λ c κs. search rules) (λ c. search rules) (λ c. search rules) (λ c. search rules) (λ c. search rules) returns returns-2)
+    tie.close (tie.spec (λ c. search rules) (λ c. search rules) (λ c. search rules) (λ c κs. search rules) (λ c. search rules) (λ c. search rules)
+    (λ c. search rules) (λ c. search rules) returns returns-2)

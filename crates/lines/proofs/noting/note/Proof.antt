@@ -63,4 +63,5 @@ returns c =
 
 pub note_spec : {M : Type 1} → statement M
 note_spec =
-    tie.close (tie.spec (λ c. search rules) (λ c κs. search rules) (λ c. search rules) note-block-requires (λ c. search rules) note-block-requires-2 (λ c. search rules) repeats-requires (λ c. search rules) repeats-requires-2 (λ c. search rules) (λ c. search rules) returns)
+    tie.close (tie.spec (λ c. search rules) (λ c κs. search rules) (λ c. search rules) note-block-requires (λ c. search rules) note-block-requires-2
+    (λ c. search rules) repeats-requires (λ c. search rules) repeats-requires-2 (λ c. search rules) (λ c. search rules) returns)

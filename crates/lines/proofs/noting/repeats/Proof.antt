@@ -72,4 +72,6 @@ returns-2 c = λ ns block on many are.
 
 pub repeats_spec : {M : Type 1} → statement M
 repeats_spec =
-    tie.close (tie.spec invariant-loop decreases-loop (λ c. (omega arith, λ ns block on many are. refl)) (λ c. search rules) (λ c. let counted = c.requires.0 in omega (arith, counted.are.few, counted.as_many)) (λ c. search rules) single-requires returns (λ c. search rules) (λ c. search rules) loop-again returns-2)
+    tie.close (tie.spec invariant-loop decreases-loop (λ c. (omega arith, λ ns block on many are. refl)) (λ c. search rules)
+    (λ c. let counted = c.requires.0 in omega (arith, counted.are.few, counted.as_many)) (λ c. search rules) single-requires returns
+    (λ c. search rules) (λ c. search rules) loop-again returns-2)

@@ -42,4 +42,6 @@ returns-2 c = sym (reached_end c.loop-at.invariant (search rules))
 
 pub good_names_spec : {M : Type 1} → statement M
 good_names_spec =
-    tie.close (tie.spec invariant-loop decreases-loop (λ c. record { is = ap good_names (sym (names_start _)) }) (λ c κs. search rules) (λ c. search rules) (λ c. search rules) (λ c. search rules) (λ c κs. search rules) (λ c. search rules) (λ c κs. search rules) returns (λ c. search rules) (λ c. search rules) loop-again returns-2)
+    tie.close (tie.spec invariant-loop decreases-loop (λ c. record { is = ap good_names (sym (names_start _)) }) (λ c κs. search rules)
+    (λ c. search rules) (λ c. search rules) (λ c. search rules) (λ c κs. search rules) (λ c. search rules) (λ c κs. search rules) returns
+    (λ c. search rules) (λ c. search rules) loop-again returns-2)

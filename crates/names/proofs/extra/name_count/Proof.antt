@@ -27,4 +27,6 @@ loop-again c =
 
 pub name_count_spec : {M : Type 1} → statement M
 name_count_spec =
-    tie.close (tie.spec invariant-loop decreases-loop (λ c. (omega arith, omega arith, record { is = omega (arith, ap length (names_start c.args.run.now)) })) (λ c. search rules) (λ c κs. search rules) (λ c. search rules) (λ c. search rules) loop-again (λ c. omega (arith, reached_end c.loop-at.invariant.2 (search rules))))
+    tie.close (tie.spec invariant-loop decreases-loop
+    (λ c. (omega arith, omega arith, record { is = omega (arith, ap length (names_start c.args.run.now)) })) (λ c. search rules)
+    (λ c κs. search rules) (λ c. search rules) (λ c. search rules) loop-again (λ c. omega (arith, reached_end c.loop-at.invariant.2 (search rules))))

@@ -16,4 +16,5 @@ returns-2 c =
 
 pub bears_spec : {M : Type 1} → statement M
 bears_spec =
-    tie.close (tie.spec (λ c κs. known_start _ _ _ c.if-start-lt1024.true c.requires) returns (λ c κs. extra_start _ _ _ c.if-start-lt1024.false c.requires) returns-2)
+    tie.close (tie.spec (λ c κs. known_start _ _ _ c.if-start-lt1024.true c.requires) returns
+    (λ c κs. extra_start _ _ _ c.if-start-lt1024.false c.requires) returns-2)

@@ -49,4 +49,7 @@ loop-again c =
 
 pub enter_spec : {M : Type 1} → statement M
 enter_spec =
-    tie.close (tie.spec invariant-loop decreases-loop (λ c. (omega arith, search rules, refl, λ after e. e)) (λ c κs. search rules) (λ c. search rules) (λ c. search rules) (λ c. search rules) returns (λ c. omega (arith, c.in-Name.ensures)) (λ c. omega (arith, c.in-Name.ensures)) (λ c. omega (arith, c.in-Name.ensures)) (λ c κs. search rules) (λ c. omega (arith, c.in-Name.ensures)) put-requires (λ c. omega arith) (λ c. omega (arith, c.in-Name.ensures)) (λ c. omega (arith, c.in-Name.ensures)) loop-again)
+    tie.close (tie.spec invariant-loop decreases-loop (λ c. (omega arith, search rules, refl, λ after e. e)) (λ c κs. search rules)
+    (λ c. search rules) (λ c. search rules) (λ c. search rules) returns (λ c. omega (arith, c.in-Name.ensures))
+    (λ c. omega (arith, c.in-Name.ensures)) (λ c. omega (arith, c.in-Name.ensures)) (λ c κs. search rules) (λ c. omega (arith, c.in-Name.ensures))
+    put-requires (λ c. omega arith) (λ c. omega (arith, c.in-Name.ensures)) (λ c. omega (arith, c.in-Name.ensures)) loop-again)

@@ -28,4 +28,5 @@ returns-2 c =
 
 pub key_spec : {M : Type 1} → statement M
 key_spec =
-    tie.close (tie.spec (λ c. (no_bytes _ c.if-name-eq0.true, omega arith)) (λ c. search rules) (λ c κs. search rules) (λ c. search rules) (λ c. search rules) (λ c. search rules) returns-2)
+    tie.close (tie.spec (λ c. (no_bytes _ c.if-name-eq0.true, omega arith)) (λ c. search rules) (λ c κs. search rules) (λ c. search rules)
+    (λ c. search rules) (λ c. search rules) returns-2)

@@ -50,4 +50,8 @@ returns-2 c = λ ns on. sought_none (rw c.loop-number-test.false at (c.loop-numb
 
 pub number_spec : {M : Type 1} → statement M
 number_spec =
-    tie.close (tie.spec invariant-loop decreases-loop (λ c κs. search rules) (λ c. search rules) (λ c. search rules) (λ c. omega (arith, c.shared_slice_known-5-1.given c.key.result)) loop-holds (λ c. search rules) (λ c. search rules) (λ c. search rules) (λ c. omega (arith, c.shared_slice_known-in-loop-number-1.given (127 + c.loop-number.number))) bears-requires returns (λ c. search rules) (λ c. search rules) (λ c. search rules) (λ c. omega (arith, c.shared_slice_known-in-loop-number-2-1.given (63 + c.loop-number.number))) loop-less loop-again returns-2)
+    tie.close (tie.spec invariant-loop decreases-loop (λ c κs. search rules) (λ c. search rules) (λ c. search rules)
+    (λ c. omega (arith, c.shared_slice_known-5-1.given c.key.result)) loop-holds (λ c. search rules) (λ c. search rules) (λ c. search rules)
+    (λ c. omega (arith, c.shared_slice_known-in-loop-number-1.given (127 + c.loop-number.number))) bears-requires returns (λ c. search rules)
+    (λ c. search rules) (λ c. search rules) (λ c. omega (arith, c.shared_slice_known-in-loop-number-2-1.given (63 + c.loop-number.number))) loop-less
+    loop-again returns-2)

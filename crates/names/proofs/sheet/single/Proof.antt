@@ -17,4 +17,6 @@ returns-2 c =
 
 pub single_spec : {M : Type 1} → statement M
 single_spec =
-    tie.close (tie.spec (λ c. search rules) (λ c. search rules) (λ c. search rules) (λ c. search rules) (λ c κs. known_start _ _ _ c.if-start-lt1024.true c.requires.3) returns (λ c κs. extra_start _ _ _ c.if-start-lt1024.false c.requires.3) returns-2)
+    tie.close (tie.spec (λ c. search rules) (λ c. search rules) (λ c. search rules) (λ c. search rules)
+    (λ c κs. known_start _ _ _ c.if-start-lt1024.true c.requires.3) returns (λ c κs. extra_start _ _ _ c.if-start-lt1024.false c.requires.3)
+    returns-2)

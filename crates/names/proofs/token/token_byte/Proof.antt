@@ -9,4 +9,6 @@ use Rattle.names.proofs.token.token_byte.Tie as tie
 
 pub token_byte_spec : {M : Type 1} → statement M
 token_byte_spec =
-    tie.close (tie.spec (λ c. search rules) (λ c. simp (lt-ltb _ _ c.if-b-lt64.true) at (marked_token c.args.b (omega arith))) (λ c. search rules) (λ c. search rules) (λ c. simp (le-ltb _ _ c.if-b-lt64.false, lt-ltb _ _ c.if-b-lt128.true) at (marked_token c.args.b (omega arith))) (λ c. simp (le-ltb _ _ c.if-b-lt64.false, le-ltb _ _ c.if-b-lt128.false) at (marked_token c.args.b (omega arith))))
+    tie.close (tie.spec (λ c. search rules) (λ c. simp (lt-ltb _ _ c.if-b-lt64.true) at (marked_token c.args.b (omega arith))) (λ c. search rules)
+    (λ c. search rules) (λ c. simp (le-ltb _ _ c.if-b-lt64.false, lt-ltb _ _ c.if-b-lt128.true) at (marked_token c.args.b (omega arith)))
+    (λ c. simp (le-ltb _ _ c.if-b-lt64.false, le-ltb _ _ c.if-b-lt128.false) at (marked_token c.args.b (omega arith))))

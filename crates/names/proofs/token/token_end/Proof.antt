@@ -18,4 +18,7 @@ decreases-loop run at i₀ i = length run - i
 
 pub token_end_spec : {M : Type 1} → statement M
 token_end_spec =
-    tie.close (tie.spec invariant-loop decreases-loop (λ c. passed_none token_byte _ _ c.requires) (λ c. search rules) (λ c κs. search rules) (λ c. passed_stop token_byte _ _ _ c.loop-i.invariant (search rules) (sym c.token_byte.ensures ∙ c.if-not-token_byte.true)) (λ c. search rules) (λ c. search rules) (λ c. passed_more token_byte _ _ _ c.loop-i.invariant (search rules) (sym c.token_byte.ensures ∙ c.if-not-token_byte.false)) (λ c. passed_end token_byte _ _ _ c.loop-i.invariant c.loop-i-test.false))
+    tie.close (tie.spec invariant-loop decreases-loop (λ c. passed_none token_byte _ _ c.requires) (λ c. search rules) (λ c κs. search rules)
+    (λ c. passed_stop token_byte _ _ _ c.loop-i.invariant (search rules) (sym c.token_byte.ensures ∙ c.if-not-token_byte.true)) (λ c. search rules)
+    (λ c. search rules) (λ c. passed_more token_byte _ _ _ c.loop-i.invariant (search rules) (sym c.token_byte.ensures ∙ c.if-not-token_byte.false))
+    (λ c. passed_end token_byte _ _ _ c.loop-i.invariant c.loop-i-test.false))
