@@ -12,22 +12,22 @@ use Rattle.carrier.proofs.sign.put_code.Statement.{statement}
 use Rattle.carrier.proofs.sign.put_code.Tie as tie
 
 -- the array has 64 bytes
-full : (s : tie.Start) → length s.args.t4 ≡ 64
+full : (s : tie.Start) → length s.args.code ≡ 64
 full s = search rules
 
-digest : (s : tie.Start) → length (take 32 s.args.t4) ≡ 32
-digest s = length-take-le 32 s.args.t4 (omega (arith, full s))
+digest : (s : tie.Start) → length (take 32 s.args.code) ≡ 32
+digest s = length-take-le 32 s.args.code (omega (arith, full s))
 
-text_is : (c : tie.After-encode) → c.encode.new.1.0 ≡ encoded (take 32 c.before.before.before.before.before.args.t4)
+text_is : (c : tie.After-encode) → c.encode.new.out ≡ encoded (take 32 c.args.code)
 text_is c = digest_text _ _ (digest c.before.before.before.before.before) refl c.encode.ensures.1
 
-put-signature-requires : tie.Need-put-signature-requires
+put-signature-requires : tie.Need-put_signature-requires
 unfolding signature_value
-put-signature-requires c κs = rw (text_is c.before.before.before) c.before.before.before.before.before.before.before.before.requires
+put-signature-requires c κs = rw (text_is c.before.before.before) c.requires
 
 returns : tie.Need-returns
 unfolding signature_value
-returns c = rw (← (text_is c.before.before.before.before.before.before)) c.before.before.put-signature.ensures
+returns c = rw (← (text_is c.before.before.before.before.before.before)) c.put_signature.ensures
 
 pub put_code_spec : {M : Type 1} → statement M
 put_code_spec =

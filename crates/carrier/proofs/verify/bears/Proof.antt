@@ -21,16 +21,16 @@ full s = search rules
 room : (s : tie.Start) → length (signature_value s.args.label.now (take 32 s.args.code)) ≤ 128
 room s = omega (arith, signature_length s.args.label.now (take 32 s.args.code) (length-take-le 32 s.args.code (omega (arith, full s))), s.requires)
 
-within : (c : tie.After-put-code) → c.put-code.result ≤ length c.put-code.new.0
-within c = laid_within (room c.before.before.before.before) c.put-code.ensures
+within : (c : tie.After-put_code-end) → c.put_code-end.result ≤ length c.put_code-end.new.out
+within c = laid_within (room c.before.before.before.before) c.put_code-end.ensures
 
-front : (c : tie.After-put-code) → let a = c.before.before.before.before.args in
-    take c.put-code.result c.put-code.new.0 ≡ signature_value a.label.now (take 32 a.code)
-front c = laid_front (room c.before.before.before.before) c.put-code.ensures
+front : (c : tie.After-put_code-end) → let a = c.args in
+    take c.put_code-end.result c.put_code-end.new.out ≡ signature_value a.label.now (take 32 a.code)
+front c = laid_front (room c.before.before.before.before) c.put_code-end.ensures
 
 returns : tie.Need-returns
 returns c =
-    let a = c.before.before.before.before.before.before.before.args in
+    let a = c.args in
     c.same.ensures ∙ ap (λ (run : List ℕ). same run a.signature.now) (front c.before.before.before)
 
 pub bears_spec : {M : Type 1} → statement M

@@ -1,7 +1,6 @@
 -- `field_number` meets its contract.
 -- Assumes nothing.
 use borrow.Author.Rules.{rules}
-use borrow.Author.Tests.{not-true, not-false}
 use mathlib.Core.Path.{◌≡◌}
 use mathlib.Core.List.{List}
 use mathlib.Core.Bool.{Bool, not, cond, ◌&&◌}
@@ -12,33 +11,33 @@ use Rattle.carrier.proofs.verify.field_number.Statement.{statement}
 use Rattle.carrier.proofs.verify.field_number.Tie as tie
 
 -- what is found, and so the number
-abbrev formed : tie.After-same3 → Bool
-formed c = c.before.before.before.before.before.good-input.result && c.before.before.before.before.good-signature.result
+abbrev formed : tie.After-same-3 → Bool
+formed c = c.good_input.result && c.good_signature.result
 
-abbrev asked-for : tie.After-same3 → Bool
-asked-for c = c.before.before.before.same.result && (c.before.same2.result && c.same3.result)
+abbrev asked_for : tie.After-same-3 → Bool
+asked_for c = c.same.result && (c.same-2.result && c.same-3.result)
 
-numbered : (c : tie.After-same3) (method authority path lines names key : List ℕ)
-    → let a = c.before.before.before.before.before.before.before.before.before.before.before.before.before.args in
+numbered : (c : tie.After-same-3) (method authority path lines names key : List ℕ)
+    → let a = c.args in
     told_number (asked_of method authority path lines names a.label.now a.key_id.now key) a.input.now a.signature.now
-    ≡ cond (not (formed c)) 2 (cond (not (asked-for c)) 3 0)
+    ≡ cond (not (formed c)) 2 (cond (not (asked_for c)) 3 0)
 unfolding told_number
 numbered c method authority path lines names key =
-    let told = c.before.before.before.before.before.before.before.before.before.before.before.before.before.requires.2 in
+    let told = c.requires.2 in
     simp (
-      ← c.before.before.before.before.before.good-input.ensures,
-      ← c.before.before.before.before.good-signature.ensures,
+      ← c.good_input.ensures,
+      ← c.good_signature.ensures,
       ← told.label,
-      ← c.before.before.before.same.ensures,
-      ← c.before.before.label_of.ensures,
-      ← c.before.same2.ensures,
+      ← c.same.ensures,
+      ← c.label_of.ensures,
+      ← c.same-2.ensures,
       ← told.key_id,
-      ← c.same3.ensures,
+      ← c.same-3.ensures,
     )
 
 pub field_number_spec : {M : Type 1} → statement M
 field_number_spec =
-    tie.close (tie.spec (λ c κs. search rules) (λ c κs. search rules) (λ c κs. search rules) (λ c κs. search rules) (λ c κs. search rules) (λ c κs. search rules)
-    (λ c m au p l n k. simp (numbered c.before m au p l n k, not-true (formed c.before) c.if1.true))
-    (λ c m au p l n k. simp (numbered c.before.before m au p l n k, not-false (formed c.before.before) c.before.if1.false, c.if2.true))
-    (λ c m au p l n k. simp (numbered c.before.before m au p l n k, not-false (formed c.before.before) c.before.if1.false, c.if2.false)))
+    tie.close (tie.spec (λ c κs. search rules) (λ c κs. search rules) (λ c κs. search rules) (λ c κs. search rules) (λ c κs. search rules)
+    (λ c κs. search rules) (λ c m au p l n k. simp (numbered c.before m au p l n k, c.if-not-formed.true))
+    (λ c m au p l n k. simp (numbered c.before.before m au p l n k, c.if-not-formed.false, c.if-asked_for.true))
+    (λ c m au p l n k. simp (numbered c.before.before m au p l n k, c.if-not-formed.false, c.if-asked_for.false)))

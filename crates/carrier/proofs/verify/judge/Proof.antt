@@ -13,49 +13,48 @@ use Rattle.carrier.proofs.verify.judge.Tie as tie
 abbrev asked : tie.Start → Asked
 asked s = let a = s.args in asked_of a.method.now a.authority.now a.path.now a.lines.now a.names.now a.label.now a.key_id.now a.key.now
 
-abbrev begun : tie.After-first-refusal → tie.Start
-begun c = c.before.before.before.before.before.before.before.before.before.before.before.before.before.before.before.before.before.before.before.before.before
+abbrev begun : tie.After-first_refusal-number → tie.Start
+begun c = c.before.before.before.before.before.before.before.before.before.before.before.before.before.before.before.before.before.before.before.before
 
 -- what is refused first
-refused : (c : tie.After-first-refusal)
+refused : (c : tie.After-first_refusal-number)
     → let s = begun c in
-    c.first-refusal.result ≡ first_refusal (asked_number (asked s)) (told_number (asked s) s.args.input.now s.args.signature.now)
+    c.first_refusal-number.result ≡ first_refusal (asked_number (asked s)) (told_number (asked s) s.args.input.now s.args.signature.now)
 refused c =
     let s = begun c in
     let a = s.args in
-    c.first-refusal.ensures
-    ∙ ap₂ first_refusal (c.before.before.number.ensures a.key.now)
-    (c.before.field-number.ensures a.method.now a.authority.now a.path.now a.lines.now a.names.now a.key.now)
+    c.first_refusal-number.ensures
+    ∙ ap₂ first_refusal (c.number-asked.ensures a.key.now)
+    (c.field_number-fields.ensures a.method.now a.authority.now a.path.now a.lines.now a.names.now a.key.now)
 
-last-number-requires : tie.Need-last-number-requires
+last-number-requires : tie.Need-last_number-number-requires
 last-number-requires c κs =
-    let s = begun c.before in
-    let none = none_refused _ _ (sym (refused c.before) ∙ c.if1.true) in
-    (record { sized = s.pre; asked = none.0; told = none.1 }, c.before.before.before.before.before.before.before.before.before.read-input.ensures.tells.names)
+    let none = none_refused _ _ (sym (refused c.before) ∙ c.if-number-eq0.true) in
+    (record { sized = c.requires; asked = none.0; told = none.1 }, c.read_input-told.ensures.tells.names)
 
-returns : tie.Need-returns
+returns : tie.Need-returns-then-number-eq0
 unfolding judged_number
 returns c =
     let at = c.before.before in
-    let first = sym (refused at) ∙ c.before.if1.true in
+    let first = sym (refused at) ∙ c.if-number-eq0.true in
     record {
-      number = c.last-number.ensures ∙ sym (simp (eq-eqb _ 0 first));
-      created = c.before.before.before.before.before.before.before.before.before.before.read-input.ensures.tells.created;
+      number = c.last_number-number.ensures ∙ sym (simp (eq-eqb _ 0 first));
+      created = c.read_input-told.ensures.tells.created;
     }
 
-returns-2 : tie.Need-returns-2
+returns-2 : tie.Need-returns-else-number-eq0
 unfolding judged_number
 returns-2 c =
     let at = c.before in
     record {
-      number = refused at ∙ sym (simp (ne_eqb _ 0 (λ e. c.if1.false (refused at ∙ e))));
-      created = c.before.before.before.before.before.before.before.before.before.read-input.ensures.tells.created;
+      number = refused at ∙ sym (simp (ne_eqb _ 0 (λ e. c.if-number-eq0.false (refused at ∙ e))));
+      created = c.read_input-told.ensures.tells.created;
     }
 
 pub judge_spec : {M : Type 1} → statement M
 judge_spec =
     tie.close (tie.spec (λ c. search rules) (λ c. search rules) (λ c κs. search rules)
-    (λ c. sym (length-take-le _ _ c.before.before.before.read-input.ensures.labelled)) (λ c. search rules)
-    (λ c. sym (length-take-le _ _ c.before.before.before.before.read-input.ensures.few)) (λ c. search rules)
-    (λ c. sym (length-take-le _ _ c.before.before.before.before.before.read-input.ensures.short))
-    (λ c κs. search rules) (λ c κs. search rules) (λ c κs. search rules) last-number-requires returns returns-2)
+    (λ c. sym (length-take-le _ _ c.read_input-told.ensures.labelled)) (λ c. search rules)
+    (λ c. sym (length-take-le _ _ c.read_input-told.ensures.few)) (λ c. search rules)
+    (λ c. sym (length-take-le _ _ c.read_input-told.ensures.short)) (λ c κs. search rules) (λ c κs. search rules) (λ c κs. search rules)
+    last-number-requires returns returns-2)
