@@ -10,22 +10,22 @@ use Rattle.armor.proofs.Requests.{request_fields_lem, coverage_there}
 use Rattle.armor.proofs.contents.fields_good.Statement.{statement}
 use Rattle.armor.proofs.contents.fields_good.Tie as tie
 
-returns : tie.Need-returns
+returns : tie.Need-returns-then-not-times_good
 returns c =
     let start = c.before.before.before in
-    sym (request_fields_lem start.args.value.now start.args.t2 start.requires ∙ simp (sym c.before.times-good.ensures ∙ not-true _ c.if1.true))
+    sym (request_fields_lem start.args.value.now start.args.t2 start.requires ∙ simp (sym c.times_good.ensures ∙ not-true _ c.if-not-times_good.true))
 
-mask-in-requires : tie.Need-mask-in-requires
+mask-in-requires : tie.Need-mask_in-ah-requires
 mask-in-requires c κs =
     let start = c.before.before.before in
-    coverage_there start.args.value.now start.args.t2 start.requires (sym c.before.times-good.ensures ∙ not-false _ c.if1.false)
+    coverage_there start.args.value.now start.args.t2 start.requires (sym c.times_good.ensures ∙ not-false _ c.if-not-times_good.false)
 
-returns-2 : tie.Need-returns-2
+returns-2 : tie.Need-returns
 unfolding nonce_bit
 returns-2 c =
     let start = c.before.before.before.before.before.before in
-    ap₂ (λ (x y : ℕ). eqb x (y % 2)) c.wide.ensures c.before.before.mask-in.ensures
-    ∙ sym (request_fields_lem start.args.value.now start.args.t2 start.requires ∙ simp (sym c.before.before.before.before.times-good.ensures ∙ not-false _ c.before.before.before.if1.false))
+    ap₂ (λ (x y : ℕ). eqb x (y % 2)) c.wide.ensures c.mask_in-ah.ensures
+    ∙ sym (request_fields_lem start.args.value.now start.args.t2 start.requires ∙ simp (sym c.times_good.ensures ∙ not-false _ c.if-not-times_good.false))
 
 pub fields_good_spec : {M : Type 1} → statement M
 fields_good_spec =

@@ -10,27 +10,27 @@ use Rattle.armor.proofs.Replies.{reply_times_lem, reply_noted}
 use Rattle.armor.proofs.contents.reply_good.Statement.{statement}
 use Rattle.armor.proofs.contents.reply_good.Tie as tie
 
-returns : tie.Need-returns
+returns : tie.Need-returns-then-not-reply_times_good
 unfolding reply_holds
 returns c =
     let start = c.before.before.before in
-    simp (sym (reply_times_lem start.args.value.now start.args.seen start.requires) ∙ sym c.before.reply-times-good.ensures ∙ not-true _ c.if1.true)
+    simp (sym (reply_times_lem start.args.value.now start.args.seen start.requires) ∙ sym c.reply_times_good.ensures ∙ not-true _ c.if-not-reply_times_good.true)
 
 size-requires : tie.Need-size-requires
 size-requires c κs =
     let start = c.before.before.before in
-    reply_noted start.args.value.now start.args.seen start.requires (sym c.before.reply-times-good.ensures ∙ not-false _ c.if1.false) other_key (lit< tt)
+    reply_noted start.args.value.now start.args.seen start.requires (sym c.reply_times_good.ensures ∙ not-false _ c.if-not-reply_times_good.false) other_key (lit< tt)
 
 size-requires-2 : tie.Need-size-requires-2
 size-requires-2 c κs =
     let start = c.before.before.before.before in
-    reply_noted start.args.value.now start.args.seen start.requires (sym c.before.before.reply-times-good.ensures ∙ not-false _ c.before.if1.false) key_eah (lit< tt)
+    reply_noted start.args.value.now start.args.seen start.requires (sym c.reply_times_good.ensures ∙ not-false _ c.if-not-reply_times_good.false) key_eah (lit< tt)
 
-returns-2 : tie.Need-returns-2
+returns-2 : tie.Need-returns
 unfolding reply_holds
 returns-2 c =
     let start = c.before.before.before.before.before in
-    simp (c.before.size.ensures, c.size2.ensures, sym (reply_times_lem start.args.value.now start.args.seen start.requires) ∙ sym c.before.before.before.reply-times-good.ensures ∙ not-false _ c.before.before.if1.false)
+    simp (c.size.ensures, c.size-2.ensures, sym (reply_times_lem start.args.value.now start.args.seen start.requires) ∙ sym c.reply_times_good.ensures ∙ not-false _ c.if-not-reply_times_good.false)
 
 pub reply_good_spec : {M : Type 1} → statement M
 reply_good_spec = tie.close (tie.spec (λ c κs. search rules) returns size-requires size-requires-2 returns-2)

@@ -14,37 +14,37 @@ use Rattle.armor.proofs.contents.reply_of.Statement.{statement}
 use Rattle.armor.proofs.contents.reply_of.Tie as tie
 
 -- what a key holds fits its array
-content-requires : tie.Need-content-requires
-content-requires c κs = let ready = c.before.before.requires in (ready.noted key_s (lit< tt), omega (arith, ready.sizes.s.1))
+content-requires : tie.Need-content-s_len-requires
+content-requires c κs = let ready = c.requires in (ready.noted key_s (lit< tt), omega (arith, ready.sizes.s.1))
 
-content-requires-2 : tie.Need-content-requires-2
-content-requires-2 c κs = let ready = c.before.before.before.before.before.requires in (ready.noted key_iv (lit< tt), omega (arith, ready.sizes.iv))
+content-requires-2 : tie.Need-content-requires
+content-requires-2 c κs = let ready = c.requires in (ready.noted key_iv (lit< tt), omega (arith, ready.sizes.iv))
 
-content-requires-3 : tie.Need-content-requires-3
-content-requires-3 c κs = let ready = c.before.before.before.before.before.before.before.before.requires in (ready.noted key_tag (lit< tt), omega (arith, ready.sizes.tag))
+content-requires-3 : tie.Need-content-requires-2
+content-requires-3 c κs = let ready = c.requires in (ready.noted key_tag (lit< tt), omega (arith, ready.sizes.tag))
 
-content-requires-4 : tie.Need-content-requires-4
-content-requires-4 c κs = let ready = c.before.before.before.before.before.before.before.before.before.before.before.requires in (ready.noted other_key (lit< tt), omega (arith, ready.sizes.key))
+content-requires-4 : tie.Need-content-requires-3
+content-requires-4 c κs = let ready = c.requires in (ready.noted other_key (lit< tt), omega (arith, ready.sizes.key))
 
-content-requires-5 : tie.Need-content-requires-5
-content-requires-5 c κs = let ready = c.before.before.before.before.before.before.before.before.before.before.before.before.before.before.requires in (ready.noted key_eah (lit< tt), omega (arith, ready.sizes.eah))
+content-requires-5 : tie.Need-content-eah_len-requires
+content-requires-5 c κs = let ready = c.requires in (ready.noted key_eah (lit< tt), omega (arith, ready.sizes.eah))
 
-mask-in-requires : tie.Need-mask-in-requires
-mask-in-requires c κs = let ready = c.before.before.before.before.before.before.before.before.before.before.before.before.before.before.before.before.requires in (ready.noted key_h (lit< tt), ready.sizes.h.0, ready.sizes.h.1)
+mask-in-requires : tie.Need-mask_in-requires
+mask-in-requires c κs = let ready = c.requires in (ready.noted key_h (lit< tt), ready.sizes.h.0, ready.sizes.h.1)
 
-mask-in-requires-2 : tie.Need-mask-in-requires-2
-mask-in-requires-2 c κs = let ready = c.before.before.before.before.before.before.before.before.before.before.before.before.before.before.before.before.before.requires in (ready.noted key_ah (lit< tt), ready.sizes.ah.0, ready.sizes.ah.1)
+mask-in-requires-2 : tie.Need-mask_in-requires-2
+mask-in-requires-2 c κs = let ready = c.requires in (ready.noted key_ah (lit< tt), ready.sizes.ah.0, ready.sizes.ah.1)
 
 returns : tie.Need-returns
 returns c =
     let start = c.before.before.before.before.before.before.before.before.before.before.before.before.before.before.before.before.before.before in
     let fs = carried start.args.value.now in
     let sizes = start.requires.sizes in
-    let s = c.before.before.before.before.before.before.before.before.before.before.before.before.before.before.before.content.ensures in
-    let iv = c.before.before.before.before.before.before.before.before.before.before.before.before.content2.ensures in
-    let tag = c.before.before.before.before.before.before.before.before.before.content3.ensures in
-    let key = c.before.before.before.before.before.before.content4.ensures in
-    let eah = c.before.before.before.content5.ensures in
+    let s = c.content-s_len.ensures in
+    let iv = c.content.ensures in
+    let tag = c.content-2.ensures in
+    let key = c.content-3.ensures in
+    let eah = c.content-eah_len.ensures in
     record {
       token = front_taken (the key_s fs) (replicate 118 0) _ s.1 s.0;
       token_size = s.0;
@@ -52,8 +52,8 @@ returns c =
       vector = iv.1 ∙ fronted_whole (the key_iv fs) (replicate 12 0) sizes.iv;
       tag = tag.1 ∙ fronted_whole (the key_tag fs) (replicate 16 0) sizes.tag;
       key = key.1 ∙ fronted_whole (the other_key fs) (replicate 32 0) sizes.key;
-      hash = c.before.mask-in.ensures;
-      coverage = c.mask-in2.ensures;
+      hash = c.mask_in.ensures;
+      coverage = c.mask_in-2.ensures;
       extra = front_taken (the key_eah fs) (replicate 128 0) _ eah.1 eah.0;
       extra_size = eah.0;
       extra_fits = omega (arith, eah.0, sizes.eah);
@@ -61,5 +61,4 @@ returns c =
 
 pub reply_of_spec : {M : Type 1} → statement M
 reply_of_spec =
-    tie.close (tie.spec (λ c. search rules) content-requires (λ c. search rules) content-requires-2 (λ c. search rules) content-requires-3
-    (λ c. search rules) content-requires-4 (λ c. search rules) content-requires-5 mask-in-requires mask-in-requires-2 returns)
+    tie.close (tie.spec (λ c. search rules) content-requires (λ c. search rules) content-requires-2 (λ c. search rules) content-requires-3 (λ c. search rules) content-requires-4 (λ c. search rules) content-requires-5 mask-in-requires mask-in-requires-2 returns)

@@ -16,14 +16,13 @@ told : (c : tie.After-measure) → let start = c.before.before.before.before.bef
 unfolding measured
 told c = let start = c.before.before.before.before.before in c.measure.ensures ∙ ap size_of start.requires.decodes
 
-returns : tie.Need-returns
+returns : tie.Need-returns-in_default
 returns c =
-    absurd (let z : ◌≡◌ {A = ℕ} 0 1 = rw (told c.before.before) at c.before.match.keys2 in omega arith)
+    absurd (let z : ◌≡◌ {A = ℕ} 0 1 = rw (told c.before) at c.in_default.keys2 in omega arith)
 
-returns-2 : tie.Need-returns-2
-returns-2 c = let is = told c.before.before.before in let same = c.before.n.given.1 in cc
+returns-2 : tie.Need-returns
+returns-2 c = let is = told c.before in let same = c.in-Bytes.is in cc
 
 pub size_spec : {M : Type 1} → statement M
 size_spec =
-    tie.close (tie.spec (λ c. search rules) (λ c. search rules) (λ c. search rules) (λ c. search rules) (λ c. search rules) (λ c. search rules)
-    (λ c. search rules) (λ c κs. search rules) (λ c. search rules) (λ c. search rules) returns returns-2)
+    tie.close (tie.spec (λ c. search rules) (λ c. search rules) (λ c. search rules) (λ c. search rules) (λ c. search rules) (λ c. search rules) (λ c. search rules) (λ c κs. search rules) (λ c. search rules) (λ c. search rules) returns returns-2)

@@ -9,16 +9,16 @@ use Rattle.armor.proofs.Texts.{measured_bad, measured_size, either_test}
 use Rattle.armor.proofs.key.is_either.Statement.{statement}
 use Rattle.armor.proofs.key.is_either.Tie as tie
 
-returns : tie.Need-returns
-returns c = sym (measured_bad _ _ (sym c.before.before.measure.ensures ∙ c.enum_told.given.1))
+returns : tie.Need-returns-in_default
+returns c = sym (measured_bad _ _ (sym c.measure.ensures ∙ c.in_default.is))
 
-returns-2 : tie.Need-returns-2
+returns-2 : tie.Need-returns
 unfolding obeys
 returns-2 c =
-    let start = c.before.before.before.before.before in
+    let start = c.before.before.before in
     let a = start.args in
-    let n = c.before.n.given in
-    let measured = sym c.before.before.before.measure.ensures ∙ n.1 in
+    let n = c.n-1.given in
+    let measured = sym c.measure.ensures ∙ n.1 in
     sym (measured_size (either a.short a.long) (λ k. eqb k a.short || eqb k a.long) (λ bs. refl) a.text.now n.0.0 measured
     ∙ either_test n.0.0 a.short a.long start.requires.0 start.requires.1)
 

@@ -8,14 +8,14 @@ use Rattle.armor.proofs.Texts.{measured_bad, measured_size}
 use Rattle.armor.proofs.key.is_some.Statement.{statement}
 use Rattle.armor.proofs.key.is_some.Tie as tie
 
-returns : tie.Need-returns
-returns c = sym (measured_bad _ _ (sym c.before.before.measure.ensures ∙ c.enum_told.given.1))
+returns : tie.Need-returns-in_default
+returns c = sym (measured_bad _ _ (sym c.measure.ensures ∙ c.in_default.is))
 
-returns-2 : tie.Need-returns-2
+returns-2 : tie.Need-returns
 unfolding obeys
 returns-2 c =
-    let n = c.before.n in
-    sym (measured_size free (λ k. true) (λ bs. refl) c.before.before.before.before.before.args.text.now n.given.0.0 (sym c.before.before.before.measure.ensures ∙ n.given.1) ∙ and-true _)
+    let n = c.n-1 in
+    sym (measured_size free (λ k. true) (λ bs. refl) c.args.text.now n.given.0.0 (sym c.measure.ensures ∙ n.given.1) ∙ and-true _)
 
 pub is_some_spec : {M : Type 1} → statement M
 is_some_spec =

@@ -24,11 +24,11 @@ many [] h = absurd (omega arith)
 many (b ∷ []) h = absurd (omega arith)
 many (b ∷ c ∷ bs) h = refl
 
-returns : tie.Need-returns
-returns c = few _ c.if1.true
+returns : tie.Need-returns-then-bytes-lt2
+returns c = few _ c.if-bytes-lt2.true
 
-returns-2 : tie.Need-returns-2
-returns-2 c = many _ c.before.if1.false
+returns-2 : tie.Need-returns
+returns-2 c = many _ c.if-bytes-lt2.false
 
 pub is_plain_spec : {M : Type 1} → statement M
 is_plain_spec = tie.close (tie.spec returns (λ c. search rules) returns-2)

@@ -11,21 +11,21 @@ use Rattle.armor.proofs.Numerals.{length_number_bytes, mask_front}
 use Rattle.armor.proofs.numeral.mask_bytes.Statement.{statement}
 use Rattle.armor.proofs.numeral.mask_bytes.Tie as tie
 
-put-number-requires : tie.Need-put-number-requires
-put-number-requires c κs = omega (arith, (length_number_bytes c.before.args.m).1)
+put-number-requires : tie.Need-put_number-len-requires
+put-number-requires c κs = omega (arith, (length_number_bytes c.args.m).1)
 
-cast-bytes : tie.Need-overflow-cast-bytes
-cast-bytes c = record { fits = omega (arith, c.before.put-number.ensures.0, (length_number_bytes c.before.before.before.args.m).1) }
+cast-bytes : tie.Need-overflow_cast-bytes
+cast-bytes c = record { fits = omega (arith, c.put_number-len.ensures.0, (length_number_bytes c.args.m).1) }
 
-add-t10 : tie.Need-overflow-add-t10
-add-t10 c = record { fits = omega (arith, c.before.put-number.ensures.0, (length_number_bytes c.before.before.before.args.m).1) }
+add-t10 : tie.Need-overflow_add-result
+add-t10 c = record { fits = omega (arith, c.put_number-len.ensures.0, (length_number_bytes c.args.m).1) }
 
 returns : tie.Need-returns
 unfolding mask_bytes
 returns c =
-    let put = c.before.put-number in (
+    let put = c.put_number-len in (
       add-one put.result ∙ ap suc put.ensures.0,
-      mask_front put.result c.before.before.before.args.m 0 (replicate 8 0) put.ensures.0 put.ensures.1,
+      mask_front put.result c.args.m 0 (replicate 8 0) put.ensures.0 put.ensures.1,
     )
 
 pub mask_bytes_spec : {M : Type 1} → statement M

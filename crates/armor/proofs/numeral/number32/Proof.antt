@@ -5,9 +5,9 @@ use Rattle.armor.proofs.Numerals.{number_small}
 use Rattle.armor.proofs.numeral.number32.Statement.{statement}
 use Rattle.armor.proofs.numeral.number32.Tie as tie
 
-cast-result : tie.Need-overflow-cast-result
+cast-result : tie.Need-overflow_cast-result
 cast-result c =
-    record { fits = rw c.number_of.ensures (number_small c.before.before.args.bytes.now (λ k. (c.before.shared-slice-known.given k).fits) c.before.before.requires) }
+    record { fits = rw c.number_of.ensures (number_small c.args.bytes.now (λ k. (c.shared_slice_known-1.given k).fits) c.requires) }
 
 pub number32_spec : {M : Type 1} → statement M
 number32_spec =

@@ -11,13 +11,13 @@ use Rattle.armor.proofs.Texts.{front_taken}
 use Rattle.armor.proofs.numeral.number_bytes.Statement.{statement}
 use Rattle.armor.proofs.numeral.number_bytes.Tie as tie
 
-put-number-requires : tie.Need-put-number-requires
-put-number-requires c κs = omega (arith, length_number c.before.args.n c.before.ranges.n.fits)
+put-number-requires : tie.Need-put_number-len-requires
+put-number-requires c κs = omega (arith, length_number c.args.n c.ranges.n.fits)
 
 returns : tie.Need-returns
 returns c =
-    let put = c.before.put-number in
-    let n = c.before.before.before.args.n in
+    let put = c.put_number-len in
+    let n = c.args.n in
     (put.ensures.0, front_taken (number_bytes n) (replicate 4 0) put.result (put.ensures.1 ∙ spliced_front (replicate 4 0) (number_bytes n)) put.ensures.0)
 
 pub number_bytes_spec : {M : Type 1} → statement M

@@ -13,7 +13,7 @@ returns : tie.Need-returns
 returns c =
     let start = c.before.before.before.before.before.before in
     let bytes = start.args.bytes.now in
-    c.load64.ensures ∙ number_eight bytes (8 - length bytes) (omega (arith, start.requires)) c.before.before.before.put-at.ensures.is
+    c.load64.ensures ∙ number_eight bytes (8 - length bytes) (omega (arith, start.requires)) c.put_at.ensures.is
 
 pub number_of_spec : {M : Type 1} → statement M
 number_of_spec =

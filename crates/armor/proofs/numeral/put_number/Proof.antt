@@ -8,20 +8,19 @@ use Rattle.armor.proofs.Numerals.{length_number_bytes, cut_bytes}
 use Rattle.armor.proofs.numeral.put_number.Statement.{statement}
 use Rattle.armor.proofs.numeral.put_number.Tie as tie
 
-sub-put-at : tie.Need-overflow-sub-put-at
+sub-put-at : tie.Need-overflow_sub-len
 sub-put-at c =
-    omega (arith, c.before.before.before.before.size.ensures, (length_number_bytes c.before.before.before.before.before.before.args.n).1)
+    omega (arith, c.size-len.ensures, (length_number_bytes c.args.n).1)
 
 returns : tie.Need-returns
 returns c =
-    let start = c.before.before.before.before.before.before.before.before.before.before.before in
-    let size = c.before.before.before.before.before.before.before.before.before.size in
-    let put64 = c.before.before.before.before.before.before.before.put64 in (
+    let start = c.before.before.before.before.before.before.before.before.before.before in
+    let size = c.size-len in
+    let put64 = c.put64 in (
       size.ensures,
-      c.before.before.put-at.ensures.is ∙ ap (spliced start.args.out.now start.args.at) (cut_bytes start.args.n size.result put64.ensures size.ensures),
+      c.put_at.ensures.is ∙ ap (spliced start.args.out.now start.args.at) (cut_bytes start.args.n size.result put64.ensures size.ensures),
     )
 
 pub put_number_spec : {M : Type 1} → statement M
 put_number_spec =
-    tie.close (tie.spec (λ c κs. search rules) (λ c. search rules) (λ c κs. search rules) sub-put-at (λ c. search rules) (λ c. search rules)
-    (λ c. search rules) (λ c κs. search rules) (λ c. search rules) returns)
+    tie.close (tie.spec (λ c κs. search rules) (λ c. search rules) (λ c κs. search rules) sub-put-at (λ c. search rules) (λ c. search rules) (λ c. search rules) (λ c κs. search rules) (λ c. search rules) returns)

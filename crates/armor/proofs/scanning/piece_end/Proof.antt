@@ -6,7 +6,7 @@ use Rattle.armor.proofs.Scan.{ends}
 use Rattle.armor.proofs.scanning.piece_end.Statement.{statement}
 use Rattle.armor.proofs.scanning.piece_end.Tie as tie
 
-add-result : tie.Need-overflow-add-result
+add-result : tie.Need-overflow_add-result
 add-result c =
     let start = c.before.before.before in
     record { fits = omega (arith, start.requires.1, (ends start.args.value.now start.args.at c.find.result start.requires.0 c.find.ensures).within) }

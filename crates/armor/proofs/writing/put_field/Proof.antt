@@ -11,18 +11,18 @@ use Rattle.armor.proofs.Laying.{laid_field}
 use Rattle.armor.proofs.writing.put_field.Statement.{statement}
 use Rattle.armor.proofs.writing.put_field.Tie as tie
 
-add-result : tie.Need-overflow-add-result
+add-result : tie.Need-overflow_add-result
 add-result c =
     let start = c.before.before.before.before.before.before.before.before.before.before.before.before.before.before.before.before in
-    omega (arith, start.requires, start.well_formed_lem, c.before.before.encode.ensures.0, length_encoded start.args.content.now)
+    omega (arith, start.requires, start.well_formed_lem, c.encode-len.ensures.0, length_encoded start.args.content.now)
 
 returns : tie.Need-returns
 returns c =
     let start = c.before.before.before.before.before.before.before.before.before.before.before.before.before.before.before.before in
     let a = start.args in
-    let one = c.before.before.before.before.before.before.before.before.before.before.before.put-at in
-    let two = c.before.before.before.before.before.before.put-at2 in
-    let e = c.before.before.encode in
+    let one = c.put_at-colon in
+    let two = c.put_at-text in
+    let e = c.encode-len in
     let size = length_encoded a.content.now in (
       omega (arith, e.ensures.0, size, one.ensures.ends, two.ensures.ends),
       laid_field a.name.now a.content.now one.ensures two.ensures
@@ -33,5 +33,4 @@ returns c =
 
 pub put_field_spec : {M : Type 1} → statement M
 put_field_spec =
-    tie.close (tie.spec (λ c κs. search rules) (λ c. search rules) (λ c κs. search rules) (λ c. search rules) (λ c. search rules) (λ c. search rules)
-    (λ c κs. search rules) add-result (λ c. search rules) returns)
+    tie.close (tie.spec (λ c. search rules) (λ c. search rules) (λ c. search rules) (λ c. search rules) (λ c. search rules) (λ c. search rules) add-result (λ c. search rules) returns)

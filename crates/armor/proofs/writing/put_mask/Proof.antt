@@ -12,29 +12,27 @@ use Rattle.armor.specs.Value.{field, following}
 use Rattle.armor.proofs.writing.put_mask.Statement.{statement}
 use Rattle.armor.proofs.writing.put_mask.Tie as tie
 
-array-share-prefix-bytes : tie.Need-array-share-prefix-bytes
+array-share-prefix-bytes : tie.Need-slice_bounds-bytes-end
 array-share-prefix-bytes c =
-    let m = c.before.before.mask-bytes in
+    let m = c.mask_bytes-m in
     let n : length m.result.bytes ≡ 9 = search rules in
-    omega (arith, m.ensures.0, length_mask_bytes c.before.before.before.before.before.args.mask)
+    omega (arith, m.ensures.0, length_mask_bytes c.args.mask)
 
-put-next-requires : tie.Need-put-next-requires
+put-next-requires : tie.Need-put_next-requires
 put-next-requires c κs =
     let start = c.before.before.before.before.before.before in
-    omega (arith, start.requires, ap length c.before.before.before.mask-bytes.ensures.1, length_mask_bytes start.args.mask)
+    omega (arith, start.requires, ap length c.mask_bytes-m.ensures.1, length_mask_bytes start.args.mask)
 
 returns : tie.Need-returns
 returns c =
     let start = c.before.before.before.before.before.before.before.before.before in
     let a = start.args in
-    let held = c.before.before.before.before.before.before.mask-bytes.ensures.1 in
-    let f = c.before.before.put_next in (
+    let held = c.mask_bytes-m.ensures.1 in
+    let f = c.put_next in (
       omega (arith, f.ensures.0, ap length held, length_mask_bytes a.mask),
       subst (λ (l : List ℕ). Laid a.out.now f.new.0 a.at f.result (following (field a.name.now l ∷ []))) held f.ensures.1,
     )
 
 pub put_mask_spec : {M : Type 1} → statement M
 put_mask_spec =
-    tie.close (tie.spec (λ c κs. search rules) array-share-prefix-bytes
-    (λ c. c.before.before.before.mask-bytes.ensures.0 ∙ sym (ap length c.before.before.before.mask-bytes.ensures.1)) put-next-requires
-    (λ c. search rules) returns)
+    tie.close (tie.spec (λ c κs. search rules) array-share-prefix-bytes (λ c. c.mask_bytes-m.ensures.0 ∙ sym (ap length c.mask_bytes-m.ensures.1)) put-next-requires (λ c. search rules) returns)

@@ -11,12 +11,12 @@ returns : tie.Need-returns
 returns c =
     let start = c.before.before.before.before.before.before.before.before.before.before.before.before in
     let a = start.args in
-    let put = c.before.before.before.before.before.before.put-at in
-    let f = c.before.before.put-field in (
+    let put = c.put_at-first in
+    let f = c.put_field in (
       omega (arith, f.ensures.0, put.ensures.ends),
       laid_next (field a.name.now a.content.now) put.ensures f.ensures.1 (omega (arith, start.requires, f.ensures.0, put.ensures.ends)),
     )
 
 pub put_next_spec : {M : Type 1} → statement M
 put_next_spec =
-    tie.close (tie.spec (λ c. search rules) (λ c κs. search rules) (λ c κs. search rules) (λ c. search rules) returns)
+    tie.close (tie.spec (λ c. search rules) (λ c. search rules) (λ c. search rules) returns)

@@ -12,35 +12,33 @@ use Rattle.armor.proofs.writing.put_number.Statement.{statement}
 use Rattle.armor.proofs.writing.put_number.Tie as tie
 
 -- a number has at most four bytes
-few : (c : tie.After-number-bytes) → c.number-bytes.result.len ≤ 4
+few : (c : tie.After-number_bytes-m) → c.number_bytes-m.result.len ≤ 4
 few c =
-    let m = c.number-bytes in
+    let m = c.number_bytes-m in
     let n : length m.result.bytes ≡ 4 = search rules in
     omega (arith, m.ensures.0, ap length m.ensures.1, length-take m.result.len m.result.bytes)
 
-array-share-prefix-bytes : tie.Need-array-share-prefix-bytes
+array-share-prefix-bytes : tie.Need-slice_bounds-bytes-end
 array-share-prefix-bytes c =
-    let n : length c.before.before.number-bytes.result.bytes ≡ 4 = search rules in
+    let n : length c.number_bytes-m.result.bytes ≡ 4 = search rules in
     omega (arith, few c.before.before)
 
-put-next-requires : tie.Need-put-next-requires
+put-next-requires : tie.Need-put_next-requires
 put-next-requires c κs =
     let start = c.before.before.before.before.before.before in
-    omega (arith, start.requires, c.before.before.before.number-bytes.ensures.0, ap length c.before.before.before.number-bytes.ensures.1, few c.before.before.before)
+    omega (arith, start.requires, c.number_bytes-m.ensures.0, ap length c.number_bytes-m.ensures.1, few c.before.before.before)
 
 returns : tie.Need-returns
 returns c =
     let start = c.before.before.before.before.before.before.before.before.before in
     let a = start.args in
     let made = c.before.before.before.before.before.before in
-    let held = made.number-bytes.ensures.1 in
-    let f = c.before.before.put_next in (
-      omega (arith, f.ensures.0, ap length held, made.number-bytes.ensures.0, few made),
+    let held = made.number_bytes-m.ensures.1 in
+    let f = c.put_next in (
+      omega (arith, f.ensures.0, ap length held, made.number_bytes-m.ensures.0, few made),
       subst (λ (l : List ℕ). Laid a.out.now f.new.0 a.at f.result (following (field a.name.now l ∷ []))) held f.ensures.1,
     )
 
 pub put_number_spec : {M : Type 1} → statement M
 put_number_spec =
-    tie.close (tie.spec (λ c κs. search rules) array-share-prefix-bytes
-    (λ c. c.before.before.before.number-bytes.ensures.0 ∙ sym (ap length c.before.before.before.number-bytes.ensures.1)) put-next-requires
-    (λ c. search rules) returns)
+    tie.close (tie.spec (λ c κs. search rules) array-share-prefix-bytes (λ c. c.number_bytes-m.ensures.0 ∙ sym (ap length c.number_bytes-m.ensures.1)) put-next-requires (λ c. search rules) returns)
