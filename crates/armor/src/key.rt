@@ -32,6 +32,7 @@ pub const EAH: usize = 10;
 pub const OTHER: usize = 11;
 
 // The place of a name among the keys.
+#[tactic(auto, unfolding(crate::specs::Keys::key_number, crate::specs::Keys::rank_of, crate::specs::Keys::keys, cells::specs::Text::codes))]
 pub fn key_number(name: &[u8]) -> usize
     ensures { result ≡ key_number name.now }
 {
@@ -57,6 +58,7 @@ pub fn key_number(name: &[u8]) -> usize
 }
 
 // The same for a name that is none of the first six.
+#[tactic(auto, unfolding(crate::specs::Keys::rank_of, crate::specs::Keys::keys, cells::specs::Text::codes))]
 fn later_key(name: &[u8]) -> usize
     ensures { result ≡ 6 + rank_of (drop 6 keys) name.now }
 {
@@ -136,6 +138,7 @@ fn is_mask(text: &[u8]) -> bool
 }
 
 // Whether a text encodes what the rule of key number key asks.
+#[tactic(auto, unfolding(crate::specs::Keys::rule_at, crate::specs::Keys::keys))]
 pub fn is_good(text: &[u8], key: usize) -> bool
     requires { key ≤ 11 }
     ensures { result ≡ text_obeys (rule_at key) text.now }
