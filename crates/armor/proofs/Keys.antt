@@ -2,14 +2,13 @@
 -- Assumes nothing.
 use mathlib.Core.Path.{◌≡◌, refl, ap, subst, ◌∙◌}
 use mathlib.Core.Logic.{◌↔◌}
-use mathlib.Core.Bool.{Bool, true, false, cond}
+use mathlib.Core.Bool.{true}
 use mathlib.Core.List.{List, [], ◌∷◌}
 use Prim.Native.Nat.{ℕ, zero, suc, ◌+◌, ◌<◌, ◌≤◌}
 use native.Mathlib.Nat.{not-suc-le-zero, le_of_suc-le-suc}
 use native.Mathlib.Omega.{arith}
 use lib.Dec.{eqb}
-use lib.ListN.{length, get_or, drop}
-use lib.Seq.{drop-cons}
+use lib.ListN.{length, get_or}
 use borrow.Author.Tests.{eqb-true, eqb-false}
 use Rattle.armor.specs.Keys.{free, Key, key, keys, rank_of, key_number, name_at, key_t, key_lt, key_n, key_h, key_ah, key_r, key_s, key_c, key_iv, key_tag, key_eah}
 use Rattle.cells.specs.Runs.{same}
@@ -61,18 +60,3 @@ pub key_names : name_at key_t ∷ name_at key_lt ∷ name_at key_n ∷ name_at k
     ≡ codes "t" ∷ codes "lt" ∷ codes "n" ∷ codes "h" ∷ codes "ah" ∷ codes "r" ∷ codes "s" ∷ codes "c" ∷ codes "iv" ∷ codes "tag" ∷ codes "eah" ∷ []
 unfolding name_at keys
 key_names = refl
-
--- a name that is none of the keys from m up to n goes by its place among those after them
-abbrev pub Past : ℕ → ℕ → List ℕ → Type 0
-Past m n x = m + rank_of (drop m keys) x ≡ n + rank_of (drop n keys) x
-
-module _ (m n : ℕ) (x : List ℕ) {r : Bool} (small : n < 11) (past : Past m n x) (test : r ≡ same x (name_at n)) where
-  ranked : m + rank_of (drop m keys) x ≡ n + cond r 0 (suc (rank_of (drop (suc n) keys) x))
-  unfolding name_at keys rank_of
-  ranked = past ∙ rw (drop-cons keys n (key "" free) small, test)
-
-  pub key_here : r ≡ true → n ≡ m + rank_of (drop m keys) x
-  key_here e = omega (arith, rw e at ranked)
-
-  pub key_later : r ≡ false → Past m (suc n) x
-  key_later e = omega (arith, rw e at ranked)

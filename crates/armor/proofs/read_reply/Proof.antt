@@ -3,7 +3,7 @@
 use mathlib.Core.Path.{sym, ◌∙◌}
 use mathlib.Core.Bool.{false≢true}
 use borrow.Author.Rules.{rules}
-use borrow.Author.Tests.{not-true, not-false}
+use borrow.Author.Tests.{not-false}
 use Rattle.armor.specs.InnerScan.{Sound}
 use Rattle.armor.proofs.Replies.{reply_breaks, reply_ready}
 use Rattle.armor.proofs.read_reply.Statement.{statement}
@@ -26,16 +26,16 @@ reply-good-requires c κs = sound c
 
 returns-2 : tie.Need-returns-then-not-reply_good
 returns-2 c =
-    record { is = sym (not-true _ c.if-not-reply_good.true) ∙ c.reply_good.ensures; holds = λ e. absurd (false≢true e) }
+    record { is = sym (c.if-not-reply_good.true) ∙ c.reply_good.ensures; holds = λ e. absurd (false≢true e) }
 
 reply-of-requires : tie.Need-reply_of-requires
 reply-of-requires c κs =
     let read = c.before.before in
-    reply_ready read.args.value.now _ (sound read) (sym c.reply_good.ensures ∙ not-false _ c.if-not-reply_good.false)
+    reply_ready read.args.value.now _ (sound read) (sym c.reply_good.ensures ∙ c.if-not-reply_good.false)
 
 returns-3 : tie.Need-returns
 returns-3 c =
-    record { is = sym (not-false _ c.if-not-reply_good.false) ∙ c.reply_good.ensures; holds = λ e. c.reply_of.ensures }
+    record { is = sym (c.if-not-reply_good.false) ∙ c.reply_good.ensures; holds = λ e. c.reply_of.ensures }
 
 pub read_reply_spec : {M : Type 1} → statement M
 read_reply_spec =

@@ -44,16 +44,16 @@ add-noted c =
     let v = c.args.value.now in
     let at = c.loop-at.at in
     let end = c.piece_end-end in
-    let key = c.key-1.given in
-    let within = c.read_piece.ensures.within key.0.0 key.0.1.0 key.1 in
+    let key = c.in-Field in
+    let within = c.read_piece.ensures.within key.key key.start key.is in
     record { fits = omega (arith, within.1, length-take (end.result - at) (drop at v), end.ensures.within, c.requires) }
 
 noted-requires : tie.Need-noted-seen-requires invariant-loop decreases-loop
 noted-requires c κs =
-    let key = c.key-1.given in
-    (c.read_piece.ensures.within key.0.0 key.0.1.0 key.1).0
+    let key = c.in-Field in
+    (c.read_piece.ensures.within key.key key.start key.is).0
 
-add_at : tie.Need-overflow_add-at invariant-loop decreases-loop
+add_at : tie.Need-overflow_add-at-in-loop-at invariant-loop decreases-loop
 add_at c = record { fits = omega (arith, c.piece_end-end.ensures.within, c.requires) }
 
 loop-less : tie.Need-loop-at-smaller invariant-loop decreases-loop
@@ -64,8 +64,8 @@ loop-again c =
     let v = c.args.value.now in
     let loop = c.loop-at in
     let end = c.piece_end-end in
-    let key = c.key-1.given in
-    let next = progress_more v loop.seen loop.at end.result loop.invariant.1 c.loop-at-test.true end.ensures key.0.0 key.0.1.0 (sym c.read_piece.ensures.is ∙ key.1) in
+    let key = c.in-Field in
+    let next = progress_more v loop.seen loop.at end.result loop.invariant.1 c.loop-at-test.true end.ensures key.key key.start (sym c.read_piece.ensures.is ∙ key.is) in
     (omega (arith, end.ensures.within), subst (λ (s : Seen). Progress v s (end.result + 1)) (sym c.noted-seen.ensures) next)
 
 returns-3 : tie.Need-returns invariant-loop decreases-loop

@@ -12,23 +12,20 @@ use Rattle.armor.proofs.writing.put_field.Statement.{statement}
 use Rattle.armor.proofs.writing.put_field.Tie as tie
 
 add-result : tie.Need-overflow_add-result
-add-result c =
-    let start = c.before.before.before.before.before.before.before.before.before.before.before.before.before.before.before.before in
-    omega (arith, start.requires, start.well_formed_lem, c.encode-len.ensures.0, length_encoded start.args.content.now)
+add-result c = omega (arith, c.requires, c.well_formed, c.encode-len.ensures.0, length_encoded c.args.content.now)
 
 returns : tie.Need-returns
 returns c =
-    let start = c.before.before.before.before.before.before.before.before.before.before.before.before.before.before.before.before in
-    let a = start.args in
+    let a = c.args in
     let one = c.put_at-colon in
     let two = c.put_at-text in
     let e = c.encode-len in
     let size = length_encoded a.content.now in (
       omega (arith, e.ensures.0, size, one.ensures.ends, two.ensures.ends),
       laid_field a.name.now a.content.now one.ensures two.ensures
-          (lent_rest two.new.0 (encoded a.content.now) two.result (length two.new.0) refl e.ensures.1)
+          (lent_rest two.new.out (encoded a.content.now) two.result (length two.new.out) refl e.ensures.1)
           e.ensures.0
-          (omega (arith, start.requires, e.ensures.0, size, one.ensures.ends, two.ensures.ends)),
+          (omega (arith, c.requires, e.ensures.0, size, one.ensures.ends, two.ensures.ends)),
     )
 
 pub put_field_spec : {M : Type 1} → statement M

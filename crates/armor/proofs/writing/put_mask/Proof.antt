@@ -20,17 +20,15 @@ array-share-prefix-bytes c =
 
 put-next-requires : tie.Need-put_next-requires
 put-next-requires c κs =
-    let start = c.before.before.before.before.before.before in
-    omega (arith, start.requires, ap length c.mask_bytes-m.ensures.1, length_mask_bytes start.args.mask)
+    omega (arith, c.requires, ap length c.mask_bytes-m.ensures.1, length_mask_bytes c.args.mask)
 
 returns : tie.Need-returns
 returns c =
-    let start = c.before.before.before.before.before.before.before.before.before in
-    let a = start.args in
+    let a = c.args in
     let held = c.mask_bytes-m.ensures.1 in
     let f = c.put_next in (
       omega (arith, f.ensures.0, ap length held, length_mask_bytes a.mask),
-      subst (λ (l : List ℕ). Laid a.out.now f.new.0 a.at f.result (following (field a.name.now l ∷ []))) held f.ensures.1,
+      subst (λ (l : List ℕ). Laid a.out.now f.new.out a.at f.result (following (field a.name.now l ∷ []))) held f.ensures.1,
     )
 
 pub put_mask_spec : {M : Type 1} → statement M

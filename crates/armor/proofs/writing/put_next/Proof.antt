@@ -9,12 +9,11 @@ use Rattle.armor.proofs.writing.put_next.Tie as tie
 
 returns : tie.Need-returns
 returns c =
-    let start = c.before.before.before.before.before.before.before.before.before.before.before.before in
-    let a = start.args in
+    let a = c.args in
     let put = c.put_at-first in
     let f = c.put_field in (
       omega (arith, f.ensures.0, put.ensures.ends),
-      laid_next (field a.name.now a.content.now) put.ensures f.ensures.1 (omega (arith, start.requires, f.ensures.0, put.ensures.ends)),
+      laid_next (field a.name.now a.content.now) put.ensures f.ensures.1 (omega (arith, c.requires, f.ensures.0, put.ensures.ends)),
     )
 
 pub put_next_spec : {M : Type 1} → statement M

@@ -25,18 +25,16 @@ array-share-prefix-bytes c =
 
 put-next-requires : tie.Need-put_next-requires
 put-next-requires c κs =
-    let start = c.before.before.before.before.before.before in
-    omega (arith, start.requires, c.number_bytes-m.ensures.0, ap length c.number_bytes-m.ensures.1, few c.before.before.before)
+    omega (arith, c.requires, c.number_bytes-m.ensures.0, ap length c.number_bytes-m.ensures.1, few c.before.before.before)
 
 returns : tie.Need-returns
 returns c =
-    let start = c.before.before.before.before.before.before.before.before.before in
-    let a = start.args in
+    let a = c.args in
     let made = c.before.before.before.before.before.before in
     let held = made.number_bytes-m.ensures.1 in
     let f = c.put_next in (
       omega (arith, f.ensures.0, ap length held, made.number_bytes-m.ensures.0, few made),
-      subst (λ (l : List ℕ). Laid a.out.now f.new.0 a.at f.result (following (field a.name.now l ∷ []))) held f.ensures.1,
+      subst (λ (l : List ℕ). Laid a.out.now f.new.out a.at f.result (following (field a.name.now l ∷ []))) held f.ensures.1,
     )
 
 pub put_number_spec : {M : Type 1} → statement M
