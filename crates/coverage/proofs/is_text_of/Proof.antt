@@ -12,21 +12,21 @@ use Rattle.armor.proofs.Texts.{front_taken}
 use Rattle.coverage.proofs.is_text_of.Statement.{statement}
 use Rattle.coverage.proofs.is_text_of.Tie as tie
 
-array-share-prefix-out : tie.Need-array-share-prefix-out
+array-share-prefix-out : tie.Need-slice_bounds-out-end
 array-share-prefix-out c =
-    let bytes = c.before.before.before.before.before.args.bytes.now in
-    omega (arith, length_encoded bytes, c.before.encode.ensures.0, c.before.before.before.before.before.requires, c.before.encode.auto.1)
+    let bytes = c.args.bytes.now in
+    omega (arith, length_encoded bytes, c.encode-len.ensures.0, c.requires, c.encode-len.auto.out)
 
-slice-aggregate-same : tie.Need-slice-aggregate-same
+slice-aggregate-same : tie.Need-slice_bounds-same-end
 slice-aggregate-same c =
-    let bytes = c.before.before.before.before.before.before.args.bytes.now in
-    let e = c.before.before.encode in
-    sym (length-take-le e.result e.new.1.0 (omega (arith, length_encoded bytes, e.ensures.0, c.before.before.before.before.before.before.requires, e.auto.1)))
+    let bytes = c.args.bytes.now in
+    let e = c.encode-len in
+    sym (length-take-le e.result e.new.out (omega (arith, length_encoded bytes, e.ensures.0, c.requires, e.auto.out)))
 
 returns : tie.Need-returns
 returns c =
     let start = c.before.before.before.before.before.before.before in
-    let e = c.before.before.before.encode in
+    let e = c.encode-len in
     c.same.ensures
     ∙ ap (same start.args.text.now) (front_taken (encoded start.args.bytes.now) (replicate 172 0) e.result e.ensures.1 e.ensures.0)
 
