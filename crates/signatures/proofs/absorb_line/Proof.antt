@@ -1,19 +1,14 @@
 -- `absorb_line` meets its contract: the line is taken in by its five pieces.
 -- Assumes nothing.
-use mathlib.Core.Path.{◌≡◌, sym, subst}
+use mathlib.Core.Path.{sym, subst}
 use mathlib.Core.List.{List, [], ◌∷◌}
-use Prim.Native.Nat.{ℕ, ◌+◌}
+use Prim.Native.Nat.{ℕ}
 use native.Mathlib.Omega.{arith}
-use lib.ListN.{length}
 use Rattle.sha_2.specs.InnerTaken.{TookIn}
 use Rattle.sha_2.proofs.Streaming.{took_in_turn}
-use Rattle.signatures.specs.Base.{component_line}
 use Rattle.signatures.proofs.Pieces.{line_pieces, line_size}
 use Rattle.signatures.proofs.absorb_line.Statement.{statement}
 use Rattle.signatures.proofs.absorb_line.Tie as tie
-
-size : (s : tie.Start) → length (component_line s.args.name.now s.args.value.now) ≡ length s.args.name.now + length s.args.value.now + 5
-size s = line_size s.args.name.now s.args.value.now s.requires.0
 
 returns : tie.Need-returns
 returns c =
@@ -25,5 +20,6 @@ returns c =
 
 pub absorb_line_spec : {M : Type 1} → statement M
 absorb_line_spec =
-    tie.close (tie.spec (λ c κs. omega (arith, size c.before.before.before.before)) (λ c κs. omega (arith, size c.before.before.before.before.before)) (λ c κs. omega (arith, size c.before.before.before.before.before.before.before.before))
-    (λ c κs. omega (arith, size c.before.before.before.before.before.before.before.before.before)) (λ c κs. omega (arith, size c.before.before.before.before.before.before.before.before.before.before.before.before)) returns)
+    tie.close (tie.spec (λ c κs. omega (arith, line_size c.args.name.now c.args.value.now c.requires.0)) (λ c κs. omega (arith, line_size c.args.name.now c.args.value.now c.requires.0))
+    (λ c κs. omega (arith, line_size c.args.name.now c.args.value.now c.requires.0)) (λ c κs. omega (arith, line_size c.args.name.now c.args.value.now c.requires.0))
+    (λ c κs. omega (arith, line_size c.args.name.now c.args.value.now c.requires.0)) returns)

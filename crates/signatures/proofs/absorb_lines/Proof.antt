@@ -90,7 +90,8 @@ loop-again c =
       at.put_value-value.auto.out ∙ loop.invariant.0,
       (components at).1,
       omega (arith, long at, loop.invariant.2, c.absorb_line-s.ensures.counted),
-      λ r p. loop.invariant.3 r (subst (λ (l : List ℕ). TookIn loop.s l r) (sym (line at)) (took_in_turn _ _ r (component_line (name at) (shown at)) (rest at) c.absorb_line-s.ensures p)),
+      λ r p. loop.invariant.3 r (subst (λ (l : List ℕ). TookIn loop.s l r) (sym (line at))
+          (took_in_turn _ _ r (component_line (name at) (shown at)) (rest at) c.absorb_line-s.ensures p)),
     )
 
 returns-2 : tie.Need-returns invariant-loop decreases-loop

@@ -2,9 +2,8 @@
 -- Assumes nothing.
 use mathlib.Core.Path.{sym, ap, subst}
 use mathlib.Core.List.{List, ◌++◌}
-use Prim.Native.Nat.{ℕ, ◌≤◌}
+use Prim.Native.Nat.{ℕ}
 use native.Mathlib.Omega.{arith}
-use lib.ListN.{length}
 use Rattle.cells.specs.Text.{codes}
 use Rattle.names.specs.Extra.{extra_names as listed}
 use Rattle.hashes.specs.declared.Hash.TheVariants.{Sha256}
@@ -21,9 +20,6 @@ use Rattle.signatures.proofs.code.Tie as tie
 abbrev message : tie.Start → Message
 message s = message_of s.args.method.now s.args.authority.now s.args.path.now s.args.block.now
 
-short : (s : tie.Start) → length (component_lines (message s) (listed s.args.names.now)) ≤ 16800000
-short s = base_short (message s) s.requires.0 s.args.names.now s.requires.1 s.requires.2
-
 returns : tie.Need-returns
 unfolding code_of base_with codes
 returns c =
@@ -39,6 +35,8 @@ returns c =
 
 pub code_spec : {M : Type 1} → statement M
 code_spec =
-    tie.close (tie.spec (λ c κs. omega (arith, c.requires.4)) (λ c κs. (c.requires.0, c.requires.2, omega (arith, short c.before.before.before.before.before.before.before.before)))
-    (λ c κs. omega (arith, short c.before.before.before.before.before.before.before.before.before.before.before)) (λ c κs. omega (arith, short c.before.before.before.before.before.before.before.before.before.before.before.before, c.requires.3))
-    (λ c κs. (omega (arith, c.requires.4), omega (arith, short c.before.before.before.before.before.before.before.before.before.before.before.before.before, c.requires.3))) returns)
+    tie.close (tie.spec (λ c κs. omega (arith, c.requires.4))
+    (λ c κs. (c.requires.0, c.requires.2, omega (arith, base_short _ c.requires.0 c.args.names.now c.requires.1 c.requires.2)))
+    (λ c κs. omega (arith, base_short _ c.requires.0 c.args.names.now c.requires.1 c.requires.2))
+    (λ c κs. omega (arith, base_short _ c.requires.0 c.args.names.now c.requires.1 c.requires.2, c.requires.3))
+    (λ c κs. (omega (arith, c.requires.4), omega (arith, base_short _ c.requires.0 c.args.names.now c.requires.1 c.requires.2, c.requires.3))) returns)

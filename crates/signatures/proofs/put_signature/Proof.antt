@@ -10,12 +10,14 @@ use Rattle.signatures.proofs.put_signature.Tie as tie
 
 -- what is laid after each piece
 first : (c : tie.After-put_at-end)
-    → Laying c.args.out.now c.put_at-end.new.out c.args.at c.put_at-end.result (signature_text c.args.label.now c.args.code.now) (equals ∷ colon ∷ (c.args.code.now ++ (colon ∷ [])))
+    → Laying c.args.out.now c.put_at-end.new.out c.args.at c.put_at-end.result (signature_text c.args.label.now c.args.code.now)
+    (equals ∷ colon ∷ (c.args.code.now ++ (colon ∷ [])))
 unfolding signature_text
 first c = laying_more (laying_none _ _ c.requires refl) refl c.put_at-end.ensures
 
 second : (c : tie.After-put_at-end-2)
-    → Laying c.args.out.now c.put_at-end-2.new.out c.args.at c.put_at-end-2.result (signature_text c.args.label.now c.args.code.now) (c.args.code.now ++ (colon ∷ []))
+    → Laying c.args.out.now c.put_at-end-2.new.out c.args.at c.put_at-end-2.result (signature_text c.args.label.now c.args.code.now)
+    (c.args.code.now ++ (colon ∷ []))
 second c = laying_more (first c.before.before.before.before.before.before) refl c.put_at-end-2.ensures
 
 third : (c : tie.After-put_at-end-3)
