@@ -20,6 +20,8 @@ returns c =
 
 pub absorb_line_spec : {M : Type 1} → statement M
 absorb_line_spec =
-    tie.close (tie.spec (λ c κs. omega (arith, line_size c.args.name.now c.args.value.now c.requires.0)) (λ c κs. omega (arith, line_size c.args.name.now c.args.value.now c.requires.0))
-    (λ c κs. omega (arith, line_size c.args.name.now c.args.value.now c.requires.0)) (λ c κs. omega (arith, line_size c.args.name.now c.args.value.now c.requires.0))
+    tie.close (tie.spec (λ c κs. omega (arith, line_size c.args.name.now c.args.value.now c.requires.0))
+    (λ c κs. omega (arith, line_size c.args.name.now c.args.value.now c.requires.0))
+    (λ c κs. omega (arith, line_size c.args.name.now c.args.value.now c.requires.0))
+    (λ c κs. omega (arith, line_size c.args.name.now c.args.value.now c.requires.0))
     (λ c κs. omega (arith, line_size c.args.name.now c.args.value.now c.requires.0)) returns)
