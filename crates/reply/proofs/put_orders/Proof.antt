@@ -15,21 +15,19 @@ use Rattle.reply.proofs.put_orders.Tie as tie
 returns : tie.Need-returns
 unfolding codes
 returns c =
-    let start = c.before.before.before.before.before.before.before.before.before.before.before.before.before.before.before.before.before in
-    let a = start.args in
-    let h = c.before.before.before.before.before.before.before.before.before.before.before.put-mask in
-    let ah = c.before.before.before.before.before.before.put-mask2 in
-    let eah = c.before.before.put-extra in
+    let a = c.args in
+    let h = c.put_mask-after_h in
+    let ah = c.put_mask-after_ah in
+    let eah = c.put_extra in
     let hash = field (codes "h") (mask_bytes (hash_mask a.hash)) in
     let mask = field (codes "ah") (mask_bytes a.mask) in (
       omega (arith, h.ensures.0, ah.ensures.0, eah.ensures.0),
       laid_following (hash ∷ mask ∷ []) (extra_field a.extra.now)
-          (laid_following (hash ∷ []) (mask ∷ []) (rw c.before.before.before.before.before.before.before.before.before.before.before.before.mask.ensures at h.ensures.1) ah.ensures.1 (omega (arith, start.requires, h.ensures.0, ah.ensures.0)))
+          (laid_following (hash ∷ []) (mask ∷ []) (rw c.mask.ensures at h.ensures.1) ah.ensures.1 (omega (arith, c.requires, h.ensures.0, ah.ensures.0)))
           eah.ensures.1
-          (omega (arith, start.requires, h.ensures.0, ah.ensures.0, eah.ensures.0)),
+          (omega (arith, c.requires, h.ensures.0, ah.ensures.0, eah.ensures.0)),
     )
 
 pub put_orders_spec : {M : Type 1} → statement M
 put_orders_spec =
-    tie.close (tie.spec (λ c. search rules) (λ c κs. search rules) (λ c κs. search rules) (λ c. search rules) (λ c κs. search rules) (λ c κs. search rules)
-    (λ c. search rules) returns)
+    tie.close (tie.spec (λ c. search rules) (λ c. search rules) (λ c. search rules) (λ c. search rules) (λ c. search rules) returns)

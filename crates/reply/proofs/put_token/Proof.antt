@@ -14,25 +14,23 @@ use Rattle.reply.proofs.put_token.Tie as tie
 returns : tie.Need-returns
 unfolding codes
 returns c =
-    let start = c.before.before.before.before.before.before.before.before.before.before.before.before.before.before.before.before.before.before.before.before.before.before.before.before.before in
-    let a = start.args in
-    let s = c.before.before.before.before.before.before.before.before.before.before.before.before.before.before.before.before.before.put-field in
-    let iv = c.before.before.before.before.before.before.before.before.before.before.before.before.put_next in
-    let tag = c.before.before.before.before.before.before.before.put-next2 in
-    let kh = c.before.before.put-next3 in
-    let three : tag.result ≤ 211 = omega (arith, start.requires, s.ensures.0, iv.ensures.0, tag.ensures.0) in
-    let four : kh.result ≤ 259 = omega (arith, start.requires, three, kh.ensures.0) in (
+    let a = c.args in
+    let s = c.put_field-after_s in
+    let iv = c.put_next-after_iv in
+    let tag = c.put_next-after_tag in
+    let kh = c.put_next in
+    let three : tag.result ≤ 211 = omega (arith, c.requires, s.ensures.0, iv.ensures.0, tag.ensures.0) in
+    let four : kh.result ≤ 259 = omega (arith, c.requires, three, kh.ensures.0) in (
       four,
       laid_more s.ensures.1
           (laid_following (field (codes "iv") a.iv.now ∷ field (codes "tag") a.tag.now ∷ []) (field (codes "kh") a.key.now ∷ [])
           (laid_following (field (codes "iv") a.iv.now ∷ []) (field (codes "tag") a.tag.now ∷ []) iv.ensures.1 tag.ensures.1
-          (omega (arith, start.requires, three, s.auto.0)))
+          (omega (arith, c.requires, three, s.auto)))
           kh.ensures.1
-          (omega (arith, start.requires, four, s.auto.0)))
-          (omega (arith, start.requires, four)),
+          (omega (arith, c.requires, four, s.auto)))
+          (omega (arith, c.requires, four)),
     )
 
 pub put_token_spec : {M : Type 1} → statement M
 put_token_spec =
-    tie.close (tie.spec (λ c. search rules) (λ c κs. search rules) (λ c. search rules) (λ c κs. search rules) (λ c. search rules)
-    (λ c κs. search rules) (λ c. search rules) (λ c κs. search rules) (λ c. search rules) returns)
+    tie.close (tie.spec (λ c. search rules) (λ c. search rules) (λ c. search rules) (λ c. search rules) (λ c. search rules) returns)

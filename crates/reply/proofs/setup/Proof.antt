@@ -11,13 +11,12 @@ use Rattle.reply.proofs.setup.Tie as tie
 
 returns : tie.Need-returns
 returns c =
-    let start = c.before.before.before.before.before.before.before.before.before.before.before.before.before.before in
-    let a = start.args in
-    let token = c.before.before.before.before.before.before.put-token in
-    let orders = c.before.before.put-orders in
+    let a = c.args in
+    let token = c.put_token-at in
+    let orders = c.put_orders in
     let laid =
     laid_setup a.s.now a.iv.now a.tag.now a.key.now a.hash a.mask a.extra.now token.ensures.1 orders.ensures.1
-    (omega (arith, start.requires, token.ensures.0, orders.ensures.0)) in
+    (omega (arith, c.requires, token.ensures.0, orders.ensures.0)) in
     (laid.ends ∙ zero-add _, laid.is ∙ spliced_front a.out.now _)
 
 pub setup_spec : {M : Type 1} → statement M

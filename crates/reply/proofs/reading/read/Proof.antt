@@ -8,21 +8,21 @@ use Rattle.reply.specs.LaidOut.{laid_out}
 use Rattle.reply.proofs.reading.read.Statement.{statement}
 use Rattle.reply.proofs.reading.read.Tie as tie
 
-returns : tie.Need-returns
+returns : tie.Need-returns-then-not-heard
 unfolding laid_out
 returns c =
-    let bad = not-true _ c.if1.true in
-    record { is = bad ∙ simp (sym c.before.before.read-reply.ensures.is ∙ bad); holds = λ e. absurd (false≢true (sym bad ∙ e)) }
+    let bad = not-true _ c.if-not-heard.true in
+    record { is = bad ∙ simp (sym c.read_reply-heard.ensures.is ∙ bad); holds = λ e. absurd (false≢true (sym bad ∙ e)) }
 
-is-written-requires : tie.Need-is-written-requires
-is-written-requires c κs = c.before.before.before.read-reply.ensures.holds (not-false _ c.before.if1.false)
+is-written-requires : tie.Need-is_written-requires
+is-written-requires c κs = c.read_reply-heard.ensures.holds (not-false _ c.if-not-heard.false)
 
-returns-2 : tie.Need-returns-2
+returns-2 : tie.Need-returns
 unfolding laid_out
 returns-2 c =
-    let heard = c.before.before.before.before.read-reply.ensures in
-    let good = not-false _ c.before.before.if1.false in
-    record { is = c.is-written.ensures ∙ simp (sym heard.is ∙ good); holds = λ e. heard.holds good }
+    let heard = c.read_reply-heard.ensures in
+    let good = not-false _ c.if-not-heard.false in
+    record { is = c.is_written.ensures ∙ simp (sym heard.is ∙ good); holds = λ e. heard.holds good }
 
 pub read_spec : {M : Type 1} → statement M
 read_spec = tie.close (tie.spec (λ c κs. search rules) returns is-written-requires returns-2)
