@@ -1,9 +1,11 @@
 // SHA-256, SHA-512, and HMAC over each. Above each function stand its kind and the words that it takes.
 ghost use Rattle.std.specs.Prelude.{◌+◌, ◌*◌, ◌≤◌, length};
 
-use crate::print;
+use crate::{large_buffer, print};
 use hashes::Hash;
 use sha_2::State;
+use std::io;
+use std::io::Write;
 
 // The digest of a message, at the front, by the call that is exported for the hash.
 fn digest(hash: Hash, message: &[u8]) -> [u8; 64] {
@@ -34,13 +36,13 @@ fn code(hash: Hash, key: &[u8], text: &[u8]) -> [u8; 64] {
 }
 
 // whole MESSAGE
-pub fn whole(hash: Hash, message: &[u8]) {
-    let out = digest(hash, message);
-    print(&out, hashes::size(hash));
+pub fn whole<W: Write>(out: &mut W, hash: Hash, message: &[u8]) -> io::Result<()> {
+    let digest = digest(hash, message);
+    print(out, &digest, hashes::size(hash))
 }
 
 // parts FIRST MESSAGE: the message is taken in by parts as long as the first
-pub fn parts(hash: Hash, first: &[u8], message: &[u8])
+pub fn parts<W: Write>(out: &mut W, hash: Hash, first: &[u8], message: &[u8]) -> io::Result<()>
     requires { length message.now ≤ 1000000 }
 {
     let size = first.len();
@@ -54,22 +56,22 @@ pub fn parts(hash: Hash, first: &[u8], message: &[u8])
     }
     let all = state.absorb(&message[at..]);
     let digest = all.finish();
-    print(&digest, hashes::size(hash));
+    print(out, &digest, hashes::size(hash))
 }
 
 // letters FIRST: a million letters a, by parts as long as the first
-pub fn letters(hash: Hash, first: &[u8]) {
+pub fn letters<W: Write>(out: &mut W, hash: Hash, first: &[u8]) -> io::Result<()> {
     let message = [b'a'; 1000000];
-    parts(hash, first, &message);
+    parts(out, hash, first, &message)
 }
 
 // monte SEEDS: a round of NIST's Monte Carlo test, SHAVS 6.4. It begins with three digests that are the seed; each of the
 // thousand that follow is that of the three before it.
-pub fn monte(hash: Hash, seeds: &[u8])
+pub fn monte<W: Write>(out: &mut W, hash: Hash, seeds: &[u8]) -> io::Result<()>
     requires { length seeds.now ≤ 49152 }
 {
     let size = hashes::size(hash);
-    let mut chain = io::large_buffer();
+    let mut chain = large_buffer();
     cells::put_front(&mut chain, seeds);
     let last = 1002 * size;
     let mut at = 3 * size;
@@ -78,7 +80,7 @@ pub fn monte(hash: Hash, seeds: &[u8])
         at += size;
     }
     of_three(hash, size, &mut chain, last, 0);
-    print(&chain, size);
+    print(out, &chain, size)
 }
 
 // The digest of the three digests before a place of the chain, put to another. A digest has size bytes.
@@ -90,7 +92,13 @@ fn of_three(hash: Hash, size: usize, chain: &mut [u8], at: usize, to: usize)
 }
 
 // hmac KEY TEXT, truncated KEY TEXT: the first bytes of the code
-pub fn hmac(hash: Hash, key: &[u8], text: &[u8], shown: usize) {
-    let out = code(hash, key, text);
-    print(&out, shown);
+pub fn hmac<W: Write>(
+    out: &mut W,
+    hash: Hash,
+    key: &[u8],
+    text: &[u8],
+    shown: usize,
+) -> io::Result<()> {
+    let code = code(hash, key, text);
+    print(out, &code, shown)
 }

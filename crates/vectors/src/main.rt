@@ -8,38 +8,63 @@ mod ciphers;
 mod digests;
 mod texts;
 
-ghost use Rattle.std.specs.Prelude.{◌≡◌, ◌+◌, ◌^◌, ◌≤◌, ◌<◌, length};
+ghost use Rattle.std.specs.Prelude.{◌≡◌, ◌≢◌, ℕ, ◌+◌, ◌^◌, ◌≤◌, ◌<◌, length, slice_index};
 
-use bytes::scan;
 use hashes::Hash;
-use libc::{STDIN_FILENO, STDOUT_FILENO};
+use std::io;
+use std::io::{BufWriter, Read, Write};
 
-fn main() {
-    let mut room = [0u8; 3145728];
-    let n = io::read_full(STDIN_FILENO, &mut room);
-    lines(&room, n);
+fn main(rt: HostRuntime) -> io::Result<()> {
+    let mut text = Vec::new(rt.alloc());
+    rt.stdin().read_to_end(&mut text)?;
+    let mut out = BufWriter::new(rt.alloc(), rt.stdout())?;
+    lines(&mut out, &text)?;
+    out.flush()
 }
 
-// Runs the lines of the first n bytes of text.
-fn lines(text: &[u8], n: usize)
-    requires { n ≤ length text.now }
-{
+// Runs the lines of text that end.
+fn lines<W: Write>(out: &mut W, text: &[u8]) -> io::Result<()> {
+    let n = text.len();
     let mut at = 0;
-    let mut end = scan::find(text, 0, n, b'\n');
+    let mut end = find(text, 0, n, b'\n');
     while end < n {
-        line(text, at, end);
+        line(out, text, at, end)?;
         at = end + 1;
-        end = scan::find(text, at, n, b'\n');
+        end = find(text, at, n, b'\n');
     }
+    Ok(())
 }
 
-fn line(text: &[u8], at: usize, end: usize)
+// Where the first b from byte from on stands, before byte to, or to.
+fn find(text: &[u8], from: usize, to: usize, b: u8) -> usize
+    requires { (from ≤ to) × (to ≤ length text.now) }
+    ensures ahead { from ≤ result }
+    ensures within { result ≤ to }
+    ensures before { (k : ℕ) → from ≤ k → k < result → slice_index text.now k ≢ b }
+    ensures found { result < to → slice_index text.now result ≡ b }
+{
+    for i in from..to {
+        if text[i] == b {
+            return i;
+        }
+    }
+    to
+}
+
+// 65,536 zeros.
+fn large_buffer() -> [u8; 65536]
+    ensures { length result ≡ 65536 }
+{
+    [0; 65536]
+}
+
+fn line<W: Write>(out: &mut W, text: &[u8], at: usize, end: usize) -> io::Result<()>
     requires { (at ≤ end) × (end < length text.now) }
 {
-    let mut bytes = io::large_buffer();
+    let mut bytes = large_buffer();
     let words = decoded(text, at, end, &mut bytes);
-    run(text[at], words, &bytes);
-    io::write_all(STDOUT_FILENO, b"\n");
+    run(out, text[at], words, &bytes)?;
+    out.write_all(b"\n")
 }
 
 // The place up to which a line is decoded, where its last four words start among its bytes, and where they end.
@@ -59,7 +84,7 @@ fn decoded(text: &[u8], from: usize, stop: usize, out: &mut [u8]) -> Words
     requires { (from ≤ stop) × (stop < length text.now) × (length out.old ≡ 65536) }
 {
     let mut words = Words {
-        at: scan::find(text, from, stop, b','),
+        at: find(text, from, stop, b','),
         first: 0,
         second: 0,
         third: 0,
@@ -109,7 +134,7 @@ fn digit(b: u8) -> u8
     (b % 16 + 9 * (b / 64)) % 16
 }
 
-fn run(kind: u8, words: Words, bytes: &[u8])
+fn run<W: Write>(out: &mut W, kind: u8, words: Words, bytes: &[u8]) -> io::Result<()>
     requires { length bytes.now ≡ 65536 }
 {
     let first = word(bytes, words.first, words.second);
@@ -117,24 +142,24 @@ fn run(kind: u8, words: Words, bytes: &[u8])
     let third = word(bytes, words.third, words.fourth);
     let fourth = word(bytes, words.fourth, words.end);
     match kind {
-        b'w' => digests::whole(Hash::Sha512, fourth),
-        b'W' => digests::whole(Hash::Sha256, fourth),
-        b'p' => digests::parts(Hash::Sha512, third, fourth),
-        b'P' => digests::parts(Hash::Sha256, third, fourth),
-        b'l' => digests::letters(Hash::Sha512, fourth),
-        b'L' => digests::letters(Hash::Sha256, fourth),
-        b'm' => digests::monte(Hash::Sha512, fourth),
-        b'M' => digests::monte(Hash::Sha256, fourth),
-        b'h' => digests::hmac(Hash::Sha512, third, fourth, 64),
-        b'H' => digests::hmac(Hash::Sha256, third, fourth, 32),
-        b't' => digests::hmac(Hash::Sha512, third, fourth, 16),
-        b'T' => digests::hmac(Hash::Sha256, third, fourth, 16),
-        b'a' => ciphers::aes(third, fourth),
-        b's' => ciphers::seal(second, third, fourth),
-        b'o' => ciphers::open(first, second, third, fourth),
-        b'e' => texts::encode(fourth),
-        b'd' => texts::decode(fourth),
-        _ => {}
+        b'w' => digests::whole(out, Hash::Sha512, fourth),
+        b'W' => digests::whole(out, Hash::Sha256, fourth),
+        b'p' => digests::parts(out, Hash::Sha512, third, fourth),
+        b'P' => digests::parts(out, Hash::Sha256, third, fourth),
+        b'l' => digests::letters(out, Hash::Sha512, fourth),
+        b'L' => digests::letters(out, Hash::Sha256, fourth),
+        b'm' => digests::monte(out, Hash::Sha512, fourth),
+        b'M' => digests::monte(out, Hash::Sha256, fourth),
+        b'h' => digests::hmac(out, Hash::Sha512, third, fourth, 64),
+        b'H' => digests::hmac(out, Hash::Sha256, third, fourth, 32),
+        b't' => digests::hmac(out, Hash::Sha512, third, fourth, 16),
+        b'T' => digests::hmac(out, Hash::Sha256, third, fourth, 16),
+        b'a' => ciphers::aes(out, third, fourth),
+        b's' => ciphers::seal(out, second, third, fourth),
+        b'o' => ciphers::open(out, first, second, third, fourth),
+        b'e' => texts::encode(out, fourth),
+        b'd' => texts::decode(out, fourth),
+        _ => Ok(()),
     }
 }
 
@@ -152,10 +177,9 @@ fn word(bytes: &[u8], from: usize, to: usize) -> &[u8]
 }
 
 // Prints the first n bytes of a run.
-fn print(run: &[u8], n: usize) {
-    let mut i = 0;
-    while i < n && i < run.len() {
-        io::print_hex(STDOUT_FILENO, run[i] as u64, 2);
-        i += 1;
+fn print<W: Write>(out: &mut W, run: &[u8], n: usize) -> io::Result<()> {
+    for b in run.iter().take(n) {
+        write!(out, "{b:02x}")?;
     }
+    Ok(())
 }
