@@ -39,4 +39,5 @@ returns-3 c =
 
 pub read_reply_spec : {M : Type 1} → statement M
 read_reply_spec =
-    tie.close (tie.spec (λ c κs. search rules) (λ c κs. search rules) returns reply-good-requires (λ c κs. search rules) returns-2 reply-of-requires returns-3)
+    tie.close (tie.spec (λ c κs. search rules) (λ c κs. search rules) returns reply-good-requires (λ c κs. search rules) returns-2
+    reply-of-requires returns-3)

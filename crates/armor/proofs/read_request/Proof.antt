@@ -47,4 +47,5 @@ returns-3 c =
 
 pub read_request_spec : {M : Type 1} → statement M
 read_request_spec =
-    tie.close (tie.spec (λ c κs. search rules) (λ c κs. search rules) returns (λ c κs. sound c) (λ c κs. search rules) returns-2 request-of-requires (λ c. search rules) returns-3)
+    tie.close (tie.spec (λ c κs. search rules) (λ c κs. search rules) returns (λ c κs. sound c) (λ c κs. search rules) returns-2
+    request-of-requires (λ c. search rules) returns-3)

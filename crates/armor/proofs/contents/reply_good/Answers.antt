@@ -23,4 +23,5 @@ size-requires-2 c =
 pub returns : goal.returns
 unfolding reply_holds
 returns c =
-    simp (c.size.ensures, c.size-2.ensures, sym (reply_times_lem c.args.value.now c.args.seen c.requires) ∙ sym c.reply_times_good.ensures ∙ c.if-not-reply_times_good.false)
+    let times = sym (reply_times_lem c.args.value.now c.args.seen c.requires) ∙ sym c.reply_times_good.ensures ∙ c.if-not-reply_times_good.false in
+    simp (c.size.ensures, c.size-2.ensures, times)

@@ -41,4 +41,5 @@ returns-2 c =
 
 pub find_spec : {M : Type 1} → statement M
 find_spec =
-    tie.close (tie.spec invariant-loop decreases-loop loop-holds (λ c. search rules) returns (λ c. search rules) (λ c. search rules) loop-again returns-2)
+    tie.close (tie.spec invariant-loop decreases-loop loop-holds (λ c. search rules) returns (λ c. search rules) (λ c. search rules) loop-again
+    returns-2)

@@ -26,6 +26,7 @@ is-good-requires c κs = omega (arith, c.key_number-key.ensures, key_number_with
 
 pub read_piece_spec : {M : Type 1} → statement M
 read_piece_spec =
-    tie.close (tie.spec (λ c κs. search rules) past-requires slice-aggregate-key-number (λ c κs. search rules) (λ c. search rules) (λ c. search rules) (λ c. search rules) is-good-requires (λ c. piece_read _ _ _ _ _ true c.find-colon.ensures c.past-start.ensures
+    tie.close (tie.spec (λ c κs. search rules) past-requires slice-aggregate-key-number (λ c κs. search rules) (λ c. search rules)
+    (λ c. search rules) (λ c. search rules) is-good-requires (λ c. piece_read _ _ _ _ _ true c.find-colon.ensures c.past-start.ensures
     c.key_number-key.ensures c.is_good.ensures c.if-good.true) (λ c. piece_read _ _ _ _ _ false c.find-colon.ensures c.past-start.ensures
     c.key_number-key.ensures c.is_good.ensures c.if-good.false))

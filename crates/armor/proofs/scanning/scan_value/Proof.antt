@@ -65,7 +65,8 @@ loop-again c =
     let loop = c.loop-at in
     let end = c.piece_end-end in
     let key = c.in-Field in
-    let next = progress_more v loop.seen loop.at end.result loop.invariant.1 c.loop-at-test.true end.ensures key.key key.start (sym c.read_piece.ensures.is ∙ key.is) in
+    let read = sym c.read_piece.ensures.is ∙ key.is in
+    let next = progress_more v loop.seen loop.at end.result loop.invariant.1 c.loop-at-test.true end.ensures key.key key.start read in
     (omega (arith, end.ensures.within), subst (λ (s : Seen). Progress v s (end.result + 1)) (sym c.noted-seen.ensures) next)
 
 returns-3 : tie.Need-returns invariant-loop decreases-loop
@@ -81,4 +82,6 @@ returns-3 c =
 
 pub scan_value_spec : {M : Type 1} → statement M
 scan_value_spec =
-    tie.close (tie.spec invariant-loop decreases-loop (λ c κs. search rules) returns loop-holds (λ c κs. search rules) (λ c. search rules) (λ c. search rules) (λ c. search rules) (λ c κs. search rules) (λ c. search rules) (λ c. search rules) returns-2 add-noted noted-requires add_at loop-less loop-again returns-3)
+    tie.close (tie.spec invariant-loop decreases-loop (λ c κs. search rules) returns loop-holds (λ c κs. search rules) (λ c. search rules)
+    (λ c. search rules) (λ c. search rules) (λ c κs. search rules) (λ c. search rules) (λ c. search rules) returns-2 add-noted noted-requires
+    add_at loop-less loop-again returns-3)

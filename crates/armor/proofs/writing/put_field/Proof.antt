@@ -30,4 +30,5 @@ returns c =
 
 pub put_field_spec : {M : Type 1} → statement M
 put_field_spec =
-    tie.close (tie.spec (λ c. search rules) (λ c. search rules) (λ c. search rules) (λ c. search rules) (λ c. search rules) (λ c. search rules) add-result (λ c. search rules) returns)
+    tie.close (tie.spec (λ c. search rules) (λ c. search rules) (λ c. search rules) (λ c. search rules) (λ c. search rules) (λ c. search rules)
+    add-result (λ c. search rules) returns)

@@ -39,4 +39,5 @@ returns c =
 
 pub put_number_spec : {M : Type 1} → statement M
 put_number_spec =
-    tie.close (tie.spec (λ c κs. search rules) array-share-prefix-bytes (λ c. c.number_bytes-m.ensures.0 ∙ sym (ap length c.number_bytes-m.ensures.1)) put-next-requires (λ c. search rules) returns)
+    tie.close (tie.spec (λ c κs. search rules) array-share-prefix-bytes
+    (λ c. c.number_bytes-m.ensures.0 ∙ sym (ap length c.number_bytes-m.ensures.1)) put-next-requires (λ c. search rules) returns)
