@@ -34,4 +34,5 @@ loop-again c =
 
 pub are_digits_spec : {M : Type 1} → statement M
 are_digits_spec =
-    tie.close (tie.spec invariant-loop decreases-loop (λ c. refl) (λ c. search rules) (λ c κs. search rules) returns (λ c. search rules) (λ c. search rules) loop-again (λ c. sym (c.loop-i.invariant ∙ all_past digit _ true c.loop-i.i c.loop-i-test.false)))
+    tie.close (tie.spec invariant-loop decreases-loop (λ c. refl) (λ c. search rules) (λ c κs. search rules) returns (λ c. search rules)
+    (λ c. search rules) loop-again (λ c. sym (c.loop-i.invariant ∙ all_past digit _ true c.loop-i.i c.loop-i-test.false)))

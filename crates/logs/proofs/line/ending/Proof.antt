@@ -18,4 +18,6 @@ returns-3 c =
 
 pub ending_spec : {M : Type 1} → statement M
 ending_spec =
-    tie.close (tie.spec (λ c. search rules) (λ c. ending_short c.args.line.now c.args.at c.if-line-at-lt5.true) (λ c. search rules) (λ c. search rules) (λ c. search rules) (λ c. search rules) (λ c. search rules) (λ c. search rules) (λ c κs. search rules) (λ c. search rules) (λ c. search rules) (λ c. search rules) (λ c. search rules) (λ c. search rules) (λ c κs. search rules) returns-2 returns-3)
+    tie.close (tie.spec (λ c. search rules) (λ c. ending_short c.args.line.now c.args.at c.if-line-at-lt5.true) (λ c. search rules)
+    (λ c. search rules) (λ c. search rules) (λ c. search rules) (λ c. search rules) (λ c. search rules) (λ c κs. search rules) (λ c. search rules)
+    (λ c. search rules) (λ c. search rules) (λ c. search rules) (λ c. search rules) (λ c κs. search rules) returns-2 returns-3)

@@ -8,4 +8,6 @@ use Rattle.logs.proofs.line.past_date.Tie as tie
 
 pub past_date_spec : {M : Type 1} → statement M
 past_date_spec =
-    tie.close (tie.spec (λ c κs. search rules) (λ c. date_none _ _ _ c.find-end.ensures c.if-end-line.true) (λ c. omega (arith, c.find-end.ensures.is)) (λ c. search rules) (λ c κs. omega (arith, c.find-end.ensures.within)) (λ c. date_past _ _ _ _ c.find-end.ensures (omega (arith, c.find-end.ensures.within)) c.past_space.ensures))
+    tie.close (tie.spec (λ c κs. search rules) (λ c. date_none _ _ _ c.find-end.ensures c.if-end-line.true)
+    (λ c. omega (arith, c.find-end.ensures.is)) (λ c. search rules) (λ c κs. omega (arith, c.find-end.ensures.within))
+    (λ c. date_past _ _ _ _ c.find-end.ensures (omega (arith, c.find-end.ensures.within)) c.past_space.ensures))

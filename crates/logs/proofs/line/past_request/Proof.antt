@@ -31,5 +31,8 @@ loop-again c =
 
 pub past_request_spec : {M : Type 1} → statement M
 past_request_spec =
-    tie.close (tie.spec invariant-loop decreases-loop (λ c. search rules) (λ c. (omega arith, omega arith, λ rest. refl)) (λ c. search rules) (λ c. search rules) (λ c. search rules) (λ c κs. search rules) (λ c. request_past _ _ _ _ c.loop-i.invariant.2 (search rules) (search rules) c.if-line-i-eq34.true c.past_space.ensures) (λ c. search rules) (λ c. search rules) (λ c. search rules)
+    tie.close (tie.spec invariant-loop decreases-loop (λ c. search rules) (λ c. (omega arith, omega arith, λ rest. refl)) (λ c. search rules)
+    (λ c. search rules) (λ c. search rules) (λ c κs. search rules)
+    (λ c. request_past _ _ _ _ c.loop-i.invariant.2 (search rules) (search rules) c.if-line-i-eq34.true c.past_space.ensures) (λ c. search rules)
+    (λ c. search rules) (λ c. search rules)
     loop-again (λ c. request_missing _ _ _ c.loop-i.invariant.2 c.loop-i-test.false))

@@ -21,4 +21,6 @@ returns-2 c = (
 
 pub status_spec : {M : Type 1} → statement M
 status_spec =
-    tie.close (tie.spec (λ c. (sym (under_none _ c.if-line-gt8192.true), omega arith)) (λ c κs. search rules) (λ c κs. c.past_word-ident.ensures.within) (λ c κs. c.past_word-user.ensures.within) (λ c κs. c.past_word-date.ensures.within) (λ c κs. (c.past_date-request.ensures.within, c.if-line-gt8192.false)) (λ c κs. c.past_request-status.ensures.within) returns-2)
+    tie.close (tie.spec (λ c. (sym (under_none _ c.if-line-gt8192.true), omega arith)) (λ c κs. search rules)
+    (λ c κs. c.past_word-ident.ensures.within) (λ c κs. c.past_word-user.ensures.within) (λ c κs. c.past_word-date.ensures.within)
+    (λ c κs. (c.past_date-request.ensures.within, c.if-line-gt8192.false)) (λ c κs. c.past_request-status.ensures.within) returns-2)

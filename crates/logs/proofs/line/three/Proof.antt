@@ -19,4 +19,6 @@ tested c =
 
 pub three_spec : {M : Type 1} → statement M
 three_spec =
-    tie.close (tie.spec (λ c κs. search rules) (λ c κs. search rules) (λ c. search rules) (λ c. search rules) (λ c. search rules) (λ c. search rules) (λ c. omega (arith, in_range _ _ _ (tested c.before ∙ c.if-a-is_digit.true))) (λ c. digits_told _ _ _ (tested c.before ∙ c.if-a-is_digit.true)) (λ c. no_digits _ _ _ (tested c.before ∙ c.if-a-is_digit.false)))
+    tie.close (tie.spec (λ c κs. search rules) (λ c κs. search rules) (λ c. search rules) (λ c. search rules) (λ c. search rules) (λ c. search rules)
+    (λ c. omega (arith, in_range _ _ _ (tested c.before ∙ c.if-a-is_digit.true))) (λ c. digits_told _ _ _ (tested c.before ∙ c.if-a-is_digit.true))
+    (λ c. no_digits _ _ _ (tested c.before ∙ c.if-a-is_digit.false)))

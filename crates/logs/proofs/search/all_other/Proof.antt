@@ -25,4 +25,5 @@ loop-again c =
 
 pub all_other_spec : {M : Type 1} → statement M
 all_other_spec =
-    tie.close (tie.spec invariant-loop decreases-loop (λ c. refl) (λ c. search rules) (λ c. search rules) (λ c. search rules) loop-again (λ c. sym (c.loop-i.invariant ∙ all_past (other _) _ c.loop-i.good c.loop-i.i c.loop-i-test.false)))
+    tie.close (tie.spec invariant-loop decreases-loop (λ c. refl) (λ c. search rules) (λ c. search rules) (λ c. search rules) loop-again
+    (λ c. sym (c.loop-i.invariant ∙ all_past (other _) _ c.loop-i.good c.loop-i.i c.loop-i-test.false)))

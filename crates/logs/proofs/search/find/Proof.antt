@@ -24,4 +24,5 @@ loop-again c = passed_more (other _) _ _ _ c.loop-i.invariant (search rules) (is
 
 pub find_spec : {M : Type 1} → statement M
 find_spec =
-    tie.close (tie.spec invariant-loop decreases-loop (λ c κs. search rules) (λ c. c.past_sixteens-i.ensures) (λ c. search rules) returns (λ c. search rules) (λ c. search rules) loop-again (λ c. passed_end (other _) _ _ _ c.loop-i.invariant c.loop-i-test.false))
+    tie.close (tie.spec invariant-loop decreases-loop (λ c κs. search rules) (λ c. c.past_sixteens-i.ensures) (λ c. search rules) returns
+    (λ c. search rules) (λ c. search rules) loop-again (λ c. passed_end (other _) _ _ _ c.loop-i.invariant c.loop-i-test.false))

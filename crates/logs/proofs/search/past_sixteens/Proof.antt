@@ -25,4 +25,6 @@ loop-again c =
 
 pub past_sixteens_spec : {M : Type 1} → statement M
 past_sixteens_spec =
-    tie.close (tie.spec invariant-loop decreases-loop (λ c. passed_none (other _) _ _ c.requires) (λ c. search rules) (λ c. search rules) (λ c. search rules) (λ c. search rules) (λ c. search rules) (λ c κs. search rules) (λ c. c.loop-i.invariant) (λ c. search rules) (λ c. search rules) loop-again (λ c. c.loop-i.invariant))
+    tie.close (tie.spec invariant-loop decreases-loop (λ c. passed_none (other _) _ _ c.requires) (λ c. search rules) (λ c. search rules)
+    (λ c. search rules) (λ c. search rules) (λ c. search rules) (λ c κs. search rules) (λ c. c.loop-i.invariant) (λ c. search rules)
+    (λ c. search rules) loop-again (λ c. c.loop-i.invariant))

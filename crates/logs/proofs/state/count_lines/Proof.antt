@@ -19,7 +19,8 @@ use Rattle.logs.proofs.state.count_lines.Tie as tie
 
 abbrev invariant-loop : tie.invariant-loop-end
 invariant-loop counts₀ part at₀ end₀ counts at end =
-    (at ≤ length part) × Spans (other LF) part at end × (counts ≡ counted_all counts₀ (lines (take at part))) × Ended (take at part) × (sum counts ≤ sum counts₀ + at)
+    (at ≤ length part) × Spans (other LF) part at end
+    × (counts ≡ counted_all counts₀ (lines (take at part))) × Ended (take at part) × (sum counts ≤ sum counts₀ + at)
 
 abbrev decreases-loop : tie.decreases-loop-end
 decreases-loop counts₀ part at₀ end₀ counts at end = length part - at
@@ -56,4 +57,6 @@ returns c = let inv = c.loop-end.invariant in record {
 
 pub count_lines_spec : {M : Type 1} → statement M
 count_lines_spec =
-    tie.close (tie.spec invariant-loop decreases-loop (λ c κs. search rules) loop-holds (λ c. omega (arith, c.loop-end.invariant.1.is)) (λ c. search rules) (λ c. search rules) (λ c κs. omega (arith, c.loop-end.invariant, c.loop-end.invariant.1.is)) (λ c. search rules) (λ c κs. search rules) (λ c. omega (arith, c.loop-end.invariant.1.is)) loop-again returns)
+    tie.close (tie.spec invariant-loop decreases-loop (λ c κs. search rules) loop-holds (λ c. omega (arith, c.loop-end.invariant.1.is))
+    (λ c. search rules) (λ c. search rules) (λ c κs. omega (arith, c.loop-end.invariant, c.loop-end.invariant.1.is)) (λ c. search rules)
+    (λ c κs. search rules) (λ c. omega (arith, c.loop-end.invariant.1.is)) loop-again returns)

@@ -26,33 +26,29 @@ loop-holds c = (omega arith, omega arith, omega arith, laid_none c.put_at-at.new
 loop-again : tie.Need-loop-s-preserved invariant-loop decreases-loop
 loop-again c =
     let loop = c.loop-s in
-    let head = c.before.before.before.before.before in
     let row = c.status_row-at.ensures in (
       omega arith,
       omega arith,
       omega arith,
-      laid_rows head.args.counts.now loop.s loop.invariant.0 loop.invariant.3 row.1
-          (omega (arith, row.0, loop.invariant, head.put_at-at.auto, head.put_at-arg-1.given)),
+      laid_rows c.args.counts.now loop.s loop.invariant.0 loop.invariant.3 row.1
+          (omega (arith, row.0, loop.invariant, c.put_at-at.auto, c.put_at-arg-1.given)),
     )
 
 row-requires-2 : tie.Need-row-requires invariant-loop decreases-loop
 row-requires-2 c κs =
-    let unread = c.before.before.before.before in
-    omega (arith, unread.row-after_unread.ensures.0, unread.loop-s.invariant)
+    omega (arith, c.row-after_unread.ensures.0, c.loop-s.invariant)
 
 returns : tie.Need-returns invariant-loop decreases-loop
 unfolding codes
 returns c =
     let total = c.row.ensures in
-    let after = c.before.before.before.before.before in
-    let unread = after.row-after_unread.ensures in
-    let end = after.before.before.before.before in
-    let loop = end.loop-s in
-    let head = end.before.before in
-    let last : loop.s ≡ 600 = omega (arith, loop.invariant, end.loop-s-test.false) in
-    laid_printed head.args.counts.now head.put_at-at.ensures (rw last at loop.invariant.3) unread.1
-    (rw c.sum.ensures at total.1) (omega (arith, loop.invariant, unread.0, total.0, head.put_at-arg-1.given))
+    let unread = c.row-after_unread.ensures in
+    let loop = c.loop-s in
+    let last : loop.s ≡ 600 = omega (arith, loop.invariant, c.loop-s-test.false) in
+    laid_printed c.args.counts.now c.put_at-at.ensures (rw last at loop.invariant.3) unread.1
+    (rw c.sum.ensures at total.1) (omega (arith, loop.invariant, unread.0, total.0, c.put_at-arg-1.given))
 
 pub print_spec : {M : Type 1} → statement M
 print_spec =
-    tie.close (tie.spec invariant-loop decreases-loop (λ c. search rules) loop-holds (λ c. search rules) (λ c. search rules) (λ c. search rules) (λ c. search rules) (λ c. search rules) loop-again (λ c. search rules) (λ c. search rules) (λ c. search rules) row-requires-2 returns)
+    tie.close (tie.spec invariant-loop decreases-loop (λ c. search rules) loop-holds (λ c. search rules) (λ c. search rules) (λ c. search rules)
+    (λ c. search rules) (λ c. search rules) loop-again (λ c. search rules) (λ c. search rules) (λ c. search rules) row-requires-2 returns)

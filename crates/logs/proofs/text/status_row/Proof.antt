@@ -33,4 +33,5 @@ returns-2 c =
 
 pub status_row_spec : {M : Type 1} → statement M
 status_row_spec =
-    tie.close (tie.spec returns (λ c κs. search rules) (λ c. search rules) (λ c. search rules) (λ c. search rules) row-requires (λ c. search rules) returns-2)
+    tie.close (tie.spec returns (λ c κs. search rules) (λ c. search rules) (λ c. search rules) (λ c. search rules) row-requires (λ c. search rules)
+    returns-2)

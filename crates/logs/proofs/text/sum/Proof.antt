@@ -25,4 +25,6 @@ first c = sum_from c.args.counts.now c.loop-i.i c.loop-i-test.true
 
 pub sum_spec : {M : Type 1} → statement M
 sum_spec =
-    tie.close (tie.spec invariant-loop decreases-loop (λ c. omega arith) (λ c. search rules) (λ c. search rules) (λ c. omega (arith, first c)) (λ c. search rules) (λ c. search rules) (λ c. omega (arith, first c)) (λ c. omega (arith, sum_past c.args.counts.now c.loop-i.i c.loop-i-test.false)))
+    tie.close (tie.spec invariant-loop decreases-loop (λ c. omega arith) (λ c. search rules) (λ c. search rules) (λ c. omega (arith, first c))
+    (λ c. search rules) (λ c. search rules) (λ c. omega (arith, first c))
+    (λ c. omega (arith, sum_past c.args.counts.now c.loop-i.i c.loop-i-test.false)))

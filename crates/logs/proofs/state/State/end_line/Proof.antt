@@ -35,4 +35,5 @@ returns-2 c =
 
 pub end_line_spec : {M : Type 1} → statement M
 end_line_spec =
-    tie.close (tie.spec within slice-aggregate-count (λ c κs. search rules) (λ c. search rules) (λ c. omega (arith, entry_within c.args.self.counts 0)) (λ c. search rules) returns returns-2)
+    tie.close (tie.spec within slice-aggregate-count (λ c κs. search rules) (λ c. search rules)
+    (λ c. omega (arith, entry_within c.args.self.counts 0)) (λ c. search rules) returns returns-2)

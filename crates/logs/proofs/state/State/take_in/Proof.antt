@@ -35,7 +35,13 @@ whole-requires c κs =
     let find = c.find-end in
     let ended = c.end_line-t.ensures in (
       ended.1,
-      rw (cut_rest part (find.result + 1)) (omega (arith, ended.0.most, c.keep-s.ensures.most, length-take-le find.result part find.ensures.within, length-drop (find.result + 1) part)),
+      rw (cut_rest part (find.result + 1)) (omega (
+        arith,
+        ended.0.most,
+        c.keep-s.ensures.most,
+        length-take-le find.result part find.ensures.within,
+        length-drop (find.result + 1) part,
+      )),
     )
 
 returns-2 : tie.Need-returns
@@ -48,11 +54,14 @@ returns-2 c =
     let ended = c.end_line-t in
     let more : end < length part = omega (arith, find.ensures.within) in
     subst (λ (text : List ℕ). TookIn args.self text c.whole.result)
-    (ap (λ (text : List ℕ). text ++ drop (end + 1) part) (sym (rw (sub-zero end) at (next_line part 0 end find.ensures more))) ∙ take-append-drop (end + 1) part)
+    (ap (λ (text : List ℕ). text ++ drop (end + 1) part) (sym (rw (sub-zero end) at (next_line part 0 end find.ensures more)))
+    ∙ take-append-drop (end + 1) part)
     (took_more args.self ended.result c.whole.result (take end part ++ LF ∷ []) (drop (end + 1) part)
     (took_more args.self kept.result ended.result (take end part) (LF ∷ []) kept.ensures ended.ensures.0)
     (rw (cut_rest part (end + 1)) at c.whole.ensures))
 
 pub take_in_spec : {M : Type 1} → statement M
 take_in_spec =
-    tie.close (tie.spec (λ c κs. search rules) (λ c. sym (length-take-le _ _ c.find-end.ensures.within)) (λ c κs. rw (sub-zero c.find-end.result) at (span_all (other LF) _ 0 _ c.find-end.ensures)) returns end-line-requires (λ c. search rules) (λ c. search rules) (λ c. search rules) (λ c. search rules) whole-requires returns-2)
+    tie.close (tie.spec (λ c κs. search rules) (λ c. sym (length-take-le _ _ c.find-end.ensures.within))
+    (λ c κs. rw (sub-zero c.find-end.result) at (span_all (other LF) _ 0 _ c.find-end.ensures)) returns end-line-requires (λ c. search rules)
+    (λ c. search rules) (λ c. search rules) (λ c. search rules) whole-requires returns-2)

@@ -22,13 +22,12 @@ keep-requires c κs =
 
 returns : tie.Need-returns
 returns c =
-    let start = c.before.before.before.before.before.before.before in
-    let self = start.args.self in
-    let part : List ℕ = start.args.part.now in
+    let self = c.args.self in
+    let part : List ℕ = c.args.part.now in
     let lines = c.count_lines-at in
     let at = lines.result in
     subst (λ (text : List ℕ). TookIn self text c.keep.result) (take-append-drop at part)
-    (took_more self _ c.keep.result (take at part) (drop at part) (took_lines self _ part at start.requires.0 start.requires.0 lines.ensures)
+    (took_more self _ c.keep.result (take at part) (drop at part) (took_lines self _ part at c.requires.0 c.requires.0 lines.ensures)
     (rw (cut_rest part at) at c.keep.ensures))
 
 pub whole_spec : {M : Type 1} → statement M
