@@ -20,25 +20,25 @@ refused : (q : Request) (run in_head in_aside : List ℕ) (r : Reading) (k : ℕ
 refused q run in_head in_aside r k e some f =
     record { is = e ∙ sym f; holds = λ z. absurd (omega arith); lies = λ z. absurd (omega arith); noted = λ z. absurd (omega arith) }
 
-returns : tie.Need-returns
+returns : tie.Need-returns-in-Grammar
 unfolding reading_part fields_of
 returns c _ _ _ _ _ =
-    let broken = grammar_broken _ (sym c.before.before.before.before.before.before.read-request.ensures.is ∙ c.before.enum_told.given.1) in
+    let broken = grammar_broken _ (sym c.read_request-heard.ensures.is ∙ c.in-Grammar.is) in
     refused _ _ _ _ _ 4 c.unread.ensures (omega arith) (simp broken)
 
-returns-2 : tie.Need-returns-2
+returns-2 : tie.Need-returns-in-Fields
 unfolding reading_part fields_of
 returns-2 c _ _ _ _ _ =
-    let wrong = fields_told _ false (sym c.before.before.before.before.before.before.read-request.ensures.is ∙ c.before.enum-told2.given.1) in
-    refused _ _ _ _ _ 5 c.unread2.ensures (omega arith) (simp (wrong.grammar, wrong.fields))
+    let wrong = fields_told _ false (sym c.read_request-heard.ensures.is ∙ c.in-Fields.is) in
+    refused _ _ _ _ _ 5 c.unread-in-Fields.ensures (omega arith) (simp (wrong.grammar, wrong.fields))
 
-returns-3 : tie.Need-returns-3
+returns-3 : tie.Need-returns-in-Good
 unfolding reading_part fields_of
 returns-3 c clock server_key path body reply =
-    let good = c.before.before.before.before.before.before.before.enum-told3.given.1 in
-    let told = c.before.before.before.before.before.before.before.before.before.before.before.before.read-request.ensures in
+    let good = c.in-Good.is in
+    let told = c.read_request-heard.ensures in
     let right = fields_told _ true (sym told.is ∙ good) in
-    let compared = c.before.before.before.before.compare.ensures clock server_key path body reply in
+    let compared = c.compare-compared.ensures clock server_key path body reply in
     record {
       is = compared.is ∙ sym (simp (right.grammar, right.fields));
       holds = λ z. told.holds good;
@@ -46,15 +46,16 @@ returns-3 c clock server_key path body reply =
       noted = compared.noted;
     }
 
-compare-requires : tie.Need-compare-requires
+compare-requires : tie.Need-compare-compared-requires
 compare-requires c κs =
-    let good = c.before.before.enum-told3.given.1 in
-    let told = c.before.before.before.before.before.before.before.read-request.ensures in
+    let good = c.in-Good.is in
+    let told = c.read_request-heard.ensures in
     let right = fields_told _ true (sym told.is ∙ good) in
-    let pre = c.before.before.before.before.before.before.before.before.before.before.before.before.before.before.before.before.before.before.requires in
+    let pre = c.requires in
     (pre.0, pre.1, right.fields, told.holds good, pre.3, pre.4, pre.6, pre.7)
 
 pub read_spec : {M : Type 1} → statement M
 read_spec =
-    tie.close (tie.spec (λ c κs. search rules) (λ c. search rules) (λ c κs. search rules) (λ c. search rules) (λ c κs. search rules) (λ c. search rules)
-    compare-requires (λ c. search rules) returns (λ c. search rules) returns-2 (λ c. search rules) (λ c. search rules) (λ c. search rules) returns-3)
+    tie.close (tie.spec (λ c κs. search rules) (λ c. search rules) (λ c κs. search rules) (λ c. search rules) (λ c κs. search rules)
+    (λ c. search rules) compare-requires (λ c. search rules) returns (λ c. search rules) returns-2 (λ c. search rules) (λ c. search rules)
+    (λ c. search rules) returns-3)

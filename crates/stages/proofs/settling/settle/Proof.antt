@@ -9,21 +9,21 @@ use Rattle.stages.proofs.Stages.{read_hash, settled_away, settled_here}
 use Rattle.stages.proofs.settling.settle.Statement.{statement}
 use Rattle.stages.proofs.settling.settle.Tie as tie
 
-returns : tie.Need-returns
+returns : tie.Need-returns-then-vouched-ne0
 returns c extra server_key value method head aside path body reply table h is holds l s =
-    let a = c.before.before.before.args in
+    let a = c.args in
     let q = request_of (orders a.numbers extra) a.clock.0 server_key value method head aside path body reply in
-    settled_away q table _ _ s _ _ is holds _ c.before.if1.true (rw (read_hash q h c.before.before.named.ensures) c.decided.ensures)
+    settled_away q table _ _ s _ _ is holds _ c.if-vouched-ne0.true (rw (read_hash q h c.named-hash.ensures) c.decided.ensures)
 
-returns-2 : tie.Need-returns-2
+returns-2 : tie.Need-returns
 unfolding nonce_of time_of last_time_of fields_of
 returns-2 c extra server_key value method head aside path body reply table h is holds l s =
-    let a = c.before.before.before.before.before.before.before.before.args in
+    let a = c.args in
     let q = request_of (orders a.numbers extra) a.clock.0 server_key value method head aside path body reply in
-    let named = read_hash q h c.before.before.before.before.before.before.before.named.ensures in
-    settled_here q table _ _ s _ _ is holds _ c.before.admit.result c.before.before.before.before.before.before.if1.false
-    (c.before.admit.ensures q table s (record { clock = refl; t = sym h.time; lt = sym h.last_time; within = sym l; hash = named; nonces = refl; n = sym h.nonce }))
-    (rw named c.decided2.ensures)
+    let named = read_hash q h c.named-hash.ensures in
+    settled_here q table _ _ s _ _ is holds _ c.admit-admitted.result c.if-vouched-ne0.false
+    (c.admit-admitted.ensures q table s (record { clock = refl; t = sym h.time; lt = sym h.last_time; within = sym l; hash = named; nonces = refl; n = sym h.nonce }))
+    (rw named c.decided-2.ensures)
 
 pub settle_spec : {M : Type 1} → statement M
 settle_spec =

@@ -9,8 +9,9 @@ use Rattle.stages.proofs.vouching.signs.Tie as tie
 
 returns : tie.Need-returns
 returns c clock server_key value reply h lies named =
-    c.same_code.ensures ∙ signed_by_lem (request_of _ clock server_key value _ _ _ _ _ reply) _ _ h lies _ _ named _ refl _ c.before.before.before.code.ensures
+    c.same_code.ensures ∙ signed_by_lem (request_of _ clock server_key value _ _ _ _ _ reply) _ _ h lies _ _ named _ refl _ c.code-code.ensures
 
 pub signs_spec : {M : Type 1} → statement M
 signs_spec =
-    tie.close (tie.spec (λ c κs. search rules) (λ c. search rules) (λ c. search rules) (λ c. search rules) (λ c. search rules) (λ c κs. search rules) returns)
+    tie.close (tie.spec (λ c κs. search rules) (λ c. search rules) (λ c. search rules) (λ c. search rules) (λ c. search rules)
+    (λ c κs. search rules) returns)
