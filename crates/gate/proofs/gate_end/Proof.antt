@@ -14,45 +14,38 @@ use Rattle.gate.proofs.Ending.{end_refused, end_indexed, end_missing, end_freed}
 use Rattle.gate.proofs.gate_end.Statement.{statement}
 use Rattle.gate.proofs.gate_end.Tie as tie
 
-abbrev start : tie.After-end-fits → tie.Start
-start c = c.before.before.before.before.before.before
+abbrev start : tie.After-end_fits-fits → tie.Start
+start c = c.before.before.before.before
 
-abbrev kept : tie.After-end-fits → State
+abbrev kept : tie.After-end_fits-fits → State
 kept c = holding (start c).args.table.now (start c).args.index.now
 
-fits : (c : tie.Else1) → end_fits (start c.before).args.iv.now (kept c.before) ≡ true
-fits c = sym c.before.end-fits.ensures ∙ not-false c.before.end-fits.result c.if1.false
+fits : (c : tie.Else-not-fits) → end_fits (start c.before).args.iv.now (kept c.before) ≡ true
+fits c = sym c.end_fits-fits.ensures ∙ c.if-not-fits.false
 
-number : (c : tie.After-state-number) → c.state-number.result ≡ first (state_checks (kept c.before.before.before.before))
-number c = c.state-number.ensures (not-false _ c.before.before.before.if1.false)
+number : (c : tie.After-state_number-number) → c.state_number-number.result ≡ first (state_checks (kept c.before.before.before.before))
+number c = c.state_number-number.ensures (c.if-not-fits.false)
 
-passed : (c : tie.Else2) → first (state_checks (kept c.before.before.before.before.before)) ≡ 0
-passed c = sym (number c.before) ∙ c.if2.false
+passed : (c : tie.Else-number-ne0) → first (state_checks (kept c.before.before.before.before.before)) ≡ 0
+passed c = sym (number c.before) ∙ c.if-number-ne0.false
 
-returns : tie.Need-returns
+returns : tie.Need-returns-then-not-fits
 unfolding ended end_checks
-returns c = simp (← c.before.end-fits.ensures, not-true c.before.end-fits.result c.if1.true)
+returns c = simp (← c.end_fits-fits.ensures, c.if-not-fits.true)
 
-returns-3 : tie.Need-returns-3
+returns-3 : tie.Need-returns-in_default
 returns-3 c =
-    let past = c.before.before.before.before.before in
-    end_missing _ _ (fits past.before.before.before.before) (passed past) (sym c.before.before.find.ensures.is ∙ c.enum-told2.given.1)
+    let past = c.before.before.before.before in
+    end_missing _ _ (fits past.before.before.before.before) (passed past) (sym c.find-place.ensures.is ∙ c.in_default.is)
 
-returns-4 : tie.Need-returns-4
+returns-4 : tie.Need-returns
 returns-4 c =
-    let found = c.before.before.before.before.before.before.before.before.before in
+    let found = c.before.before.before.before.before.before.before.before in
     let past = found.before.before.before in
-    let left = c.before.before.before.before.free.ensures in
-    end_freed _ _ (fits past.before.before.before.before) (passed past) _ (sym found.find.ensures.is) (ap nowhere c.before.before.before.before.before.before.before.enum_told.given.1) left.0 left.1
+    let left = c.free.ensures in
+    end_freed _ _ (fits past.before.before.before.before) (passed past) _ (sym found.find-place.ensures.is) (ap nowhere c.in-At.is) left.0 left.1
 
 pub gate_end_spec : {M : Type 1} → statement M
 gate_end_spec =
-    tie.close (tie.spec (λ c κs. search rules) (λ c. search rules) (λ c. search rules) returns
-    (λ c κs e. end_stated _ (kept c.before.before.before) (sym c.before.before.before.end-fits.ensures ∙ e))
-    (λ c. search rules) (λ c. search rules)
-    (λ c. end_refused _ _ (fits c.before.before.before.before) _ (number c.before) c.if2.true)
-    (λ c κs. let past = c.before.before in end_indexed _ _ (fits past.before.before.before.before) (passed past))
-    (λ c. search rules) (λ c. search rules) (λ c. search rules) (λ c. search rules) returns-3
-    (λ c κs. let past = c.before.before.before.before.before.before.before in
-    (c.before.before.before.before.find.ensures.within, (end_indexed _ _ (fits past.before.before.before.before) (passed past)).1))
-    (λ c. search rules) (λ c. search rules) returns-4)
+    tie.close (tie.spec (λ c κs. search rules) (λ c. search rules) (λ c. search rules) returns (λ c κs e. end_stated _ (kept c.before.before.before) (sym c.end_fits-fits.ensures ∙ e)) (λ c. search rules) (λ c. search rules) (λ c. end_refused _ _ (fits c.before.before.before.before) _ (number c.before) c.if-number-ne0.true) (λ c κs. let past = c.before.before in end_indexed _ _ (fits past.before.before.before.before) (passed past)) (λ c. search rules) (λ c. search rules) (λ c. search rules) (λ c. search rules) returns-3 (λ c κs. let past = c.before.before.before.before.before.before in
+    (c.find-place.ensures.within, (end_indexed _ _ (fits past.before.before.before.before) (passed past)).1)) (λ c. search rules) (λ c. search rules) returns-4)

@@ -11,31 +11,31 @@ use Rattle.gate.proofs.Numbers.{stated}
 use Rattle.gate.proofs.gate_index.Statement.{statement}
 use Rattle.gate.proofs.gate_index.Tie as tie
 
-returns : tie.Need-returns
+returns : tie.Need-returns-then-not-state_fits
 unfolding remade remake_checks
-returns c = simp (← c.before.state_fits_lem.ensures, not-true c.before.state_fits_lem.result c.if1.taken)
+returns c = simp (← c.state_fits.ensures, not-true c.state_fits.result c.if-not-state_fits.taken)
 
-returns-2 : tie.Need-returns-2
+returns-2 : tie.Need-returns-then-not-well_formed
 unfolding remade remake_checks
 returns-2 c =
-    let fits = c.before.before.before.state_fits_lem in
-    let formed = c.before.well_formed_lem in
-    simp (← fits.ensures, not-false fits.result c.before.before.if1.left, ← formed.ensures, not-true formed.result c.if2.taken)
+    let fits = c.state_fits in
+    let formed = c.well_formed-2 in
+    simp (← fits.ensures, not-false fits.result c.if-not-state_fits.left, ← formed.ensures, not-true formed.result c.if-not-well_formed.taken)
 
 make-requires : tie.Need-make-requires
 make-requires c κs =
-    let fits = c.before.before.before.before.state_fits_lem in
-    let formed = c.before.before.well_formed_lem in
-    let size = stated _ (sym fits.ensures ∙ not-false fits.result c.before.before.before.if1.left) in
-    (omega (arith, size.few), size.long, sym formed.ensures ∙ not-false formed.result c.before.if2.left)
+    let fits = c.state_fits in
+    let formed = c.well_formed-2 in
+    let size = stated _ (sym fits.ensures ∙ not-false fits.result c.if-not-state_fits.left) in
+    (omega (arith, size.few), size.long, sym formed.ensures ∙ not-false formed.result c.if-not-well_formed.left)
 
-returns-3 : tie.Need-returns-3
+returns-3 : tie.Need-returns
 unfolding remade remake_checks
 returns-3 c =
-    let fits = c.before.before.before.before.before.before.before.state_fits_lem in
-    let formed = c.before.before.before.before.before.well_formed_lem in
-    ap (outcome 0 []) (ap₂ holding refl c.before.before.make.ensures)
-    ∙ simp (← fits.ensures, not-false fits.result c.before.before.before.before.before.before.if1.left, ← formed.ensures, not-false formed.result c.before.before.before.before.if2.left)
+    let fits = c.state_fits in
+    let formed = c.well_formed-2 in
+    ap (outcome 0 []) (ap₂ holding refl c.make.ensures)
+    ∙ simp (← fits.ensures, not-false fits.result c.if-not-state_fits.left, ← formed.ensures, not-false formed.result c.if-not-well_formed.left)
 
 pub gate_index_spec : {M : Type 1} → statement M
 gate_index_spec =

@@ -14,18 +14,16 @@ asked c =
 
 answer-requires : tie.Need-answer-requires
 answer-requires c κs =
-    let decided = c.before.before.before.before.before.before.before.before.decide.ensures in
+    let decided = c.decide-decision.ensures in
     (decided_small _ _ _ decided, λ t. ((decided.knows t).id_fits, decided.room t))
 
 returns : tie.Need-returns
 returns c =
     let applied = c.before.before.before.before.before.before.before.before in
     let decided = applied.before.before.before in
-    c.before.before.answer.ensures _
-    ∙ rw applied.apply.ensures (applied_judged (asked decided.before.before.before.before.before.before.before.before.before.before.before.before.before.before.before.before.before) _ _ decided.decide.ensures)
+    c.answer.ensures _
+    ∙ rw applied.apply.ensures (applied_judged (asked decided.before.before.before.before.before.before.before.before.before.before.before.before.before.before) _ _ decided.decide-decision.ensures)
 
 pub gate_judge_spec : {M : Type 1} → statement M
 gate_judge_spec =
-    tie.close (tie.spec (λ c κs. search rules) (λ c. search rules) (λ c κs. search rules)
-    (λ c κs. let decided = c.before.before.decide.ensures in (decided.within, decided.indexed)) answer-requires
-    (λ c. search rules) (λ c. search rules) (λ c. search rules) returns)
+    tie.close (tie.spec (λ c κs. search rules) (λ c. search rules) (λ c κs. search rules) (λ c κs. let decided = c.decide-decision.ensures in (decided.within, decided.indexed)) answer-requires (λ c. search rules) (λ c. search rules) (λ c. search rules) returns)

@@ -177,7 +177,7 @@ module _ {M : Type 1} {𝓤 : Ura M} (𝓛 : Logic 𝓤) (at_mem : Memory → SP
       -- [what is kept; body; path; aside; head; method; value; key; extra; reply; true; the record; clock; session; idle; life; hashes; mask; the other tokens; the record's]
       move ! (9 ∷ 10 ∷ []) $ fjoin ! $ move ! (10 ∷ 18 ∷ 1 ∷ 17 ∷ 0 ∷ 2 ∷ 3 ∷ 4 ∷ 5 ∷ 6 ∷ 7 ∷ 8 ∷ 11 ∷ 12 ∷ 13 ∷ 14 ∷ 9 ∷ []) $ done !
 
-  goes_in : ent 𝓤 (sep 𝓤 (mean 𝓛 Passed) (mean 𝓛 (‵ ((T.the_row).own_val h (tval h ∷ []))))) ((Callee 𝓛 at_mem run).pre to)
+  goes_in : ent 𝓤 (sep 𝓤 (mean 𝓛 Passed) (mean 𝓛 (‵ ((T.the_row).own_val h (tval h ∷ []))))) ((Callee 𝓛 at_mem run).requires to)
   goes_in =
       qed 𝓛 (Passed ∷ ‵ ((T.the_row).own_val h (tval h ∷ [])) ∷ [])
       ∵ past ! $ split ! $ move ! (3 ∷ 0 ∷ []) $ fjoin ! $ over ! $ over ! $ over ! $ over ! $ over ! $ over ! $ over ! $ over ! $ over ! $ over ! $ over ! $ over ! $
@@ -259,7 +259,7 @@ module _ {M : Type 1} {𝓤 : Ura M} (𝓛 : Logic 𝓤) (at_mem : Memory → SP
           (and_then ! (load ! (from ! (stop !)) (look ! 7 refl)) (and_then ! (load ! (from ! (fld ! refl (stop !))) (look_in ! 13 (sub ! 1 refl (whole !)))) (no_more !))))
           (from ! (stop !)) (init ! 5 refl (tt, (tt, (record { fits = is_reply.0.1.0 }, tt)))) $
           owned ! T.the_row (Is T.the_row) (LL.makes T.the_type T'.the_plain 𝓛) h _ was $ move ! (48 ∷ 0 ∷ []) $
-          use2 𝓛 (raw ((Callee 𝓛 at_mem run).pre to)) goes_in $
+          use2 𝓛 (raw ((Callee 𝓛 at_mem run).requires to)) goes_in $
           -- [pre; the record's cell; what it owns; the open borrow; obs; auth; _20 6; _19 8; …; _0 46; what is kept]
           calls_at ! fm (Callee 𝓛 at_mem run) known to
           (and_then ! (load ! (from ! (stop !)) (look ! 44 refl))

@@ -18,11 +18,11 @@ asked b =
     let a = b.args in
     setup_of (orders_of a.mask a.hashes a.extra.now a.request_life a.idle a.session_life) a.clock a.server_key.now a.session_key.now a.iv.now a.session_id.now a.value.now a.reply.now
 
-abbrev entry : tie.After-known-told → tie.Start
-entry c = c.before.before.before.before.before.before.before.before.before.before.before.before.before.before.before.before.before.before
+abbrev entry : tie.In-At → tie.Start
+entry c = c.before.before.before.before.before.before.before.before.before.before.before.before.before
 
-chosen : (c : tie.After-known-told) → Starts (asked (entry c)) (holding (entry c).args.table.now (entry c).args.index.now) c.before.start.given.0.0 c.before.start.given.0.1.0 c.before.start.given.0.1.1.0.0
-chosen c = rw c.before.start.given.1 at c.before.before.before.decide.ensures
+chosen : (c : tie.In-At) → Starts (asked (entry c)) (holding (entry c).args.table.now (entry c).args.index.now) c.in-At.place c.in-At.hash c.in-At.expiry.0
+chosen c = rw c.in-At.is at c.decide-start.ensures
 
 apply-requires : tie.Need-apply-requires
 apply-requires c κs =
@@ -43,16 +43,15 @@ apply-requires c κs =
       start.new,
     )
 
-returns : tie.Need-returns
+returns : tie.Need-returns-in-At
 returns c =
     let applied = c.before.before.before.before.before.before in
     let known = applied.before.before.before.before in
     applied.apply.ensures ∙ starts _ _ _ _ _ (chosen known)
 
-returns-2 : tie.Need-returns-2
-returns-2 c = refuses _ _ _ (rw c.before.start2.given.1 at c.before.before.before.decide.ensures)
+returns-2 : tie.Need-returns-in-Refused
+returns-2 c = refuses _ _ _ (rw c.in-Refused.is at c.decide-start.ensures)
 
 pub gate_setup_spec : {M : Type 1} → statement M
 gate_setup_spec =
-    tie.close (tie.spec (λ c κs. search rules) (λ c. search rules) (λ c κs. search rules) (λ c. search rules) apply-requires (λ c. search rules)
-    (λ c. search rules) (λ c. search rules) (λ c. search rules) returns (λ c. search rules) (λ c. search rules) (λ c. search rules) returns-2)
+    tie.close (tie.spec (λ c κs. search rules) (λ c. search rules) (λ c κs. search rules) (λ c. search rules) apply-requires (λ c. search rules) (λ c. search rules) (λ c. search rules) (λ c. search rules) returns (λ c. search rules) (λ c. search rules) (λ c. search rules) returns-2)

@@ -9,31 +9,30 @@ use Rattle.gate.specs.Entry.{entry_checks}
 use Rattle.gate.proofs.entry.enter.Statement.{statement}
 use Rattle.gate.proofs.entry.enter.Tie as tie
 
-returns : tie.Need-returns
+returns : tie.Need-returns-then-not-fits
 unfolding entry_checks
 returns c s h = record {
-  is = c.refused.ensures ∙ sym (simp (not-true c.before.before.before.before.args.fits c.before.if1.true));
+  is = c.refused.ensures ∙ sym (simp (c.if-not-fits.true));
   limits = λ z. absurd (omega (arith, c.refused.ensures));
 }
 
-returns-2 : tie.Need-returns-2
+returns-2 : tie.Need-returns-in_default
 unfolding entry_checks
 returns-2 c s h =
-    let fits = not-false c.before.before.before.before.before.before.before.args.fits c.before.before.before.before.if1.false in
-    let bad = checked_bad _ (sym c.before.before.before.check.ensures ∙ c.before.enum_told.given.1) in
+    let fits = c.if-not-fits.false in
+    let bad = checked_bad _ (sym c.check.ensures ∙ c.in_default.is) in
     record {
-      is = c.refused2.ensures ∙ sym (simp (fits, bad));
-      limits = λ z. absurd (omega (arith, c.refused2.ensures));
+      is = c.refused-in_default.ensures ∙ sym (simp (fits, bad));
+      limits = λ z. absurd (omega (arith, c.refused-in_default.ensures));
     }
 
-returns-3 : tie.Need-returns-3
+returns-3 : tie.Need-returns
 unfolding entry_checks
 returns-3 c s h =
-    let fits = not-false c.before.before.before.before.before.before.before.args.fits c.before.before.before.before.if1.false in
-    let good = checked_good _ _ (sym c.before.before.before.check.ensures ∙ c.before.limits.given.1) in
+    let fits = c.if-not-fits.false in
+    let good = checked_good _ _ (sym c.check.ensures ∙ c.in-Good.is) in
     record { is = h fits ∙ sym (simp (fits, good.0)); limits = λ z. good.1 }
 
 pub enter_spec : {M : Type 1} → statement M
 enter_spec =
-    tie.close (tie.spec (λ c κs. search rules) returns (λ c κs. search rules) (λ c. search rules) (λ c. search rules) (λ c κs. search rules) returns-2
-    returns-3)
+    tie.close (tie.spec (λ c κs. search rules) returns (λ c κs. search rules) (λ c. search rules) (λ c. search rules) (λ c κs. search rules) returns-2 returns-3)

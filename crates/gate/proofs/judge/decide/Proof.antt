@@ -32,103 +32,98 @@ asked c =
 abbrev lent : tie.Start → State
 lent c = holding c.args.table.now c.args.index.now
 
-abbrev begun : tie.After-enter → tie.Start
+abbrev begun : tie.After-enter-entry → tie.Start
 begun c = c.before.before.before.before.before.before.before.before.before.before.before.before.before.before.before
 
 -- checks 1, 2, 3 and 22
-entry : (c : tie.After-enter) → Enters (request_fits (asked (begun c)) (lent (begun c))) (asked (begun c)).orders (lent (begun c)) c.enter.result
+entry : (c : tie.After-enter-entry) → Enters (request_fits (asked (begun c)) (lent (begun c))) (asked (begun c)).orders (lent (begun c)) c.enter-entry.result
 entry c =
-    subst (λ (b : Bool). Enters b (asked (begun c)).orders (lent (begun c)) c.enter.result)
-    (c.before.before.request-fits.ensures _ _)
-    (c.enter.ensures (lent (begun c)) c.before.state-number.ensures)
+    subst (λ (b : Bool). Enters b (asked (begun c)).orders (lent (begun c)) c.enter-entry.result)
+    (c.request_fits-fits.ensures _ _)
+    (c.enter-entry.ensures (lent (begun c)) c.state_number-number.ensures)
 
-state-number-requires : tie.Need-state-number-requires
+state-number-requires : tie.Need-state_number-number-requires
 state-number-requires c κs e =
     let start = c.before.before.before.before.before.before.before.before.before.before.before.before.before in
-    request_stated (asked start) (lent start) (sym (c.request-fits.ensures _ _) ∙ e)
+    request_stated (asked start) (lent start) (sym (c.request_fits-fits.ensures _ _) ∙ e)
 
-returns : tie.Need-returns
+returns : tie.Need-returns-then-entry-ne0
 unfolding entry_part
-returns c = unentered (asked (begun c.before.before.before)) (lent (begun c.before.before.before)) _ _ c.refused.ensures (entry c.before.before.before).is c.before.if1.true
+returns c = unentered (asked (begun c.before.before.before)) (lent (begun c.before.before.before)) _ _ c.refused.ensures (entry c.before.before.before).is c.if-entry-ne0.true
 
-passed : (c : tie.Else1) → first (entry_part (asked (begun c.before.before)) (lent (begun c.before.before))) ≡ 0
+passed : (c : tie.Else-entry-ne0) → first (entry_part (asked (begun c.before.before)) (lent (begun c.before.before))) ≡ 0
 unfolding entry_part
-passed c = sym (entry c.before.before).is ∙ c.if1.false
+passed c = sym (entry c.before.before).is ∙ c.if-entry-ne0.false
 
-entered : (c : tie.Else1) → Entered (request_fits (asked (begun c.before.before)) (lent (begun c.before.before))) (asked (begun c.before.before)).orders (lent (begun c.before.before))
+entered : (c : tie.Else-entry-ne0) → Entered (request_fits (asked (begun c.before.before)) (lent (begun c.before.before))) (asked (begun c.before.before)).orders (lent (begun c.before.before))
 unfolding entry_part
 entered c = entry_passed _ _ _ (passed c)
 
 -- where the value has been read: the checks before, and what is told of one that was read
-abbrev gone-in : tie.After-read → tie.Else1
-gone-in c = c.before.before.before.before
+abbrev gone_in : tie.After-read-read → tie.Else-entry-ne0
+gone_in c = c.before.before.before.before
 
-abbrev start : tie.After-read → tie.Start
+abbrev start : tie.After-read-read → tie.Start
 start c = begun c.before.before.before.before.before.before
 
-read-requires : tie.Need-read-requires
+read-requires : tie.Need-read-read-requires
 read-requires c κs =
     let s = begun c.before.before.before.before.before in
     let size = sized (asked s) _ (entered c.before.before.before).sizes in
-    (s.pre, good_extra_lem _ (entered c.before.before.before).orders, size.brings.value, size.brings.head, size.brings.aside, search rules, search rules, search rules)
+    (s.requires, good_extra_lem _ (entered c.before.before.before).orders, size.brings.value, size.brings.head, size.brings.aside, search rules, search rules, search rules)
 
-returns-2 : tie.Need-returns-2
+returns-2 : tie.Need-returns-then-read-ne0
 returns-2 c =
     let read = c.before.before.before.before.before.before in
-    unread (asked (start read)) (lent (start read)) _ read.read.result.number (passed (gone-in read)) c.refused2.ensures (read.read.ensures _ _ _ _ _).is c.before.if2.true
+    unread (asked (start read)) (lent (start read)) _ read.read-read.result.number (passed (gone_in read)) c.refused-then-read-ne0.ensures (read.read-read.ensures _ _ _ _ _).is c.if-read-ne0.true
 
-unseal-requires : tie.Need-unseal-requires
+unseal-requires : tie.Need-unseal-opened-requires
 unseal-requires c κs =
     let read = c.before.before.before.before.before.before.before in
-    let held = (read.read.ensures 0 [] [] [] []).holds c.before.before.if2.false in
-    ((sized (asked (start read)) _ (entered (gone-in read)).sizes).key, held.token_fits, omega (arith, read.read.auto))
+    let held = (read.read-read.ensures 0 [] [] [] []).holds c.if-read-ne0.false in
+    ((sized (asked (start read)) _ (entered (gone_in read)).sizes).key, held.token_fits, omega (arith, read.read-read.auto))
 
-find-requires : tie.Need-find-requires
-find-requires c κs = (search rules, found_indexed _ _ (entered (gone-in c.before.before.before.before.before.before.before.before.before.before)))
+find-requires : tie.Need-find-place-requires
+find-requires c κs = (search rules, found_indexed _ _ (entered (gone_in c.before.before.before.before.before.before.before.before.before.before)))
 
 -- the session's place, and what its record holds
-stands : (c : tie.After-held-at) → StandsAt (asked (start c.before.before.before.before.before.before.before.before.before.before.before.before)) (lent (start c.before.before.before.before.before.before.before.before.before.before.before.before)).table c.before.find.result c.held_at.result
+stands : (c : tie.After-held_at-held) → StandsAt (asked (start c.before.before.before.before.before.before.before.before.before.before.before.before)) (lent (start c.before.before.before.before.before.before.before.before.before.before.before.before)).table c.find-place.result c.held_at-held.result
 unfolding iv_of fields_of
 stands c =
     let q = asked (start c.before.before.before.before.before.before.before.before.before.before.before.before) in
-    let lies = (c.before.before.before.before.before.before.before.before.before.before.before.before.read.ensures q.clock q.server_key q.path q.body q.reply).lies c.before.before.before.before.before.before.before.if2.false in
-    record { at = rw (← lies.vector) (sym c.before.find.ensures.is); holds = λ there. sym c.held_at.ensures }
+    let lies = (c.read-read.ensures q.clock q.server_key q.path q.body q.reply).lies c.if-read-ne0.false in
+    record { at = rw (← lies.vector) (sym c.find-place.ensures.is); holds = λ there. sym c.held_at-held.ensures }
 
 -- there are as many notes as names
-within : (c : tie.After-held-at) → let read = c.before.before.before.before.before.before.before.before.before.before.before.before.read in (read.result.covered ≤ length read.new.1.1.1.1.1.1.1.1.0) × (read.result.covered ≤ length read.new.1.1.1.1.1.1.1.1.1.0)
+within : (c : tie.After-held_at-held) → let read = c.read-read in (read.result.covered ≤ length read.new.1.1.1.1.1.1.1.1.0) × (read.result.covered ≤ length read.new.1.1.1.1.1.1.1.1.1.0)
 within c =
-    let read = c.before.before.before.before.before.before.before.before.before.before.before.before.read in
-    let fits = ((read.ensures 0 [] [] [] []).noted c.before.before.before.before.before.before.before.if2.false).fits in
+    let read = c.read-read in
+    let fits = ((read.ensures 0 [] [] [] []).noted c.if-read-ne0.false).fits in
     (omega (arith, fits, read.auto), omega (arith, fits, read.auto))
 
-vouch-requires : tie.Need-vouch-requires
+vouch-requires : tie.Need-vouch-vouched-requires
 vouch-requires c κs =
     let read = c.before.before.before.before.before.before.before.before.before.before.before.before.before.before.before in
-    let size = sized (asked (start read)) _ (entered (gone-in read)).sizes in
-    let told = read.read.ensures 0 [] [] [] [] in
-    let held = told.holds c.before.before.before.before.before.before.before.before.before.before.if2.false in
-    (good_extra_lem _ (entered (gone-in read)).orders, held.signature_fits, omega (arith, read.read.auto), size.brings.method, size.brings.head, size.brings.aside, size.brings.path, size.brings.body, (told.noted c.before.before.before.before.before.before.before.before.before.before.if2.false).notes)
+    let size = sized (asked (start read)) _ (entered (gone_in read)).sizes in
+    let told = read.read-read.ensures 0 [] [] [] [] in
+    let held = told.holds c.if-read-ne0.false in
+    (good_extra_lem _ (entered (gone_in read)).orders, held.signature_fits, omega (arith, read.read-read.auto), size.brings.method, size.brings.head, size.brings.aside, size.brings.path, size.brings.body, (told.noted c.if-read-ne0.false).notes)
 
-returns-3 : tie.Need-returns-3
+returns-3 : tie.Need-returns
 unfolding iv_of fields_of limits
 returns-3 c =
     let read = c.before.before.before.before.before.before.before.before.before.before.before.before.before.before.before.before.before.before.before in
     let q = asked (start read) in
-    let told = read.read.ensures q.clock q.server_key q.path q.body q.reply in
-    let good = c.before.before.before.before.before.before.before.before.before.before.before.before.before.before.if2.false in
-    let find = c.before.before.before.before.before.before.before.before.find.ensures in
-    let opens = c.before.before.before.before.before.before.before.before.before.before.before.unseal.ensures q.orders q.value q.method q.head q.aside q.path q.body q.reply (told.holds good) (told.lies good) in
-    let vouched = c.before.before.before.vouch.ensures q.clock q.server_key q.value q.reply (told.holds good) (told.lies good) opens in
-    decided_by q (lent (start read)) _ (passed (gone-in read)) (sym told.is ∙ good) (sized q _ (entered (gone-in read)).sizes).reply
-    (rw (← (told.lies good).vector, ← find.is) find.within) (found_indexed q _ (entered (gone-in read)))
+    let told = read.read-read.ensures q.clock q.server_key q.path q.body q.reply in
+    let good = c.if-read-ne0.false in
+    let find = c.find-place.ensures in
+    let opens = c.unseal-opened.ensures q.orders q.value q.method q.head q.aside q.path q.body q.reply (told.holds good) (told.lies good) in
+    let vouched = c.vouch-vouched.ensures q.clock q.server_key q.value q.reply (told.holds good) (told.lies good) opens in
+    decided_by q (lent (start read)) _ (passed (gone_in read)) (sym told.is ∙ good) (sized q _ (entered (gone_in read)).sizes).reply
+    (rw (← (told.lies good).vector, ← find.is) find.within) (found_indexed q _ (entered (gone_in read)))
     (c.settle.ensures q.orders.extra q.server_key q.value q.method q.head q.aside q.path q.body q.reply _ (told.holds good) vouched (token_there q _ opens _ vouched)
-    ((entry read.before.before.before.before.before.before).limits (gone-in read).if1.false) (stands c.before.before.before.before.before.before.before))
+    ((entry read.before.before.before.before.before.before).limits (gone_in read).if1.false) (stands c.before.before.before.before.before.before.before))
 
 pub decide_spec : {M : Type 1} → statement M
 decide_spec =
-    tie.close (tie.spec (λ c κs. search rules) state-number-requires (λ c κs. search rules) (λ c κs. search rules) returns (λ c. search rules)
-    (λ c. search rules) (λ c. search rules) read-requires (λ c κs. search rules) returns-2 (λ c. search rules) unseal-requires (λ c. search rules) (λ c. search rules) (λ c. search rules)
-    find-requires (λ c κs. c.find.ensures.within) (λ c. search rules)
-    (λ c. (within c.before).0) (λ c. sym (length-take-le _ _ (within c.before.before).0))
-    (λ c. (within c.before.before).1) (λ c. sym (length-take-le _ _ (within c.before.before.before).1))
-    vouch-requires (λ c κs. search rules) returns-3)
+    tie.close (tie.spec (λ c κs. search rules) state-number-requires (λ c κs. search rules) (λ c κs. search rules) returns (λ c. search rules) (λ c. search rules) (λ c. search rules) read-requires (λ c κs. search rules) returns-2 (λ c. search rules) unseal-requires (λ c. search rules) (λ c. search rules) (λ c. search rules) find-requires (λ c κs. c.find-place.ensures.within) (λ c. search rules) (λ c. (within c.before).0) (λ c. sym (length-take-le _ _ (within c.before.before).0)) (λ c. (within c.before.before).1) (λ c. sym (length-take-le _ _ (within c.before.before.before).1)) vouch-requires (λ c κs. search rules) returns-3)

@@ -36,27 +36,27 @@ next_fits : (c : tie.Start) → Fits c.args.next
 next_fits c =
     record { used = search rules; iv = search rules; expiry = search rules; any = search rules; highest = search rules; bits = search rules; hash = search rules }
 
-returns : tie.Need-returns
-returns c = sym (rw c.enum-told2.given.1 (state_nowhere _ _ _ _))
+returns : tie.Need-returns-in_default
+returns c = sym (rw c.in_default.is (state_nowhere _ _ _ _))
 
-returns-2 : tie.Need-returns-2
+returns-2 : tie.Need-returns-then-number-nonces
 returns-2 c =
-    let s = c.before.before.before in
-    let there = ap nowhere c.before.enum_told.given.1 in
-    let test = both (eqb s.args.number 0) s.args.nonces c.if1.true in
+    let s = c.before.before in
+    let there = ap nowhere c.in-At.is in
+    let test = both (eqb s.args.number 0) s.args.nonces c.if-number-nonces.true in
     let kept = s.requires.1 there (eqb-true _ _ test.0) test.1 in
     ap₂ holding (stored s.args.place s.args.«record» s.args.next s.requires.0 there (fits s).iv (next_fits s).iv) (one_index _ _ (fits s) (next_fits s) kept.0 kept.1)
-    ∙ sym (state_stepped _ _ _ _ _ c.if1.true)
+    ∙ sym (state_stepped _ _ _ _ _ c.if-number-nonces.true)
 
-returns-3 : tie.Need-returns-3
+returns-3 : tie.Need-returns-then-invalidates
 returns-3 c =
-    let s = c.before.before.before.before.before.before in
+    let s = c.before.before.before.before.before in
     ap indexed (ap record_bytes c.freed.ensures
-    ∙ stored s.args.place s.args.«record» freed s.requires.0 (ap nowhere c.before.before.before.before.enum_told.given.1) (fits s).iv refl)
-    ∙ sym (state_freed _ _ _ _ _ (sym c.before.before.invalidates.ensures ∙ c.before.if2.true))
+    ∙ stored s.args.place s.args.«record» freed s.requires.0 (ap nowhere c.in-At.is) (fits s).iv refl)
+    ∙ sym (state_freed _ _ _ _ _ (sym c.invalidates.ensures ∙ c.if-invalidates.true))
 
-returns-4 : tie.Need-returns-4
-returns-4 c = sym (state_kept _ _ _ _ _ c.before.before.if1.false (sym c.before.invalidates.ensures ∙ c.if2.false))
+returns-4 : tie.Need-returns
+returns-4 c = sym (state_kept _ _ _ _ _ c.if-number-nonces.false (sym c.invalidates.ensures ∙ c.if-invalidates.false))
 
 pub after_spec : {M : Type 1} → statement M
 after_spec = tie.close (tie.spec (λ c. search rules) (λ c. search rules) returns returns-2 (λ c κs. search rules) (λ c κs. search rules) returns-3 returns-4)

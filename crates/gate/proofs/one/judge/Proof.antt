@@ -19,30 +19,23 @@ fits : (c : tie.Start) → Fits c.args.«record»
 fits c =
     record { used = search rules; iv = search rules; expiry = search rules; any = search rules; highest = search rules; bits = search rules; hash = search rules }
 
-after-requires : tie.Need-after-requires
+after-requires : tie.Need-after-next-requires
 after-requires c κs =
-    let start = c.before.before.before.before.before.before.before.before.before.before.before.before.before.before in
-    let decided = c.before.decide.ensures in (
+    let start = c.before.before.before.before.before.before.before.before.before.before.before.before.before in
+    let decided = c.decide-decision.ensures in (
       rw (one_place _ (fits start)) at decided.within,
       one_kept (asked start) _ (fits start) _ decided,
     )
 
-answer-requires : tie.Need-answer-requires
+answer-requires : tie.Need-answer-answer-requires
 answer-requires c κs =
-    let decided = c.before.before.before.decide.ensures in
+    let decided = c.decide-decision.ensures in
     (decided_small _ _ _ decided, λ t. ((decided.knows t).id_fits, decided.room t))
 
 returns : tie.Need-returns
 returns c =
-    c.before.before.answer.ensures _
-    ∙ rw c.before.before.before.before.after.ensures (applied_judged (asked c.before.before.before.before.before.before.before.before.before.before.before.before.before.before.before.before.before.before.before) _ _ c.before.before.before.before.before.before.decide.ensures)
+    c.answer-answer.ensures _
+    ∙ rw c.after-next.ensures (applied_judged (asked c.before.before.before.before.before.before.before.before.before.before.before.before.before.before.before.before.before.before) _ _ c.decide-decision.ensures)
 
 pub judge_spec : {M : Type 1} → statement M
-judge_spec = tie.close (tie.spec
-    (λ c κs. search rules)
-    (λ c. search rules)
-    (λ c κs. search rules)
-    after-requires
-    answer-requires
-    (λ c. search rules)
-    returns)
+judge_spec = tie.close (tie.spec (λ c κs. search rules) (λ c. search rules) (λ c κs. search rules) after-requires answer-requires (λ c. search rules) returns)

@@ -10,11 +10,11 @@ fits : (c : tie.Start) → Fits c.args.«record»
 fits c =
     record { used = search rules; iv = search rules; expiry = search rules; any = search rules; highest = search rules; bits = search rules; hash = search rules }
 
-returns : tie.Need-returns
-returns c = rw (one_found _ (fits c.before.before.before) _, ← c.before.is-of.ensures, c.if1.true)
+returns : tie.Need-returns-then-is_of
+returns c = rw (one_found _ (fits c.before.before.before) _, ← c.is_of.ensures, c.if-is_of.true)
 
-returns-2 : tie.Need-returns-2
-returns-2 c = rw (one_found _ (fits c.before.before.before) _, ← c.before.is-of.ensures, c.if1.false)
+returns-2 : tie.Need-returns
+returns-2 c = rw (one_found _ (fits c.before.before.before) _, ← c.is_of.ensures, c.if-is_of.false)
 
 pub place_of_spec : {M : Type 1} → statement M
 place_of_spec = tie.close (tie.spec (λ c κs. search rules) returns returns-2)

@@ -25,30 +25,30 @@ asked c =
 abbrev kept : tie.Start → State
 kept c = holding c.args.table.now c.args.index.now
 
-abbrev begun : tie.After-enter → tie.Start
+abbrev begun : tie.After-enter-entry → tie.Start
 begun c = c.before.before.before.before.before.before.before.before.before.before.before.before.before
 
 -- checks 1, 2, 3 and 22
-entry : (c : tie.After-enter) → Enters (setup_fits (asked (begun c)) (kept (begun c))) (asked (begun c)).orders (kept (begun c)) c.enter.result
+entry : (c : tie.After-enter-entry) → Enters (setup_fits (asked (begun c)) (kept (begun c))) (asked (begun c)).orders (kept (begun c)) c.enter-entry.result
 entry c =
-    subst (λ (b : Bool). Enters b (asked (begun c)).orders (kept (begun c)) c.enter.result)
-    (c.before.before.setup-fits.ensures _ _)
-    (c.enter.ensures (kept (begun c)) c.before.state-number.ensures)
+    subst (λ (b : Bool). Enters b (asked (begun c)).orders (kept (begun c)) c.enter-entry.result)
+    (c.setup_fits-fits.ensures _ _)
+    (c.enter-entry.ensures (kept (begun c)) c.state_number-number.ensures)
 
-state-number-requires : tie.Need-state-number-requires
+state-number-requires : tie.Need-state_number-number-requires
 state-number-requires c κs e =
     let start = c.before.before.before.before.before.before.before.before.before.before.before in
-    (lent (asked start) (kept start) (sym (c.setup-fits.ensures _ _) ∙ e)).kept
+    (lent (asked start) (kept start) (sym (c.setup_fits-fits.ensures _ _) ∙ e)).kept
 
-returns : tie.Need-returns
+returns : tie.Need-returns-then-entry-ne0
 unfolding entry_part
-returns c = entry_refuses (asked (begun c.before.before)) (kept (begun c.before.before)) _ (entry c.before.before).is c.if1.true
+returns c = entry_refuses (asked (begun c.before.before)) (kept (begun c.before.before)) _ (entry c.before.before).is c.if-entry-ne0.true
 
-passed : (c : tie.Else1) → first (entry_part (asked (begun c.before.before)) (kept (begun c.before.before))) ≡ 0
+passed : (c : tie.Else-entry-ne0) → first (entry_part (asked (begun c.before.before)) (kept (begun c.before.before))) ≡ 0
 unfolding entry_part
-passed c = sym (entry c.before.before).is ∙ c.if1.false
+passed c = sym (entry c.before.before).is ∙ c.if-entry-ne0.false
 
-entered : (c : tie.Else1) → Entered (setup_fits (asked (begun c.before.before)) (kept (begun c.before.before))) (asked (begun c.before.before)).orders (kept (begun c.before.before))
+entered : (c : tie.Else-entry-ne0) → Entered (setup_fits (asked (begun c.before.before)) (kept (begun c.before.before))) (asked (begun c.before.before)).orders (kept (begun c.before.before))
 unfolding entry_part
 entered c = entry_passed _ _ _ (passed c)
 
@@ -57,27 +57,26 @@ offered-requires c κs = (lent (asked (begun c.before.before.before)) _ (entered
 
 room-requires : tie.Need-room-requires
 room-requires c κs =
-    let past = entered c.before.before.before.before.before in
-    let size = lent (asked (begun c.before.before.before.before.before.before.before)) (kept (begun c.before.before.before.before.before.before.before)) past.sizes in
+    let past = entered c.before.before.before in
+    let size = lent (asked (begun c.before.before.before.before.before)) (kept (begun c.before.before.before.before.before)) past.sizes in
     (size.iv, indexed_by _ size.kept past.formed past.index)
 
 -- the session would last from now on for the session life
-ends : (c : tie.Else1) → expiry_of (asked (begun c.before.before)) ≡ (begun c.before.before).args.clock.0 + c.before.before.enter.result.limits.session_life
+ends : (c : tie.Else-entry-ne0) → expiry_of (asked (begun c.before.before)) ≡ (begun c.before.before).args.clock.0 + c.enter-entry.result.limits.session_life
 unfolding expiry_of
 ends c = ap (λ (l : Limits). (begun c.before.before).args.clock.0 + l.session_life) (sym ((entry c.before.before).limits c.if1.false))
 
-returns-2 : tie.Need-returns-2
+returns-2 : tie.Need-returns-in-Refused
 returns-2 c =
-    offer_refuses _ _ (passed c.before.before.before.before.before) _
-    (rw c.before.number.given.1 at (c.before.before.before.offered.ensures (asked (begun c.before.before.before.before.before.before.before)) refl refl (ends c.before.before.before.before.before)))
+    offer_refuses _ _ (passed c.before.before.before) _
+    (rw c.in-Refused.is at (c.offered.ensures (asked (begun c.before.before.before.before.before)) refl refl (ends c.before.before.before)))
 
-returns-3 : tie.Need-returns-3
+returns-3 : tie.Need-returns-in-Until
 returns-3 c =
-    room_decides _ _ (passed c.before.before.before.before.before.before) _ _ c.room.result
-    (rw (c.before.before.hash.given.1, ← ends c.before.before.before.before.before.before) at (c.before.before.before.before.offered.ensures (asked (begun c.before.before.before.before.before.before.before.before)) refl refl (ends c.before.before.before.before.before.before)))
+    room_decides _ _ (passed c.before.before.before.before) _ _ c.room.result
+    (rw (c.in-Until.is, ← ends c.before.before.before.before) at (c.offered.ensures (asked (begun c.before.before.before.before.before.before)) refl refl (ends c.before.before.before.before)))
     (c.room.ensures _ refl refl)
 
 pub decide_spec : {M : Type 1} → statement M
 decide_spec =
-    tie.close (tie.spec (λ c κs. search rules) state-number-requires (λ c κs. search rules) returns offered-requires (λ c. search rules)
-    (λ c. search rules) room-requires returns-2 returns-3)
+    tie.close (tie.spec (λ c κs. search rules) state-number-requires (λ c κs. search rules) returns offered-requires (λ c. search rules) (λ c. search rules) room-requires returns-2 returns-3)

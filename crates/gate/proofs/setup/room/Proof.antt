@@ -6,37 +6,36 @@ use Rattle.gate.specs.Setup.{room_part}
 use Rattle.gate.proofs.setup.room.Statement.{statement}
 use Rattle.gate.proofs.setup.room.Tie as tie
 
-returns : tie.Need-returns
+returns : tie.Need-returns-in-At
 unfolding room_part
 returns c s v t = record {
-  is = simp (v, ← c.before.before.find.ensures.is, c.enum_told.given.1);
+  is = simp (v, ← c.find.ensures.is, c.in-At.is);
   some = search rules;
 }
 
-returns-2 : tie.Need-returns-2
+returns-2 : tie.Need-returns-in-At-to_take
 unfolding room_part
 returns-2 c s v t =
-    let free = c.before.before.before.before in
-    let taken = c.before.before.before.to_take.ensures in
+    let free = c.before.before in
+    let taken = c.to_take.ensures in
     record {
-      none = simp (v, t, ← free.before.before.find.ensures.is, free.enum-told2.given.1, ← taken.is, c.before.place.given.1);
-      is = sym taken.is ∙ c.before.place.given.1;
-      within = rw c.before.place.given.1 at taken.within;
-      new = sym free.before.before.find.ensures.is ∙ free.enum-told2.given.1;
+      none = simp (v, t, ← free.find.ensures.is, free.in_default.is, ← taken.is, c.in-At-to_take.is);
+      is = sym taken.is ∙ c.in-At-to_take.is;
+      within = rw c.in-At-to_take.is at taken.within;
+      new = sym free.find.ensures.is ∙ free.in_default.is;
       by = refl;
       until = refl;
     }
 
-returns-3 : tie.Need-returns-3
+returns-3 : tie.Need-returns-in-Nowhere
 unfolding room_part
 returns-3 c s v t =
-    let free = c.before.before.before in
+    let free = c.before.before in
     record {
-      is = simp (v, t, ← free.before.before.find.ensures.is, free.enum-told2.given.1, ← c.before.before.to_take.ensures.is, c.enum-told3.given.1);
+      is = simp (v, t, ← free.find.ensures.is, free.in_default.is, ← c.to_take.ensures.is, c.in-Nowhere.is);
       some = search rules;
     }
 
 pub room_spec : {M : Type 1} → statement M
 room_spec =
-    tie.close (tie.spec (λ c κs. c.before.before.before.requires) (λ c. search rules) returns (λ c. search rules) (λ c κs. search rules) (λ c. search rules)
-    (λ c. search rules) returns-2 returns-3)
+    tie.close (tie.spec (λ c κs. c.requires) (λ c. search rules) returns (λ c. search rules) (λ c κs. search rules) (λ c. search rules) (λ c. search rules) returns-2 returns-3)

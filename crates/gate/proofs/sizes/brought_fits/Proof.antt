@@ -7,7 +7,7 @@ use Rattle.gate.proofs.sizes.brought_fits.Tie as tie
 
 returns : tie.Need-returns
 unfolding brought_fits
-returns c o clock server_key reply = simp (c.before.long-from.ensures, c.long-from2.ensures)
+returns c o clock server_key reply = simp (c.long_from.ensures, c.long_from-2.ensures)
 
 pub brought_fits_spec : {M : Type 1} → statement M
 brought_fits_spec = tie.close (tie.spec (λ c κs. search rules) (λ c κs. search rules) returns)

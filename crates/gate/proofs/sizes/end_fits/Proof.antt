@@ -7,7 +7,7 @@ use Rattle.gate.proofs.sizes.end_fits.Tie as tie
 
 returns : tie.Need-returns
 unfolding end_fits
-returns c = simp c.state_fits_lem.ensures
+returns c = simp c.state_fits.ensures
 
 pub end_fits_spec : {M : Type 1} → statement M
 end_fits_spec = tie.close (tie.spec (λ c κs. search rules) returns)

@@ -7,7 +7,7 @@ use Rattle.gate.proofs.sizes.setup_fits.Tie as tie
 
 returns : tie.Need-returns
 unfolding setup_fits
-returns c o clock = simp (c.before.long-from.ensures, c.state_fits_lem.ensures)
+returns c o clock = simp (c.long_from.ensures, c.state_fits.ensures)
 
 pub setup_fits_spec : {M : Type 1} → statement M
 setup_fits_spec = tie.close (tie.spec (λ c κs. search rules) (λ c κs. search rules) returns)

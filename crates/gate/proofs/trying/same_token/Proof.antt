@@ -14,18 +14,16 @@ use Rattle.gate.proofs.trying.same_token.Tie as tie
 token_room : (c : tie.Start) → c.args.reply.s_len ≤ length c.args.reply.s
 token_room c = let n : length c.args.reply.s ≡ 118 = search rules in omega (arith, c.requires.2)
 
-slice-aggregate-same : tie.Need-slice-aggregate-same
+slice-aggregate-same : tie.Need-slice_bounds-same-end
 slice-aggregate-same c =
-    let start = c.before.before.before.before.before in
+    let start = c.before.before.before.before in
     sym (length-take-le _ start.args.fields.now (omega (arith, start.requires.0, start.requires.1)))
 
 returns : tie.Need-returns
 unfolding same_token
 returns c fs gs lies held =
-    simp (c.before.before.before.before.before.before.same.ensures, c.before.before.before.same2.ensures, c.same3.ensures, lies.token, lies.vector, lies.tag, held.token, held.vector, held.tag)
+    simp (c.same.ensures, c.same-2.ensures, c.same-3.ensures, lies.token, lies.vector, lies.tag, held.token, held.vector, held.tag)
 
 pub same_token_spec : {M : Type 1} → statement M
 same_token_spec =
-    tie.close (tie.spec slice-aggregate-same (λ c. token_room c.before.before.before.before.before) (λ c. sym (length-take-le _ _ (token_room c.before.before.before.before.before.before)))
-    (λ c κs. search rules) (λ c. search rules) (λ c. search rules) (λ c. search rules) (λ c. search rules) (λ c κs. search rules) (λ c. search rules)
-    (λ c. search rules) (λ c. search rules) (λ c. search rules) (λ c κs. search rules) returns)
+    tie.close (tie.spec slice-aggregate-same (λ c. token_room c.before.before.before.before) (λ c. sym (length-take-le _ _ (token_room c.before.before.before.before.before))) (λ c κs. search rules) (λ c. search rules) (λ c. search rules) (λ c. search rules) (λ c. search rules) (λ c κs. search rules) (λ c. search rules) (λ c. search rules) (λ c. search rules) (λ c. search rules) (λ c κs. search rules) returns)
