@@ -23,10 +23,10 @@ kept c = holding (start c).args.table.now (start c).args.index.now
 fits : (c : tie.Else-not-fits) → end_fits (start c.before).args.iv.now (kept c.before) ≡ true
 fits c = sym c.end_fits-fits.ensures ∙ c.if-not-fits.false
 
-number : (c : tie.After-state_number-number) → c.state_number-number.result ≡ first (state_checks (kept c.before.before.before.before))
+number : (c : tie.After-state_number-number) → c.state_number-number.result ≡ first (state_checks (kept c.before.before.before))
 number c = c.state_number-number.ensures (c.if-not-fits.false)
 
-passed : (c : tie.Else-number-ne0) → first (state_checks (kept c.before.before.before.before.before)) ≡ 0
+passed : (c : tie.Else-number-ne0) → first (state_checks (kept c.before.before.before.before)) ≡ 0
 passed c = sym (number c.before) ∙ c.if-number-ne0.false
 
 returns : tie.Need-returns-then-not-fits

@@ -13,21 +13,21 @@ use Rattle.gate.proofs.gate_index.Tie as tie
 
 returns : tie.Need-returns-then-not-state_fits
 unfolding remade remake_checks
-returns c = simp (← c.state_fits.ensures, not-true c.state_fits.result c.if-not-state_fits.taken)
+returns c = simp (← c.state_fits.ensures, c.if-not-state_fits.true)
 
 returns-2 : tie.Need-returns-then-not-well_formed
 unfolding remade remake_checks
 returns-2 c =
     let fits = c.state_fits in
     let formed = c.well_formed-2 in
-    simp (← fits.ensures, not-false fits.result c.if-not-state_fits.left, ← formed.ensures, not-true formed.result c.if-not-well_formed.taken)
+    simp (← fits.ensures, c.if-not-state_fits.false, ← formed.ensures, c.if-not-well_formed.true)
 
 make-requires : tie.Need-make-requires
 make-requires c κs =
     let fits = c.state_fits in
     let formed = c.well_formed-2 in
-    let size = stated _ (sym fits.ensures ∙ not-false fits.result c.if-not-state_fits.left) in
-    (omega (arith, size.few), size.long, sym formed.ensures ∙ not-false formed.result c.if-not-well_formed.left)
+    let size = stated _ (sym fits.ensures ∙ c.if-not-state_fits.false) in
+    (omega (arith, size.few), size.long, sym formed.ensures ∙ c.if-not-well_formed.false)
 
 returns-3 : tie.Need-returns
 unfolding remade remake_checks
@@ -35,7 +35,7 @@ returns-3 c =
     let fits = c.state_fits in
     let formed = c.well_formed-2 in
     ap (outcome 0 []) (ap₂ holding refl c.make.ensures)
-    ∙ simp (← fits.ensures, not-false fits.result c.if-not-state_fits.left, ← formed.ensures, not-false formed.result c.if-not-well_formed.left)
+    ∙ simp (← fits.ensures, c.if-not-state_fits.false, ← formed.ensures, c.if-not-well_formed.false)
 
 pub gate_index_spec : {M : Type 1} → statement M
 gate_index_spec =
