@@ -35,14 +35,14 @@ read-requires c κs = omega (arith, (tried_sizes (asked c.before.before.before.b
 
 returns-2 : tie.Need-returns-then-not-heard
 unfolding tried trial_checks reply_part
-returns-2 c = simp (fits c.before.before.before, sym c.read-heard.ensures.is ∙ c.if-not-heard.true)
+returns-2 c = simp (fits c.before.before.before, sym c.read-heard.ensures.is ∙ not-true _ c.if-not-heard.true)
 
 -- what the reply carries, and the orders that it tells
 holds : (c : tie.Else-not-heard) → HoldsReply (carried c.args.setup_reply.now) c.read-heard.result.reply
-holds c = c.read-heard.ensures.holds (c.if-not-heard.false)
+holds c = c.read-heard.ensures.holds (not-false _ c.if-not-heard.false)
 
 laid : (c : tie.Else-not-heard) → laid_out c.args.setup_reply.now ≡ true
-laid c = sym c.read-heard.ensures.is ∙ c.if-not-heard.false
+laid c = sym c.read-heard.ensures.is ∙ not-false _ c.if-not-heard.false
 
 orders_told_lem : (c : tie.Else-not-heard) → let r = c.read-heard.result.reply in orders_in (asked c.before.before.before.before.before.before.before.before.before.before.before.before) ≡ orders_of r.ah r.h (take r.eah_len r.eah) 0 0 0
 unfolding orders_in granted
@@ -73,4 +73,9 @@ returns-4 c =
 
 pub gate_fits_spec : {M : Type 1} → statement M
 gate_fits_spec =
-    tie.close (tie.spec (λ c κs. search rules) returns read-requires returns-2 (λ c κs. search rules) (λ c. search rules) (λ c. extra_room (holds c.before.before.before.before)) (λ c. sym (length-take-le _ _ (extra_room (holds c.before.before.before.before.before)))) (λ c κs. search rules) (λ c. search rules) (λ c. search rules) returns-3 (λ c. search rules) (λ c. extra_room (holds c.before.before.before.before.before.before.before.before)) (λ c. sym (length-take-le _ _ (extra_room (holds c.before.before.before.before.before.before.before.before.before)))) against-requires returns-4)
+    tie.close (tie.spec (λ c κs. search rules) returns read-requires returns-2 (λ c κs. search rules) (λ c. search rules)
+    (λ c. extra_room (holds c.before.before.before.before))
+    (λ c. sym (length-take-le _ _ (extra_room (holds c.before.before.before.before.before)))) (λ c κs. search rules) (λ c. search rules)
+    (λ c. search rules) returns-3 (λ c. search rules) (λ c. extra_room (holds c.before.before.before.before.before.before.before.before))
+    (λ c. sym (length-take-le _ _ (extra_room (holds c.before.before.before.before.before.before.before.before.before)))) against-requires
+    returns-4)

@@ -4,7 +4,6 @@ use mathlib.Core.Path.{sym, ap₂, refl, ap, ◌∙◌}
 use mathlib.Core.List.{[]}
 use native.Mathlib.Omega.{arith}
 use borrow.Author.Rules.{rules}
-use borrow.Author.Tests.{not-true, not-false}
 use Rattle.gate.specs.State.{holding, outcome}
 use Rattle.gate.specs.Remake.{remake_checks, remade}
 use Rattle.gate.proofs.Numbers.{stated}
@@ -39,4 +38,5 @@ returns-3 c =
 
 pub gate_index_spec : {M : Type 1} → statement M
 gate_index_spec =
-    tie.close (tie.spec (λ c κs. search rules) (λ c. search rules) returns (λ c κs. search rules) (λ c. search rules) returns-2 make-requires (λ c. search rules) returns-3)
+    tie.close (tie.spec (λ c κs. search rules) (λ c. search rules) returns (λ c κs. search rules) (λ c. search rules) returns-2
+    make-requires (λ c. search rules) returns-3)

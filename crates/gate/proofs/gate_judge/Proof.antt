@@ -26,4 +26,6 @@ returns c =
 
 pub gate_judge_spec : {M : Type 1} → statement M
 gate_judge_spec =
-    tie.close (tie.spec (λ c κs. search rules) (λ c. search rules) (λ c κs. search rules) (λ c κs. let decided = c.decide-decision.ensures in (decided.within, decided.indexed)) answer-requires (λ c. search rules) (λ c. search rules) (λ c. search rules) returns)
+    tie.close (tie.spec (λ c κs. search rules) (λ c. search rules) (λ c κs. search rules)
+    (λ c κs. let decided = c.decide-decision.ensures in (decided.within, decided.indexed)) answer-requires (λ c. search rules)
+    (λ c. search rules) (λ c. search rules) returns)

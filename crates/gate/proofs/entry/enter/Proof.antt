@@ -3,7 +3,6 @@
 use mathlib.Core.Path.{sym, ◌∙◌}
 use native.Mathlib.Omega.{arith}
 use borrow.Author.Rules.{rules}
-use borrow.Author.Tests.{not-true, not-false}
 use Rattle.orders.proofs.Orders.{checked_good, checked_bad}
 use Rattle.gate.specs.Entry.{entry_checks}
 use Rattle.gate.proofs.entry.enter.Statement.{statement}
@@ -35,4 +34,5 @@ returns-3 c s h =
 
 pub enter_spec : {M : Type 1} → statement M
 enter_spec =
-    tie.close (tie.spec (λ c κs. search rules) returns (λ c κs. search rules) (λ c. search rules) (λ c. search rules) (λ c κs. search rules) returns-2 returns-3)
+    tie.close (tie.spec (λ c κs. search rules) returns (λ c κs. search rules) (λ c. search rules) (λ c. search rules) (λ c κs. search rules)
+    returns-2 returns-3)

@@ -4,7 +4,6 @@ use mathlib.Core.Path.{sym, ◌∙◌}
 use mathlib.Core.Bool.{true≢false}
 use native.Mathlib.Omega.{arith}
 use borrow.Author.Rules.{rules}
-use borrow.Author.Tests.{not-true, not-false}
 use Rattle.gate.proofs.Numbers.{stated, state_good, state_unindexed, state_unformed}
 use Rattle.gate.proofs.entry.state_number.Statement.{statement}
 use Rattle.gate.proofs.entry.state_number.Tie as tie
@@ -20,4 +19,6 @@ fits-requires c κs =
 
 pub state_number_spec : {M : Type 1} → statement M
 state_number_spec =
-    tie.close (tie.spec returns fits-requires (λ c fits. sym (state_good _ (sym c.fits2.ensures ∙ c.if-fits.true))) (λ c κs. search rules) (λ c fits. sym (state_unindexed _ (sym c.well-formed-2.ensures ∙ c.if-well_formed.true) (sym c.fits2.ensures ∙ c.if-fits.false))) (λ c fits. sym (state_unformed _ (sym c.well-formed-2.ensures ∙ c.if-well_formed.false))))
+    tie.close (tie.spec returns fits-requires (λ c fits. sym (state_good _ (sym c.fits.ensures ∙ c.if-fits.true))) (λ c κs. search rules)
+    (λ c fits. sym (state_unindexed _ (sym c.well_formed-2.ensures ∙ c.if-well_formed.true) (sym c.fits.ensures ∙ c.if-fits.false)))
+    (λ c fits. sym (state_unformed _ (sym c.well_formed-2.ensures ∙ c.if-well_formed.false))))

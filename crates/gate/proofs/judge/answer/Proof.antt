@@ -80,4 +80,7 @@ returns-3 c table =
 
 pub answer_spec : {M : Type 1} → statement M
 answer_spec =
-    tie.close (tie.spec array-share-prefix-id (λ c. id_within c.before.before.before) put-front-requires small-id mul-result (λ c. search rules) returns (λ c κs. search rules) (λ c. search rules) invalidate-requires (λ c. omega (arith, short c.before.before)) (λ c. omega (arith, short c.before.before)) (λ c. omega (arith, short c.before.before.before, c.requires.0)) (λ c. search rules) returns-2 returns-3)
+    tie.close (tie.spec array-share-prefix-id (λ c. id_within c.before.before.before) put-front-requires small-id mul-result
+    (λ c. search rules) returns (λ c κs. search rules) (λ c. search rules) invalidate-requires (λ c. omega (arith, short c.before.before))
+    (λ c. omega (arith, short c.before.before)) (λ c. omega (arith, short c.before.before.before, c.requires.0)) (λ c. search rules)
+    returns-2 returns-3)

@@ -25,4 +25,6 @@ returns-2 c =
 
 pub apply_spec : {M : Type 1} → statement M
 apply_spec =
-    tie.close (tie.spec (λ c κs. c.requires.0) (λ c. search rules) returns (λ c κs. search rules) free-requires (λ c. search rules) (λ c. search rules) returns-2 (λ c. sym (state_kept _ _ _ _ _ c.if-decision.false (sym c.invalidates.ensures ∙ c.if-invalidates.false))))
+    tie.close (tie.spec (λ c κs. c.requires.0) (λ c. search rules) returns (λ c κs. search rules) free-requires (λ c. search rules)
+    (λ c. search rules) returns-2
+    (λ c. sym (state_kept _ _ _ _ _ c.if-decision.false (sym c.invalidates.ensures ∙ c.if-invalidates.false))))

@@ -84,18 +84,18 @@ unseal-requires c κs =
     ((sized (asked (start read)) _ (entered (gone_in read)).sizes).key, held.token_fits, omega (arith, read.read-read.auto))
 
 find-requires : tie.Need-find-place-requires
-find-requires c κs = (search rules, found_indexed _ _ (entered (gone_in c.before.before.before.before.before.before.before.before.before.before)))
+find-requires c κs = (search rules, found_indexed _ _ (entered (gone_in c.before.before.before.before.before.before.before.before.before)))
 
 -- the session's place, and what its record holds
-stands : (c : tie.After-held_at-held) → StandsAt (asked (start c.before.before.before.before.before.before.before.before.before.before.before.before)) (lent (start c.before.before.before.before.before.before.before.before.before.before.before.before)).table c.find-place.result c.held_at-held.result
+stands : (c : tie.After-held_at-held) → StandsAt (asked (start c.before.before.before.before.before.before.before.before.before.before.before)) (lent (start c.before.before.before.before.before.before.before.before.before.before.before)).table c.find-place.result c.held_at-held.result
 unfolding iv_of fields_of
 stands c =
-    let q = asked (start c.before.before.before.before.before.before.before.before.before.before.before.before) in
+    let q = asked (start c.before.before.before.before.before.before.before.before.before.before.before) in
     let lies = (c.read-read.ensures q.clock q.server_key q.path q.body q.reply).lies c.if-read-ne0.false in
     record { at = rw (← lies.vector) (sym c.find-place.ensures.is); holds = λ there. sym c.held_at-held.ensures }
 
 -- there are as many notes as names
-within : (c : tie.After-held_at-held) → let read = c.read-read in (read.result.covered ≤ length read.new.1.1.1.1.1.1.1.1.0) × (read.result.covered ≤ length read.new.1.1.1.1.1.1.1.1.1.0)
+within : (c : tie.After-held_at-held) → let read = c.read-read in (read.result.covered ≤ length read.new.in_head) × (read.result.covered ≤ length read.new.in_aside)
 within c =
     let read = c.read-read in
     let fits = ((read.ensures 0 [] [] [] []).noted c.if-read-ne0.false).fits in
@@ -103,7 +103,7 @@ within c =
 
 vouch-requires : tie.Need-vouch-vouched-requires
 vouch-requires c κs =
-    let read = c.before.before.before.before.before.before.before.before.before.before.before.before.before.before.before in
+    let read = c.before.before.before.before.before.before.before.before.before.before.before.before.before.before in
     let size = sized (asked (start read)) _ (entered (gone_in read)).sizes in
     let told = read.read-read.ensures 0 [] [] [] [] in
     let held = told.holds c.if-read-ne0.false in
@@ -112,7 +112,7 @@ vouch-requires c κs =
 returns-3 : tie.Need-returns
 unfolding iv_of fields_of limits
 returns-3 c =
-    let read = c.before.before.before.before.before.before.before.before.before.before.before.before.before.before.before.before.before.before.before in
+    let read = c.before.before.before.before.before.before.before.before.before.before.before.before.before.before.before.before.before.before in
     let q = asked (start read) in
     let told = read.read-read.ensures q.clock q.server_key q.path q.body q.reply in
     let good = c.if-read-ne0.false in
@@ -122,8 +122,13 @@ returns-3 c =
     decided_by q (lent (start read)) _ (passed (gone_in read)) (sym told.is ∙ good) (sized q _ (entered (gone_in read)).sizes).reply
     (rw (← (told.lies good).vector, ← find.is) find.within) (found_indexed q _ (entered (gone_in read)))
     (c.settle.ensures q.orders.extra q.server_key q.value q.method q.head q.aside q.path q.body q.reply _ (told.holds good) vouched (token_there q _ opens _ vouched)
-    ((entry read.before.before.before.before.before.before).limits (gone_in read).if1.false) (stands c.before.before.before.before.before.before.before))
+    ((entry read.before.before.before.before.before.before).limits (gone_in read).if-entry-ne0.false) (stands c.before.before.before.before.before.before.before))
 
 pub decide_spec : {M : Type 1} → statement M
 decide_spec =
-    tie.close (tie.spec (λ c κs. search rules) state-number-requires (λ c κs. search rules) (λ c κs. search rules) returns (λ c. search rules) (λ c. search rules) (λ c. search rules) read-requires (λ c κs. search rules) returns-2 (λ c. search rules) unseal-requires (λ c. search rules) (λ c. search rules) (λ c. search rules) find-requires (λ c κs. c.find-place.ensures.within) (λ c. search rules) (λ c. (within c.before).0) (λ c. sym (length-take-le _ _ (within c.before.before).0)) (λ c. (within c.before.before).1) (λ c. sym (length-take-le _ _ (within c.before.before.before).1)) vouch-requires (λ c κs. search rules) returns-3)
+    tie.close (tie.spec (λ c κs. search rules) state-number-requires (λ c κs. search rules) (λ c κs. search rules) returns
+    (λ c. search rules) (λ c. search rules) (λ c. search rules) read-requires (λ c κs. search rules) returns-2 (λ c. search rules)
+    unseal-requires (λ c. search rules) (λ c. search rules) (λ c. search rules) find-requires (λ c κs. c.find-place.ensures.within)
+    (λ c. search rules) (λ c. (within c.before).0) (λ c. sym (length-take-le _ _ (within c.before.before).0))
+    (λ c. (within c.before.before).1) (λ c. sym (length-take-le _ _ (within c.before.before.before).1)) vouch-requires
+    (λ c κs. search rules) returns-3)

@@ -59,4 +59,5 @@ returns-4 : tie.Need-returns
 returns-4 c = sym (state_kept _ _ _ _ _ c.if-number-nonces.false (sym c.invalidates.ensures ∙ c.if-invalidates.false))
 
 pub after_spec : {M : Type 1} → statement M
-after_spec = tie.close (tie.spec (λ c. search rules) (λ c. search rules) returns returns-2 (λ c κs. search rules) (λ c κs. search rules) returns-3 returns-4)
+after_spec = tie.close (tie.spec (λ c. search rules) (λ c. search rules) returns returns-2 (λ c κs. search rules) (λ c κs. search rules)
+    returns-3 returns-4)

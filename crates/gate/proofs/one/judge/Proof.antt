@@ -38,4 +38,5 @@ returns c =
     ∙ rw c.after-next.ensures (applied_judged (asked c.before.before.before.before.before.before.before.before.before.before.before.before.before.before.before.before.before.before) _ _ c.decide-decision.ensures)
 
 pub judge_spec : {M : Type 1} → statement M
-judge_spec = tie.close (tie.spec (λ c κs. search rules) (λ c. search rules) (λ c κs. search rules) after-requires answer-requires (λ c. search rules) returns)
+judge_spec = tie.close (tie.spec (λ c κs. search rules) (λ c. search rules) (λ c κs. search rules) after-requires answer-requires
+    (λ c. search rules) returns)

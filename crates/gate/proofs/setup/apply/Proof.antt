@@ -85,4 +85,7 @@ returns c =
 
 pub apply_spec : {M : Type 1} → statement M
 apply_spec =
-    tie.close (tie.spec (λ c κs. search rules) (λ c. within c.before.before.before) (λ c. sym (length-take-le _ _ (within c.before.before.before.before))) (λ c. search rules) setup-requires (λ c κs. search rules) cast-begin (λ c κs. search rules) take-requires cast-result mul-result (λ c. search rules) (λ c. search rules) (λ c. search rules) returns)
+    tie.close (tie.spec (λ c κs. search rules) (λ c. within c.before.before.before)
+    (λ c. sym (length-take-le _ _ (within c.before.before.before.before))) (λ c. search rules) setup-requires (λ c κs. search rules)
+    cast-begin (λ c κs. search rules) take-requires cast-result mul-result (λ c. search rules) (λ c. search rules) (λ c. search rules)
+    returns)

@@ -64,7 +64,7 @@ room-requires c κs =
 -- the session would last from now on for the session life
 ends : (c : tie.Else-entry-ne0) → expiry_of (asked (begun c.before.before)) ≡ (begun c.before.before).args.clock.0 + c.enter-entry.result.limits.session_life
 unfolding expiry_of
-ends c = ap (λ (l : Limits). (begun c.before.before).args.clock.0 + l.session_life) (sym ((entry c.before.before).limits c.if1.false))
+ends c = ap (λ (l : Limits). (begun c.before.before).args.clock.0 + l.session_life) (sym ((entry c.before.before).limits c.if-entry-ne0.false))
 
 returns-2 : tie.Need-returns-in-Refused
 returns-2 c =
@@ -79,4 +79,5 @@ returns-3 c =
 
 pub decide_spec : {M : Type 1} → statement M
 decide_spec =
-    tie.close (tie.spec (λ c κs. search rules) state-number-requires (λ c κs. search rules) returns offered-requires (λ c. search rules) (λ c. search rules) room-requires returns-2 returns-3)
+    tie.close (tie.spec (λ c κs. search rules) state-number-requires (λ c κs. search rules) returns offered-requires (λ c. search rules)
+    (λ c. search rules) room-requires returns-2 returns-3)

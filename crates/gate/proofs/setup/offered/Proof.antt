@@ -22,4 +22,5 @@ returns-3 c s v h e =
 
 pub offered_spec : {M : Type 1} → statement M
 offered_spec =
-    tie.close (tie.spec (λ c κs. search rules) (λ c. search rules) (λ c. search rules) (λ c. search rules) (λ c κs. search rules) returns returns-2 returns-3)
+    tie.close (tie.spec (λ c κs. search rules) (λ c. search rules) (λ c. search rules) (λ c. search rules) (λ c κs. search rules) returns
+    returns-2 returns-3)

@@ -38,4 +38,5 @@ returns-3 c s v t =
 
 pub room_spec : {M : Type 1} → statement M
 room_spec =
-    tie.close (tie.spec (λ c κs. c.requires) (λ c. search rules) returns (λ c. search rules) (λ c κs. search rules) (λ c. search rules) (λ c. search rules) returns-2 returns-3)
+    tie.close (tie.spec (λ c κs. c.requires) (λ c. search rules) returns (λ c. search rules) (λ c κs. search rules) (λ c. search rules)
+    (λ c. search rules) returns-2 returns-3)

@@ -4,7 +4,7 @@ use mathlib.Core.Path.{sym, ◌∙◌}
 use Prim.Native.Nat.{◌+◌}
 use native.Mathlib.Omega.{arith}
 use borrow.Author.Rules.{rules}
-use borrow.Author.Tests.{not-true, not-false, lt-ltb, le-ltb}
+use borrow.Author.Tests.{lt-ltb, le-ltb}
 use Rattle.gate.specs.Setup.{chosen_of, lasting_part}
 use Rattle.gate.proofs.setup.until.Statement.{statement}
 use Rattle.gate.proofs.setup.until.Tie as tie

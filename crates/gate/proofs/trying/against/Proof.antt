@@ -6,7 +6,6 @@ use mathlib.Core.List.{List, [], ◌++◌}
 use Prim.Native.Nat.{ℕ, ◌≤◌}
 use native.Mathlib.Omega.{arith}
 use borrow.Author.Rules.{rules}
-use borrow.Author.Tests.{not-true, not-false}
 use lib.ListN.{length}
 use lib.Seq.{length-take-le}
 use Rattle.hashes.specs.Hashes.{named}
@@ -41,7 +40,7 @@ returns-2 c text held told =
     (sym (c.same_token.ensures _ _ (so.lies good) held) ∙ c.if-not-same_token.true)
 
 -- there are as many notes as names
-within : (c : tie.After-named-hash) → let read = c.read-read in (read.result.covered ≤ length read.new.1.1.1.1.1.1.1.1.0) × (read.result.covered ≤ length read.new.1.1.1.1.1.1.1.1.1.0)
+within : (c : tie.After-named-hash) → let read = c.read-read in (read.result.covered ≤ length read.new.in_head) × (read.result.covered ≤ length read.new.in_aside)
 within c =
     let read = c.read-read in
     let fits = ((read.ensures 0 [] [] [] []).noted c.if-read-ne0.false).fits in
@@ -84,4 +83,9 @@ returns-4 c text held told = signed c.before text true (c.if-not-signs.false) he
 
 pub against_spec : {M : Type 1} → statement M
 against_spec =
-    tie.close (tie.spec (λ c. search rules) (λ c. search rules) (λ c. search rules) (λ c κs. search rules) returns (λ c. search rules) same-token-requires returns-2 (λ c κs. search rules) (λ c. sym (key_long (begun c.before.before.before.before.before.before.before.before.before.before.before.before))) (λ c. search rules) (λ c. (within c.before.before).0) (λ c. sym (length-take-le _ _ (within c.before.before.before).0)) (λ c. (within c.before.before.before).1) (λ c. sym (length-take-le _ _ (within c.before.before.before.before).1)) signs-requires returns-3 returns-4)
+    tie.close (tie.spec (λ c. search rules) (λ c. search rules) (λ c. search rules) (λ c κs. search rules) returns (λ c. search rules)
+    same-token-requires returns-2 (λ c κs. search rules)
+    (λ c. sym (key_long (begun c.before.before.before.before.before.before.before.before.before.before.before.before))) (λ c. search rules)
+    (λ c. (within c.before.before).0) (λ c. sym (length-take-le _ _ (within c.before.before.before).0))
+    (λ c. (within c.before.before.before).1) (λ c. sym (length-take-le _ _ (within c.before.before.before.before).1)) signs-requires
+    returns-3 returns-4)

@@ -26,4 +26,7 @@ returns c fs gs lies held =
 
 pub same_token_spec : {M : Type 1} → statement M
 same_token_spec =
-    tie.close (tie.spec slice-aggregate-same (λ c. token_room c.before.before.before.before) (λ c. sym (length-take-le _ _ (token_room c.before.before.before.before.before))) (λ c κs. search rules) (λ c. search rules) (λ c. search rules) (λ c. search rules) (λ c. search rules) (λ c κs. search rules) (λ c. search rules) (λ c. search rules) (λ c. search rules) (λ c. search rules) (λ c κs. search rules) returns)
+    tie.close (tie.spec slice-aggregate-same (λ c. token_room c.before.before.before.before)
+    (λ c. sym (length-take-le _ _ (token_room c.before.before.before.before.before))) (λ c κs. search rules) (λ c. search rules)
+    (λ c. search rules) (λ c. search rules) (λ c. search rules) (λ c κs. search rules) (λ c. search rules) (λ c. search rules)
+    (λ c. search rules) (λ c. search rules) (λ c κs. search rules) returns)
