@@ -4,7 +4,7 @@
 -- Assumes nothing.
 use mathlib.Core.Path.{◌≡◌, sym, ap, ◌∙◌}
 use mathlib.Core.List.{List}
-use mathlib.Core.Option.{Option, some}
+use mathlib.Core.Option.{Option, none, some}
 use Prim.Native.Nat.{ℕ}
 use borrow.Author.Tests.{eqb-true, not-false, ne_eqb}
 use lib.ListN.{get_or}
@@ -45,6 +45,7 @@ kept q state place e at =
 -- and so does what the history says of it
 by_record : (chosen : Option Hash) (byte : ℕ) (h : Hash) → KeptBy byte chosen → byte ≡ hash_mask h → chosen ≡ some h
 by_record (some g) byte h k e = ap some (mask_tells g h (sym k ∙ e))
+by_record none byte h k e = elim k [ ]
 
 module _ (n : ℕ) (calls : List Call) (q : Request) where
   abbrev now : State

@@ -1,7 +1,7 @@
 -- A session's window after the nonces of some calls, the latest first; and a record as its window and the rest of it.
 -- Assumes nothing.
 use mathlib.Core.Path.{◌≡◌, refl, sym, ap, ap₂, ◌∙◌}
-use mathlib.Core.Bool.{Bool, true, false, true≢false}
+use mathlib.Core.Bool.{Bool, false, true≢false}
 use mathlib.Core.List.Permᴰ
 use mathlib.Core.List.{List, [], ◌∷◌, Permᴰ, reverse_aux, filter_map}
 use mathlib.Core.Logic.{⊎_elim}

@@ -1,7 +1,7 @@
 -- What Arrival asks of two histories can be met: a session's requests in two orders, around another session's, each accepted.
 -- Assumes nothing.
 use mathlib.Core.Path.{◌≡◌, refl, sym, ◌∙◌}
-use mathlib.Core.Bool.{true, false, true≢false}
+use mathlib.Core.Bool.{false, true≢false}
 use mathlib.Core.List.Permᴰ
 use mathlib.Core.List.{List, [], ◌∷◌}
 use lib.Dec.{lit<}

@@ -22,7 +22,7 @@ use Rattle.table.proofs.Meaning.{freed_sound}
 use Rattle.table.proofs.Sessions.{stepped_sound, stepped_fits}
 use Rattle.stages.specs.Request.{Request}
 use Rattle.stages.specs.Checks.{first, nowhere}
-use Rattle.stages.specs.Parts.{iv_of, nonce_of, ordered, stepped, next_of, invalidates}
+use Rattle.stages.specs.Parts.{iv_of, nonce_of, ordered, next_of, invalidates}
 use Rattle.gate.specs.State.{State}
 use Rattle.gate.specs.Judge.{request_checks, judged}
 use Rattle.gate.specs.End.{end_checks, ended}

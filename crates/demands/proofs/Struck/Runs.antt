@@ -8,7 +8,7 @@ use lib.ListN.{length}
 use Rattle.table.proofs.Tests.{refuted}
 use Rattle.gate.specs.State.{State}
 use Rattle.demands.specs.History.{Call, setting_up, judging, judging_one, ending, making_index, answer, after, lent_in}
-use Rattle.demands.specs.Struck.{bears, Strike, Spares, unstruck, told, told_in, StandsAlike, here, elsewhere, all_elsewhere, SameSession}
+use Rattle.demands.specs.Struck.{bears, Strike, Spares, unstruck, told_in, StandsAlike, here, elsewhere, all_elsewhere, SameSession}
 use Rattle.demands.proofs.Struck.Turned.{Undisturbed}
 use Rattle.demands.proofs.Struck.Kept.{Ready, NoSetup, ready_left, undisturbed}
 use Rattle.demands.proofs.Struck.Compared.{goes_alike}

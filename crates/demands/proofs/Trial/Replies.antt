@@ -1,7 +1,7 @@
 -- The replies that setups write, by document 02's number 23: a text that is laid out so and whose orders are good is one, and no other is.
 -- Assumes nothing.
 use mathlib.Core.Path.{◌≡◌, refl, sym, ap, subst, ◌∙◌}
-use mathlib.Core.Bool.{true, false, true≢false}
+use mathlib.Core.Bool.{true, true≢false}
 use mathlib.Core.List.{List, [], ◌∷◌}
 use mathlib.Core.Option.{Option, none, some, get_or}
 use Prim.Native.Nat.{ℕ, ◌≤◌, ◌^◌}
