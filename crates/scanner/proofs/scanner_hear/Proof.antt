@@ -16,34 +16,35 @@ use Rattle.scanner.proofs.States.{tells}
 use Rattle.scanner.proofs.scanner_hear.Statement.{statement}
 use Rattle.scanner.proofs.scanner_hear.Tie as tie
 
-returns : tie.Need-returns
+returns : tie.Need-returns-then-not-kept
 unfolding heard hear_number
-returns c = simp (sym c.before.before.read.ensures.is ∙ not-true _ c.if1.true)
+returns c = simp (sym c.read-kept.ensures.is ∙ not-true _ c.if-not-kept.true)
 
-is_in_session : (c : tie.Else1) → in_session c.before.before.before.before.before.before.args.state.now ≡ true
-is_in_session c = sym c.before.before.read.ensures.is ∙ not-false _ c.if1.false
+is_in_session : (c : tie.Else-not-kept) → in_session c.args.state.now ≡ true
+is_in_session c = sym c.read-kept.ensures.is ∙ not-false _ c.if-not-kept.false
 
-long : (c : tie.Else1) → length c.before.before.before.before.before.before.args.state.now ≡ state_size
-long c = (tells c.before.before.before.before.before.before.args.state.now (is_in_session c)).long
+long : (c : tie.Else-not-kept) → length c.args.state.now ≡ state_size
+long c = (tells c.args.state.now (is_in_session c)).long
 
 -- what is compared is the session's invalidation
-compared : (c : tie.After-is-invalidation) → let a = c.before.before.before.before.before.before.before.before.before.before.args in c.is-invalidation.result ≡ same a.value.now (own_invalidation (session_in a.state.now).grant)
+compared : (c : tie.After-is_invalidation) → let a = c.args in c.is_invalidation.result ≡ same a.value.now (own_invalidation (session_in a.state.now).grant)
 unfolding session_in
 compared c =
-    let a = c.before.before.before.before.before.before.before.before.before.before.args in
-    let hash = (c.before.before.before.before.before.before.read.ensures.holds (not-false _ c.before.before.before.before.if1.false)).hash in
-    c.is-invalidation.ensures ∙ ap (λ (h : Hash). same a.value.now (invalidation h (part a.state.now 51 32))) hash
+    let a = c.args in
+    let hash = (c.read-kept.ensures.holds (not-false _ c.if-not-kept.false)).hash in
+    c.is_invalidation.ensures ∙ ap (λ (h : Hash). same a.value.now (invalidation h (part a.state.now 51 32))) hash
 
-returns-2 : tie.Need-returns-2
+returns-2 : tie.Need-returns-then-not-is_invalidation
 unfolding heard hear_number
-returns-2 c = simp (is_in_session c.before.before.before.before.before, sym (compared c.before) ∙ not-true _ c.if2.true)
+returns-2 c = simp (is_in_session c.before.before.before.before, sym (compared c.before) ∙ c.if-not-is_invalidation.true)
 
-returns-3 : tie.Need-returns-3
+returns-3 : tie.Need-returns
 unfolding heard hear_number
 returns-3 c =
-    simp (is_in_session c.before.before.before.before.before.before.before.before.before, sym (compared c.before.before.before.before.before) ∙ not-false _ c.before.before.before.before.if2.false) (ap (answer 0) c.before.before.clear.ensures)
+    simp (is_in_session c.before.before.before.before.before.before.before.before, sym (compared c.before.before.before.before.before) ∙ c.if-not-is_invalidation.false) (ap (answer 0) c.clear.ensures)
 
 pub scanner_hear_spec : {M : Type 1} → statement M
 scanner_hear_spec =
-    tie.close (tie.spec (λ c κs. search rules) (λ c. search rules) returns (λ c. search rules) (λ c. search rules) (λ c. omega (arith, long c.before.before))
-    (λ c κs. search rules) (λ c. search rules) returns-2 (λ c κs. long c.before.before.before.before.before.before) (λ c. search rules) returns-3)
+    tie.close (tie.spec (λ c κs. search rules) (λ c. search rules) returns (λ c. search rules) (λ c. search rules)
+    (λ c. omega (arith, long c.before)) (λ c κs. search rules) (λ c. search rules) returns-2
+    (λ c κs. long c.before.before.before.before.before) (λ c. search rules) returns-3)

@@ -25,50 +25,50 @@ use Rattle.scanner.proofs.scanner_sign.Tie as tie
 abbrev draft : tie.Start → Draft
 draft c = draft_of c.args.clock c.args.method.now c.args.head.now c.args.path.now c.args.body.now
 
-returns : tie.Need-returns
+returns : tie.Need-returns-then-not-kept
 unfolding signed sign_number
-returns c = simp (sym c.before.before.read.ensures.is ∙ not-true _ c.if1.true)
+returns c = simp (sym c.read-kept.ensures.is ∙ not-true _ c.if-not-kept.true)
 
-is_in_session : (c : tie.Else1) → in_session c.before.before.before.before.before.before.before.before.before.before.args.state.now ≡ true
-is_in_session c = sym c.before.before.read.ensures.is ∙ not-false _ c.if1.false
+is_in_session : (c : tie.Else-not-kept) → in_session c.args.state.now ≡ true
+is_in_session c = sym c.read-kept.ensures.is ∙ not-false _ c.if-not-kept.false
 
-next_is : (c : tie.Else1) → c.before.before.read.result.held.next ≡ (session_in c.before.before.before.before.before.before.before.before.before.before.args.state.now).next
+next_is : (c : tie.Else-not-kept) → c.read-kept.result.held.next ≡ (session_in c.args.state.now).next
 unfolding session_in
-next_is c = (c.before.before.read.ensures.holds (not-false _ c.if1.false)).next
+next_is c = (c.read-kept.ensures.holds (not-false _ c.if-not-kept.false)).next
 
-returns-2 : tie.Need-returns-2
+returns-2 : tie.Need-returns-then-held-gt4294967295
 unfolding signed sign_number
 returns-2 c =
     let read = c.before.before.before in
-    simp (is_in_session read, ap (ltb 4294967295) (sym (next_is read)) ∙ lt-ltb 4294967295 read.before.before.read.result.held.next c.if2.true)
+    simp (is_in_session read, ap (ltb 4294967295) (sym (next_is read)) ∙ lt-ltb 4294967295 read.read-kept.result.held.next c.if-held-gt4294967295.true)
 
 -- a nonce is left
-left : (c : tie.Else2) → ltb 4294967295 (session_in c.before.before.before.before.before.before.before.before.before.before.before.before.before.args.state.now).next ≡ false
+left : (c : tie.Else-held-gt4294967295) → ltb 4294967295 (session_in c.args.state.now).next ≡ false
 left c =
     let read = c.before.before.before in
-    ap (ltb 4294967295) (sym (next_is read)) ∙ le-ltb 4294967295 read.before.before.read.result.held.next (search rules)
+    ap (ltb 4294967295) (sym (next_is read)) ∙ le-ltb 4294967295 read.read-kept.result.held.next (search rules)
 
-returns-3 : tie.Need-returns-3
+returns-3 : tie.Need-returns-then-not-fits
 unfolding signed sign_number
 returns-3 c =
-    let start = c.before.before.before.before.before.before.before.before.before.before.before.before.before.before.before.before in
-    simp (is_in_session c.before.before.before.before.before.before, left c.before.before.before, sym (c.before.fits2.ensures start.args.clock) ∙ not-true _ c.if3.true)
+    let start = c.before.before.before.before.before.before.before.before.before.before.before.before.before.before in
+    simp (is_in_session c.before.before.before.before.before, left c.before.before, sym (c.fits.ensures start.args.clock) ∙ c.if-not-fits.true)
 
-ready : (c : tie.Else2) → Ready c.before.before.before.before.before.before.before.before.before.before.before.before.before.args.state.now c.before.before.before.before.before.read.result.held
-ready c = record { is_in_session = is_in_session c.before.before.before; holds = c.before.before.before.before.before.read.ensures.holds (not-false _ c.before.before.before.if1.false); left = search rules }
+ready : (c : tie.Else-held-gt4294967295) → Ready c.args.state.now c.read-kept.result.held
+ready c = record { is_in_session = is_in_session c.before.before.before; holds = c.read-kept.ensures.holds (not-false _ c.if-not-kept.false); left = search rules }
 
-fits : (c : tie.Else3) → draft_fits (draft c.before.before.before.before.before.before.before.before.before.before.before.before.before.before.before.before) c.before.before.before.before.before.before.before.before.before.before.before.before.before.before.before.before.args.out.now ≡ true
-fits c = sym (c.before.fits2.ensures c.before.before.before.before.before.before.before.before.before.before.before.before.before.before.before.before.args.clock) ∙ not-false _ c.if3.false
+fits : (c : tie.Else-not-fits) → draft_fits (draft c.before.before.before.before.before.before.before.before.before.before.before.before.before.before) c.args.out.now ≡ true
+fits c = sym (c.fits.ensures c.args.clock) ∙ c.if-not-fits.false
 
-code-requires : tie.Need-code-requires
+code-requires : tie.Need-code-made-requires
 code-requires c κs =
-    let size = fitting _ _ (fits c.before) in
-    (ready c.before.before.before.before, size.method, size.head, size.path, size.body)
+    let size = fitting _ _ (fits c) in
+    (ready c.before.before, size.method, size.head, size.path, size.body)
 
-returns-4 : tie.Need-returns-4
+returns-4 : tie.Need-returns-then-not-made
 unfolding signed sign_number
 returns-4 c =
-    simp (is_in_session c.before.before.before.before.before.before.before.before.before.before, left c.before.before.before.before.before.before.before, fits c.before.before.before.before, sym c.before.before.code.ensures.is ∙ not-true _ c.if4.true)
+    simp (is_in_session c.before.before.before.before.before.before.before.before, left c.before.before.before.before.before, fits c.before.before.before, sym c.code-made.ensures.is ∙ not-true _ c.if-not-made.true)
 
 -- an answer with a value
 answered : (value out left state : List ℕ) (r : ℕ) → r ≡ length value → left ≡ fronted value out
@@ -76,29 +76,31 @@ answered : (value out left state : List ℕ) (r : ℕ) → r ≡ length value �
 answered value out left state r e f =
     rw (e, f) (ap₂ (λ (m k : ℕ). record { number = m; length = k; out = fronted value out; state = state }) (omega arith) (omega arith))
 
-good : (c : tie.Else4) → let start = c.before.before.before.before.before.before.before.before.before.before.before.before.before.before.before.before.before.before.before.before in draft_good (draft start) (session_in start.args.state.now).grant ≡ true
-good c = sym c.before.before.code.ensures.is ∙ not-false _ c.if4.false
+good : (c : tie.Else-not-made) → let start = c.before.before.before.before.before.before.before.before.before.before.before.before.before.before.before.before.before in draft_good (draft start) (session_in start.args.state.now).grant ≡ true
+good c = sym c.code-made.ensures.is ∙ not-false _ c.if-not-made.false
 
 -- the value that is written
-written : (c : tie.After-put) → let start = c.before.before.before.before.before.before.before.before.before.before.before.before.before.before.before.before.before.before.before.before.before.before.before.before in Laid start.args.out.now c.put.new.0 0 c.put.result (value_in (session_in start.args.state.now) (draft start))
+written : (c : tie.After-put-len) → let start = c.before.before.before.before.before.before.before.before.before.before.before.before.before.before.before.before.before.before.before.before in Laid start.args.out.now c.put-len.new.out 0 c.put-len.result (value_in (session_in start.args.state.now) (draft start))
 unfolding value_in session_in
 written c =
-    let holds = (ready c.before.before.before.before.before.before.before.before.before.before.before).holds in
-    let code = c.before.before.before.before.before.before.code.ensures.code (not-false _ c.before.before.before.before.if4.false) in
-    c.put.ensures.0 _ (sym holds.next) refl (sym holds.last_time) (sym code ∙ ap (λ (h : Hash). take (digest_size h) c.before.before.before.before.before.before.code.result.code) (sym holds.hash))
+    let holds = (ready c.before.before.before.before.before.before.before.before).holds in
+    let code = c.code-made.ensures.code (not-false _ c.if-not-made.false) in
+    c.put-len.ensures.0 _ (sym holds.next) refl (sym holds.last_time) (sym code ∙ ap (λ (h : Hash). take (digest_size h) c.code-made.result.code) (sym holds.hash))
 
-returns-5 : tie.Need-returns-5
+returns-5 : tie.Need-returns
 unfolding signed sign_number
 returns-5 c =
-    let start = c.before.before.before.before.before.before.before.before.before.before.before.before.before.before.before.before.before.before.before.before.before.before.before.before.before.before.before.before.before.before in
+    let start = c.before.before.before.before.before.before.before.before.before.before.before.before.before.before.before.before.before.before.before.before.before.before.before.before.before.before in
     let put = written c.before.before.before.before.before.before in
     let value = value_in (session_in start.args.state.now) (draft start) in
-    simp (is_in_session c.before.before.before.before.before.before.before.before.before.before.before.before.before.before.before.before.before.before.before.before, left c.before.before.before.before.before.before.before.before.before.before.before.before.before.before.before.before.before, fits c.before.before.before.before.before.before.before.before.before.before.before.before.before.before, good c.before.before.before.before.before.before.before.before.before.before)
+    simp (is_in_session c.before.before.before.before.before.before.before.before.before.before.before.before.before.before.before.before.before, left c.before.before.before.before.before.before.before.before.before.before.before.before.before.before, fits c.before.before.before.before.before.before.before.before.before.before.before.before, good c.before.before.before.before.before.before.before.before.before)
     (answered _ start.args.out.now _ _ _ (put.ends ∙ zero-add _) (put.is ∙ spliced_front _ _)
-    ∙ ap (λ (state : List ℕ). record { number = 0; length = length value; out = fronted value start.args.out.now; state = state }) c.before.before.advance.ensures)
+    ∙ ap (λ (state : List ℕ). record { number = 0; length = length value; out = fronted value start.args.out.now; state = state }) c.advance.ensures)
 
 pub scanner_sign_spec : {M : Type 1} → statement M
 scanner_sign_spec =
-    tie.close (tie.spec (λ c κs. search rules) (λ c. search rules) returns (λ c. search rules) returns-2 (λ c κs. search rules) (λ c. search rules) (λ c. search rules) returns-3
-    code-requires (λ c. search rules) (λ c. search rules) returns-4 (λ c κs. (ready c.before.before.before.before.before.before.before.before.before.before, (fitting _ _ (fits c.before.before.before.before.before.before.before)).room)) (λ c κs. ready c.before.before.before.before.before.before.before.before.before.before.before.before.before.before) (λ c. search rules) (λ c. search rules) (λ c. search rules) (λ c. search rules)
-    returns-5)
+    tie.close (tie.spec (λ c κs. search rules) (λ c. search rules) returns (λ c. search rules) returns-2 (λ c κs. search rules)
+    (λ c. search rules) (λ c. search rules) returns-3 code-requires (λ c. search rules) (λ c. search rules) returns-4
+    (λ c κs. (ready c.before.before.before.before.before.before.before, (fitting _ _ (fits c.before.before.before.before.before)).room))
+    (λ c κs. ready c.before.before.before.before.before.before.before.before.before.before.before) (λ c. search rules) (λ c. search rules)
+    (λ c. search rules) (λ c. search rules) returns-5)

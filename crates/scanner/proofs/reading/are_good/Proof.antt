@@ -6,11 +6,11 @@ use Rattle.orders.proofs.Orders.{checked_good, checked_bad}
 use Rattle.scanner.proofs.reading.are_good.Statement.{statement}
 use Rattle.scanner.proofs.reading.are_good.Tie as tie
 
-returns : tie.Need-returns
-returns c = sym (checked_good _ _ (sym c.before.before.check.ensures ∙ c.enum_told.given.1)).0
+returns : tie.Need-returns-in-Good
+returns c = sym (checked_good _ _ (sym c.check.ensures ∙ c.in-Good.is)).0
 
-returns-2 : tie.Need-returns-2
-returns-2 c = sym (checked_bad _ (sym c.before.before.check.ensures ∙ c.enum-told2.given.1))
+returns-2 : tie.Need-returns-in-Bad
+returns-2 c = sym (checked_bad _ (sym c.check.ensures ∙ c.in-Bad.is))
 
 pub are_good_spec : {M : Type 1} → statement M
 are_good_spec =

@@ -19,19 +19,19 @@ short : (hash : Hash) → invalidation_size hash ≤ 90
 short Sha256 = omega arith
 short Sha512 = omega arith
 
-room : (c : tie.After-invalidate) → c.invalidate.result ≤ length c.invalidate.new.0
+room : (c : tie.After-invalidate-len) → c.invalidate-len.result ≤ length c.invalidate-len.new.out
 room c =
-    let a = c.before.before.before.before.args in
-    omega (arith, c.invalidate.ensures.0, length_invalidation a.hash a.key.now, short a.hash, c.invalidate.auto)
+    let a = c.args in
+    omega (arith, c.invalidate-len.ensures.0, length_invalidation a.hash a.key.now, short a.hash, c.invalidate-len.auto)
 
 returns : tie.Need-returns
 returns c =
     let put = c.before.before.before in
-    let a = put.before.before.before.before.args in
+    let a = put.args in
     c.same.ensures
-    ∙ ap (same a.value.now) (front_taken (invalidation a.hash a.key.now) (replicate 1024 0) put.invalidate.result put.invalidate.ensures.1 put.invalidate.ensures.0)
+    ∙ ap (same a.value.now) (front_taken (invalidation a.hash a.key.now) (replicate 1024 0) put.invalidate-len.result put.invalidate-len.ensures.1 put.invalidate-len.ensures.0)
 
 pub is_invalidation_spec : {M : Type 1} → statement M
 is_invalidation_spec =
-    tie.close (tie.spec (λ c. search rules) (λ c κs. search rules) (λ c. room c.before) (λ c. sym (length-take-le _ _ (room c.before.before))) (λ c κs. search rules)
-    returns)
+    tie.close (tie.spec (λ c. search rules) (λ c κs. search rules) (λ c. room c.before)
+    (λ c. sym (length-take-le _ _ (room c.before.before))) (λ c κs. search rules) returns)

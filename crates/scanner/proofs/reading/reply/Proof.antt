@@ -16,30 +16,30 @@ use Rattle.reply.specs.LaidOut.{orders_told, is_reply}
 use Rattle.scanner.proofs.reading.reply.Statement.{statement}
 use Rattle.scanner.proofs.reading.reply.Tie as tie
 
-returns : tie.Need-returns
+returns : tie.Need-returns-then-not-heard
 unfolding is_reply
 returns c =
-    let bad = not-true _ c.if1.true in
-    record { is = bad ∙ simp (sym c.before.before.read.ensures.is ∙ bad); holds = λ e. absurd (false≢true (sym bad ∙ e)) }
+    let bad = not-true _ c.if-not-heard.true in
+    record { is = bad ∙ simp (sym c.read-heard.ensures.is ∙ bad); holds = λ e. absurd (false≢true (sym bad ∙ e)) }
 
 -- what it carries, and the orders that it tells
-held : (c : tie.Else1) → HoldsReply (carried c.before.before.before.before.args.text.now) c.before.before.read.result.reply
-held c = c.before.before.read.ensures.holds (not-false _ c.if1.false)
+held : (c : tie.Else-not-heard) → HoldsReply (carried c.args.text.now) c.read-heard.result.reply
+held c = c.read-heard.ensures.holds (not-false _ c.if-not-heard.false)
 
 orders_told_lem : (fs : List Field) (r : Reply) → HoldsReply fs r → orders_of r.ah r.h (take r.eah_len r.eah) 0 0 0 ≡ orders_told fs
 unfolding orders_told
 orders_told_lem fs r h = cc
 
-returns-2 : tie.Need-returns-2
+returns-2 : tie.Need-returns
 unfolding is_reply
 returns-2 c =
     let read = c.before.before.before.before in
     record {
-      is = c.are-good.ensures ∙ ap orders_good (orders_told_lem _ _ (held read)) ∙ simp (sym read.before.before.read.ensures.is ∙ not-false _ read.if1.false);
+      is = c.are_good.ensures ∙ ap orders_good (orders_told_lem _ _ (held read)) ∙ simp (sym read.read-heard.ensures.is ∙ not-false _ read.if-not-heard.false);
       holds = λ e. held read;
     }
 
 pub reply_spec : {M : Type 1} → statement M
 reply_spec =
-    tie.close (tie.spec (λ c κs. search rules) returns (λ c. extra_room (held c.before.before)) (λ c. sym (length-take-le _ _ (extra_room (held c.before.before.before))))
-    (λ c κs. search rules) returns-2)
+    tie.close (tie.spec (λ c κs. search rules) returns (λ c. extra_room (held c.before.before))
+    (λ c. sym (length-take-le _ _ (extra_room (held c.before.before.before)))) (λ c κs. search rules) returns-2)

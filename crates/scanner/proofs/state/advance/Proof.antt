@@ -30,11 +30,12 @@ returns c =
     let k = session_in state in
     let is = (tells state start.requires.is_in_session).written in
     let room : 12 ≤ length (state_of k) = omega (arith, long start, ap length is) in
-    c.before.before.put64.ensures
-    ∙ ap (λ (l : List ℕ). spliced l 4 (bytes_of 8 (start.args.held.next + start.args.held.mask % 2))) (c.before.before.before.before.before.before.before.before.put32.ensures ∙ ap (λ (l : List ℕ). spliced l 0 (bytes_of 4 clock)) is)
+    c.put64.ensures
+    ∙ ap (λ (l : List ℕ). spliced l 4 (bytes_of 8 (start.args.held.next + start.args.held.mask % 2))) (c.put32.ensures ∙ ap (λ (l : List ℕ). spliced l 0 (bytes_of 4 clock)) is)
     ∙ rewritten k clock _ room
     ∙ ap (λ (n : ℕ). state_of (record { grant = k.grant; last_time = clock; next = n })) (next_is start)
 
 pub advance_spec : {M : Type 1} → statement M
 advance_spec =
-    tie.close (tie.spec (λ c κs. omega (arith, long c.before.before)) (λ c. search rules) (λ c κs. omega (arith, long c.before.before.before.before.before.before.before.before, c.before.before.before.before.before.put32.auto)) (λ c. search rules) returns)
+    tie.close (tie.spec (λ c κs. omega (arith, long c.before.before)) (λ c. search rules)
+    (λ c κs. omega (arith, long c.before.before.before.before.before.before.before.before, c.put32.auto)) (λ c. search rules) returns)

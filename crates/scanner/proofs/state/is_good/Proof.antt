@@ -43,15 +43,16 @@ returns c =
     let r = start.args.held in
     let told = session_read state r start.requires.holds in
     let extra = cut state (83 + r.s_len) (83 + r.s_len + r.eah_len) in
-    let orders = c.before.before.before.are-good.ensures ∙ ap (λ (h : ℕ). orders_good (orders_of r.mask h extra 0 0 0)) c.before.before.before.before.before.mask.ensures in
-    let nonce = ap (leb r.next) c.before.before.most_next_lem.ensures in
+    let orders = c.are_good.ensures ∙ ap (λ (h : ℕ). orders_good (orders_of r.mask h extra 0 0 0)) c.mask.ensures in
+    let nonce = ap (leb r.next) c.most_next.ensures in
     ap₂ ◌&&◌
     (ap₂ ◌&&◌ (ap (leb 1) (sym (s_long start))) (ap₂ ◌&&◌ orders nonce) ∙ ap good_session told)
-    (c.same.ensures ∙ ap (same state) (c.before.before.before.before.before.before.before.before.write.ensures ∙ ap state_of told))
+    (c.same.ensures ∙ ap (same state) (c.write.ensures ∙ ap state_of told))
 
 pub is_good_spec : {M : Type 1} → statement M
 is_good_spec =
-    tie.close (tie.spec (λ c. search rules) (λ c. search rules) (λ c. search rules) (λ c. search rules) (λ c. search rules) (λ c. search rules) (λ c. search rules)
-    (λ c. search rules) (λ c. search rules) (λ c. search rules) (λ c. search rules) (λ c. search rules) (λ c. search rules) (λ c. search rules)
-    (λ c. search rules) (λ c. search rules) (λ c. search rules) (λ c. search rules) write-requires (λ c κs. search rules) (λ c. search rules) (λ c. search rules)
-    (λ c. search rules) (λ c κs. search rules) (λ c κs. search rules) (λ c. search rules) (λ c κs. search rules) returns)
+    tie.close (tie.spec (λ c. search rules) (λ c. search rules) (λ c. search rules) (λ c. search rules) (λ c. search rules)
+    (λ c. search rules) (λ c. search rules) (λ c. search rules) (λ c. search rules) (λ c. search rules) (λ c. search rules)
+    (λ c. search rules) (λ c. search rules) (λ c. search rules) (λ c. search rules) (λ c. search rules) (λ c. search rules)
+    (λ c. search rules) write-requires (λ c κs. search rules) (λ c. search rules) (λ c. search rules) (λ c. search rules)
+    (λ c κs. search rules) (λ c κs. search rules) (λ c. search rules) (λ c κs. search rules) returns)

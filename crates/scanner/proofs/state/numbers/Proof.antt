@@ -10,7 +10,7 @@ returns : tie.Need-returns
 returns c = record {
   s_size = search rules;
   extra_size = search rules;
-  hash = c.before.before.before.named.ensures ∙ ap named c.before.before.before.before.wide3.ensures;
+  hash = c.named.ensures ∙ ap named c.wide-3.ensures;
   mask = search rules;
   last_time = search rules;
   next = search rules;
@@ -18,5 +18,5 @@ returns c = record {
 
 pub numbers_spec : {M : Type 1} → statement M
 numbers_spec =
-    tie.close (tie.spec (λ c. search rules) (λ c κs. search rules) (λ c. search rules) (λ c κs. search rules) (λ c. search rules) (λ c κs. search rules)
-    (λ c κs. search rules) (λ c κs. search rules) (λ c κs. search rules) (λ c κs. search rules) returns)
+    tie.close (tie.spec (λ c. search rules) (λ c κs. search rules) (λ c. search rules) (λ c κs. search rules) (λ c. search rules)
+    (λ c κs. search rules) (λ c κs. search rules) (λ c κs. search rules) (λ c κs. search rules) (λ c κs. search rules) returns)

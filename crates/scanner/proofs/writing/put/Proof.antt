@@ -20,10 +20,10 @@ use Rattle.scanner.proofs.writing.put.Tie as tie
 has_room : (c : tie.Start) → Room c.args.state.now c.args.held
 has_room c = room c.args.state.now c.args.held c.requires.0
 
-code-front : (c : tie.After-size) → Front c.size.result c.before.before.before.before.before.before.args.t2
-code-front c = digest_front c.before.before.before.before.before.before.args.held.hash _ c.before.before.before.before.before.before.args.t2 c.size.ensures (search rules)
+code_front : (c : tie.After-size-size) → Front c.size-size.result c.args.code
+code_front c = digest_front c.args.held.hash _ c.args.code c.size-size.ensures (search rules)
 
-put-main-requires : tie.Need-put-main-requires
+put-main-requires : tie.Need-put_main-after_main-requires
 put-main-requires c κs =
     let start = c.before.before.before.before.before.before.before.before.before.before.before in
     let state = start.args.state.now in
@@ -31,37 +31,42 @@ put-main-requires c κs =
     let of_size = c.before.before.before.before.before in (
       start.requires.1,
       omega (arith, s_long state r start.requires.0, has_room start),
-      omega (arith, (code-front of_size).long, of_size.size.ensures, digest_fits r.hash),
+      omega (arith, (code_front of_size).long, of_size.size-size.ensures, digest_fits r.hash),
       length_part state 23 12 (omega (arith, has_room start)),
       length_part state 35 16 (omega (arith, has_room start)),
     )
 
-put-orders-requires : tie.Need-put-orders-requires
+put-orders-requires : tie.Need-put_orders-after_orders-requires
 put-orders-requires c κs =
     let start = c.before.before.before.before.before.before.before.before.before.before.before.before.before.before.before.before in
-    let main = c.before.before.before.before.put-main in
-    (omega (arith, main.ensures.0, main.auto.0, start.requires.1), omega (arith, extra_long start.args.state.now start.args.held start.requires.0, has_room start))
+    let main = c.put_main-after_main in
+    (omega (arith, main.ensures.0, main.auto.out, start.requires.1), omega (arith, extra_long start.args.state.now start.args.held start.requires.0, has_room start))
 
 returns : tie.Need-returns
 returns c =
     let start = c.before.before.before.before.before.before.before.before.before.before.before.before.before.before.before.before.before.before.before.before.before.before.before.before in
     let a = start.args in
     let r = a.held in
-    let main = c.before.before.before.before.before.before.before.before.before.before.before.before.put-main in
-    let orders = c.before.before.before.before.before.before.before.put-orders in
-    let nonce = c.before.before.put-nonce in
+    let main = c.put_main-after_main in
+    let orders = c.put_orders-after_orders in
+    let nonce = c.put_nonce in
     let state = a.state.now in
     let k = session_of r.last.0 r.next r.mask r.hash (part state 23 12) (part state 35 16) (part state 51 32) (cut state 83 (83 + r.s_len)) (cut state (83 + r.s_len) (83 + r.s_len + r.eah_len)) in
-    let puts : PutsValue k.grant r.next a.clock.0 r.last.0 (take c.before.before.before.before.before.before.before.before.before.before.before.before.before.before.before.before.before.before.size.result a.t2) a.out.now nonce.new.0 nonce.result =
+    let puts : PutsValue k.grant r.next a.clock.0 r.last.0 (take c.size-size.result a.code) a.out.now nonce.new.out nonce.result =
     λ m en et el ec.
     laid_value k.grant m _ _ _ _ en et el ec main.ensures.1 orders.ensures.1 nonce.ensures.1
     (omega (arith, start.requires.1, main.ensures.0, orders.ensures.0)) (omega (arith, start.requires.1, main.ensures.0, orders.ensures.0, nonce.ensures.0)) in
-    let told = subst (λ (k : Session). PutsValue k.grant r.next a.clock.0 r.last.0 (take c.before.before.before.before.before.before.before.before.before.before.before.before.before.before.before.before.before.before.size.result a.t2) a.out.now nonce.new.0 nonce.result) (session_read state r start.requires.0.holds) puts in
-    (rw c.before.before.before.before.before.before.before.before.before.before.before.before.before.before.before.before.before.before.size.ensures at told, omega (arith, main.ensures.0, orders.ensures.0, nonce.ensures.0))
+    let told = subst (λ (k : Session). PutsValue k.grant r.next a.clock.0 r.last.0 (take c.size-size.result a.code) a.out.now nonce.new.out nonce.result) (session_read state r start.requires.0.holds) puts in
+    (rw c.size-size.ensures at told, omega (arith, main.ensures.0, orders.ensures.0, nonce.ensures.0))
 
 pub put_spec : {M : Type 1} → statement M
 put_spec =
-    tie.close (tie.spec (λ c. omega (arith, has_room c.before.before.before)) (λ c. omega (arith, has_room c.before.before.before.before)) (λ c κs. search rules) (λ c. search rules) (λ c. search rules)
-    (λ c. omega (arith, has_room c.before.before.before.before.before.before.before)) (λ c. (code-front c.before.before).fits) (λ c. (code-front c.before.before.before).long) (λ c. search rules) (λ c. search rules)
-    (λ c. omega (arith, has_room c.before.before.before.before.before.before.before.before.before)) (λ c. search rules) (λ c. search rules) (λ c. omega (arith, has_room c.before.before.before.before.before.before.before.before.before.before)) put-main-requires (λ c. search rules) (λ c. search rules)
-    (λ c. omega (arith, has_room c.before.before.before.before.before.before.before.before.before.before.before.before.before.before.before)) put-orders-requires (λ c. search rules) (λ c κs. search rules) (λ c. search rules) returns)
+    tie.close (tie.spec (λ c. omega (arith, has_room c.before.before.before)) (λ c. omega (arith, has_room c.before.before.before.before))
+    (λ c κs. search rules) (λ c. search rules) (λ c. search rules)
+    (λ c. omega (arith, has_room c.before.before.before.before.before.before.before)) (λ c. (code_front c.before.before).fits)
+    (λ c. (code_front c.before.before.before).long) (λ c. search rules) (λ c. search rules)
+    (λ c. omega (arith, has_room c.before.before.before.before.before.before.before.before.before)) (λ c. search rules) (λ c. search rules)
+    (λ c. omega (arith, has_room c.before.before.before.before.before.before.before.before.before.before)) put-main-requires
+    (λ c. search rules) (λ c. search rules)
+    (λ c. omega (arith, has_room c.before.before.before.before.before.before.before.before.before.before.before.before.before.before.before))
+    put-orders-requires (λ c. search rules) (λ c κs. search rules) (λ c. search rules) returns)

@@ -14,54 +14,54 @@ use Rattle.scanner.proofs.writing.put_main.Statement.{statement}
 use Rattle.scanner.proofs.writing.put_main.Tie as tie
 
 -- where iv ends
-short : (c : tie.After-put-next2) → c.put-next2.result ≤ 296
+short : (c : tie.After-put_next-after_iv) → c.put_next-after_iv.result ≤ 296
 unfolding codes
 short c =
     omega (
       arith,
-      c.before.before.before.before.before.before.before.before.before.before.before.before.before.before.before.before.before.before.before.before.before.before.before.before.before.before.before.before.requires,
-      c.before.before.before.before.before.before.before.before.before.before.before.before.before.before.before.before.before.before.before.before.put-field.ensures.0,
-      c.before.before.before.before.before.before.before.before.before.before.before.before.before.before.before.put_next.ensures.0,
-      c.before.before.before.before.before.before.before.before.before.before.put-number.ensures.0,
-      c.before.before.before.before.before.put-number2.ensures.0,
-      c.put-next2.ensures.0,
+      c.requires,
+      c.put_field-after_s.ensures.0,
+      c.put_next-after_c.ensures.0,
+      c.put_number-after_t.ensures.0,
+      c.put_number-after_lt.ensures.0,
+      c.put_next-after_iv.ensures.0,
     )
 
 -- the buffer is as long as it was
-room : (c : tie.After-put-field) → 4096 ≤ length c.put-field.new.0
-room c = omega (arith, c.before.before.before.before.before.before.before.before.requires.0, c.put-field.auto.0)
+room : (c : tie.After-put_field-after_s) → 4096 ≤ length c.put_field-after_s.new.out
+room c = omega (arith, c.requires.0, c.put_field-after_s.auto.out)
 
-put-next-requires-3 : tie.Need-put-next-requires-3
+put-next-requires-3 : tie.Need-put_next-requires
 unfolding codes
 put-next-requires-3 c κs =
-    omega (arith, short c.before.before.before.before, room c.before.before.before.before.before.before.before.before.before.before.before.before.before.before.before.before.before.before.before.before.before.before.before.before, c.before.before.before.before.before.before.before.before.before.before.before.before.before.before.before.before.before.before.before.before.before.before.before.before.before.before.before.before.before.before.before.before.requires, c.before.before.before.before.before.before.before.before.before.before.before.before.before.before.before.before.before.before.before.put_next.auto.0, c.before.before.before.before.before.before.before.before.before.before.before.before.before.before.put-number.auto.0, c.before.before.before.before.before.before.before.before.before.put-number2.auto.0, c.before.before.before.before.put-next2.auto.0)
+    omega (arith, short c.before.before.before.before.before, room c.before.before.before.before.before.before.before.before.before.before.before.before.before.before.before.before.before.before.before.before.before.before.before.before.before.before.before.before.before, c.requires, c.put_next-after_c.auto.out, c.put_number-after_t.auto.out, c.put_number-after_lt.auto.out, c.put_next-after_iv.auto.out)
 
 returns : tie.Need-returns
 unfolding codes
 returns c =
     let start = c.before.before.before.before.before.before.before.before.before.before.before.before.before.before.before.before.before.before.before.before.before.before.before.before.before.before.before.before.before.before.before.before.before.before.before in
     let a = start.args in
-    let s = c.before.before.before.before.before.before.before.before.before.before.before.before.before.before.before.before.before.before.before.before.before.before.before.before.before.before.before.put-field in
-    let code = c.before.before.before.before.before.before.before.before.before.before.before.before.before.before.before.before.before.before.before.before.before.before.put_next in
-    let time = c.before.before.before.before.before.before.before.before.before.before.before.before.before.before.before.before.before.put-number in
-    let last = c.before.before.before.before.before.before.before.before.before.before.before.before.put-number2 in
-    let iv = c.before.before.before.before.before.before.before.put-next2 in
-    let tag = c.before.before.put-next3 in
+    let s = c.put_field-after_s in
+    let code = c.put_next-after_c in
+    let time = c.put_number-after_t in
+    let last = c.put_number-after_lt in
+    let iv = c.put_next-after_iv in
+    let tag = c.put_next in
     let C = field (codes "c") a.c.now in
     let T = field (codes "t") (number_bytes a.t.0) in
     let L = field (codes "lt") (number_bytes a.lt.0) in
     let I = field (codes "iv") a.iv.now in
     let G = field (codes "tag") a.tag.now in
-    let end : tag.result ≤ 325 = omega (arith, start.requires, short c.before.before.before.before.before.before.before, tag.ensures.0) in
-    let kept = room c.before.before.before.before.before.before.before.before.before.before.before.before.before.before.before.before.before.before.before.before.before.before.before.before.before.before.before in
+    let end : tag.result ≤ 325 = omega (arith, start.requires, short c.before.before.before.before.before.before.before.before, tag.ensures.0) in
+    let kept = room c.before.before.before.before.before.before.before.before.before.before.before.before.before.before.before.before.before.before.before.before.before.before.before.before.before.before.before.before.before.before.before.before in
     let before_iv : last.result ≤ 325 = omega (arith, end, iv.ensures.0, tag.ensures.0) in
     let before_lt : time.result ≤ 325 = omega (arith, start.requires, s.ensures.0, code.ensures.0, time.ensures.0) in
     let two = laid_following (C ∷ []) (T ∷ []) code.ensures.1 time.ensures.1 (omega arith) in
     let three = laid_following (C ∷ T ∷ []) (L ∷ []) two last.ensures.1 (omega arith) in
-    let four = laid_following (C ∷ T ∷ L ∷ []) (I ∷ []) three iv.ensures.1 (omega (arith, short c.before.before.before.before.before.before.before)) in
+    let four = laid_following (C ∷ T ∷ L ∷ []) (I ∷ []) three iv.ensures.1 (omega (arith, short c.before.before.before.before.before.before.before.before)) in
     (end, laid_more s.ensures.1 (laid_following (C ∷ T ∷ L ∷ I ∷ []) (G ∷ []) four tag.ensures.1 (omega arith)) (omega (arith, start.requires.0)))
 
 pub put_main_spec : {M : Type 1} → statement M
 put_main_spec =
-    tie.close (tie.spec (λ c. search rules) (λ c κs. search rules) (λ c. search rules) (λ c κs. search rules) (λ c. search rules) (λ c κs. search rules)
-    (λ c. search rules) (λ c κs. search rules) (λ c. search rules) (λ c κs. search rules) (λ c. search rules) put-next-requires-3 (λ c. search rules) returns)
+    tie.close (tie.spec (λ c. search rules) (λ c. search rules) (λ c. search rules) (λ c. search rules) (λ c. search rules)
+    put-next-requires-3 (λ c. search rules) returns)

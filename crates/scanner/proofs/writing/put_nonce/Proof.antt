@@ -10,20 +10,20 @@ use Rattle.armor.specs.Value.{following}
 use Rattle.scanner.proofs.writing.put_nonce.Statement.{statement}
 use Rattle.scanner.proofs.writing.put_nonce.Tie as tie
 
-returns : tie.Need-returns
+returns : tie.Need-returns-then-mask-eq1
 unfolding codes
 returns c =
-    let f = c.before.before.put-number in
-    let a = c.before.before.before.before.before.before.before.args in (
+    let f = c.put_number in
+    let a = c.args in (
       omega (arith, f.ensures.0),
-      rw (eq-eqb (a.mask % 2) 1 c.before.before.before.before.before.if1.true) f.ensures.1,
+      rw (eq-eqb (a.mask % 2) 1 c.if-mask-eq1.true) f.ensures.1,
     )
 
-returns-2 : tie.Need-returns-2
+returns-2 : tie.Need-returns
 unfolding following
 returns-2 c =
-    let a = c.before.before.args in
-    (omega arith, rw (ne_eqb (a.mask % 2) 1 c.if1.false) (laid_none a.out.now a.at))
+    let a = c.args in
+    (omega arith, rw (ne_eqb (a.mask % 2) 1 c.if-mask-eq1.false) (laid_none a.out.now a.at))
 
 pub put_nonce_spec : {M : Type 1} → statement M
-put_nonce_spec = tie.close (tie.spec (λ c. search rules) (λ c κs. search rules) (λ c. search rules) returns returns-2)
+put_nonce_spec = tie.close (tie.spec (λ c. search rules) (λ c. search rules) returns returns-2)
