@@ -16,7 +16,7 @@ use Rattle.hmac.specs.Hmac.{hmac_of}
 use Rattle.armor.specs.Value.{field, field_text}
 use Rattle.signed.specs.SignedText.{orders_nonce}
 use Rattle.reply.specs.Replies.{invalidation}
-use Rattle.scanner.specs.State.{Session, no_session, state_of, session_in, in_session}
+use Rattle.scanner.specs.State.{no_session, state_of, session_in, in_session}
 use Rattle.scanner.specs.Begin.{begun_with, begin_number, Answer, answer, begun}
 use Rattle.scanner.specs.Sign.{Draft, draft_fits, draft_good, sign_number, value_in, advanced, Outcome, outcome, sign_outcome, signed}
 use Rattle.scanner.specs.Hear.{own_invalidation, hear_number, heard}

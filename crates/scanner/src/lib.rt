@@ -16,8 +16,7 @@ mod state;
 mod writing;
 
 // Begins a session with the reply to its setup, at a time.
-#[unsafe(no_mangle)]
-pub extern "C" fn scanner_begin(time: u32, setup_reply: &[u8], state: &mut [u8]) -> u32
+pub fn scanner_begin(time: u32, setup_reply: &[u8], state: &mut [u8]) -> u32
     ensures { answer result state.new ≡ begun time setup_reply.now state.old }
 {
     if state.len() != state::SIZE {
@@ -35,8 +34,7 @@ pub extern "C" fn scanner_begin(time: u32, setup_reply: &[u8], state: &mut [u8])
 }
 
 // Makes the X-S-Armor value of a request, at the front of out. The answer is the number plus 256 times its length.
-#[unsafe(no_mangle)]
-pub extern "C" fn scanner_sign(
+pub fn scanner_sign(
     clock: u32,
     method: &[u8],
     head: &[u8],
@@ -69,8 +67,7 @@ pub extern "C" fn scanner_sign(
 }
 
 // Hears a value: if it is the session's invalidation, the session is gone.
-#[unsafe(no_mangle)]
-pub extern "C" fn scanner_hear(value: &[u8], state: &mut [u8]) -> u32
+pub fn scanner_hear(value: &[u8], state: &mut [u8]) -> u32
     ensures { answer result state.new ≡ heard value.now state.old }
 {
     let kept = state::read(state);
