@@ -8,7 +8,8 @@ ghost use Rattle.reply.specs.InnerRead.{ReadsLaidOut};
 
 use armor::{Reply, ReplyRead};
 
-// What a reply carries, if it is laid out as a setup writes it.
+// What a reply carries, if it is laid out as a setup writes it. Not inlined, as is_written is not, so that gate_fits signs without their frames.
+#[inline(never)]
 pub fn read(text: &[u8]) -> ReplyRead
     requires { length text.now ≤ 4096 }
     ensures { ReadsLaidOut text.now result }
@@ -26,6 +27,7 @@ pub fn read(text: &[u8]) -> ReplyRead
 
 // Whether a text is what a setup would write of what it carries: their order, one `;` between them and none at the end, and kh's name are
 // seen from that at once.
+#[inline(never)]
 fn is_written(text: &[u8], reply: Reply) -> bool
     requires { HoldsReply (carried text.now) reply }
     ensures { result ≡ same text.now (reply_with (carried text.now)) }
