@@ -65,7 +65,7 @@ most_next mask = cond (orders_nonce mask) 4294967296 0
 unfoldable pub good_session : Session → Bool
 good_session k = leb 1 (length k.grant.s) && (orders_good (orders_for k.grant) && leb k.next (most_next k.grant.mask))
 
--- a state that one of the calls has left: it is what would be written of what it tells, and that is a session. `left-exactly` of
+-- a state that one of the calls has left: it is what would be written of what it tells, and that is a session. `left_exactly` of
 -- crates/demands/proofs/Scanner/States.antt says that these are the states that calls leave
 unfoldable pub in_session : List ℕ → Bool
 in_session state =

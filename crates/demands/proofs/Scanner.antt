@@ -1,6 +1,7 @@
 -- A scanner of ours and the gate that set it up: document 02, K14. What is asked of what happens stands in specs/Scanner.antt.
 -- Assumes nothing.
 pub mod Begins
+pub mod Client
 pub mod Requests
 pub mod States
 pub mod Witnesses
@@ -23,7 +24,8 @@ use Rattle.table.specs.declared.place.Place.TheVariants.{At}
 use Rattle.table.specs.Record.{window_of}
 use Rattle.table.specs.Table.{is_used}
 use Rattle.table.specs.Session.{place_of, held_at}
-use Rattle.scanner.specs.Requests.{Grant, Message, client_value}
+use Rattle.scanner.specs.Requests as Own
+use Rattle.scanner.specs.Requests.{Grant}
 use Rattle.scanner.specs.State as S
 use Rattle.scanner.specs.State.{state_size, Session, no_session, state_of}
 use Rattle.scanner.specs.Begin.{answer, begun}
@@ -42,9 +44,9 @@ use Rattle.gate.specs.Judge.{judged}
 use Rattle.demands.specs.Effects.{TenOrThirteen}
 use Rattle.demands.specs.History.{Call, setting_up, judging}
 use Rattle.demands.specs.Struck.{Lendable, bears, session_in}
-use Rattle.demands.specs.Client.{grant_of, client_request, LentBytes, Fair}
+use Rattle.demands.specs.Client.{Message, client_request, LentBytes, Fair}
 use Rattle.demands.specs.Trial.{SetupReply}
-use Rattle.demands.specs.Scanner.{World, world_of, Arrival, Event, losing, sending, calling, arriving, happening, world_after, Proper, AllInOrder, AllTaken}
+use Rattle.demands.specs.Scanner.{grant_of, World, world_of, Arrival, Event, losing, sending, calling, arriving, happening, world_after, Proper, AllInOrder, AllTaken}
 use Rattle.demands.proofs.Shared.Answers.{next, set_up_number}
 use Rattle.demands.proofs.Shared.Named.{placed, found_session}
 use Rattle.demands.proofs.Untouched as Untouched
@@ -52,9 +54,10 @@ use Rattle.demands.proofs.Struck.Calls.{turned, judge_turns}
 use Rattle.demands.proofs.Struck.Kept.{Ready, ready, ready_left}
 use Rattle.demands.proofs.Struck.Compared.{unused}
 use Rattle.demands.proofs.Arrival.Others.{stood}
-use Rattle.demands.proofs.Client.{Small, fair-small, hash_is, token_is, iv_is, served, client_nonce, session-new}
+use Rattle.demands.proofs.Client.{client_nonce}
 use Rattle.demands.proofs.Client.Replies.{setup_writes}
 use Rattle.demands.proofs.Scanner.Begins.{begins, begins_kept}
+use Rattle.demands.proofs.Scanner.Client.{told, value_told, Small, hash_is, token_is, iv_fair, served, session_new}
 use Rattle.demands.proofs.Scanner.Requests.{arrived, request_is, fair}
 
 -- the scanner takes what a setup that is done wrote, and keeps what it brings
@@ -62,11 +65,13 @@ module _ (s : Setup) (before : State) (time : ℕ) (room : List ℕ) (lent_bytes
   wrote : SetupReply (reply_of s)
   wrote = setup_writes s before (sym (set_up_number s before) ∙ ok) lent_bytes (reply_of s) refl
 
-  pub begun_by_reply : length room ≡ state_size → begun time (reply_of s) room ≡ answer 0 (state_of (record { grant = grant_of s; last_time = time; next = 0 }))
+  pub begun_by_reply : length room ≡ state_size
+      → begun time (reply_of s) room ≡ answer 0 (state_of (record { grant = grant_of s; last_time = time; next = 0 }))
   unfolding wrote setup_writes
   begun_by_reply long = begins (reply_of s) wrote time room long
 
-  begun_kept : time < 2 ^ 32 → length room ≡ state_size → Kept (record { grant = grant_of s; last_time = time; next = 0 }) (begun time (reply_of s) room).state
+  begun_kept : time < 2 ^ 32 → length room ≡ state_size
+      → Kept (record { grant = grant_of s; last_time = time; next = 0 }) (begun time (reply_of s) room).state
   unfolding wrote setup_writes
   begun_kept small long = begins_kept (reply_of s) wrote time room long small
 
@@ -124,13 +129,13 @@ module _ (s : Setup) where
       accepted : (judged q w.gate).number ≡ 0
       accepted =
           ap (λ (x : Request). (judged x w.gate).number) request
-          ∙ served s before lent_bytes ok message a.clock a.reply (fair-small message_fair) message_fair w.gate g.ready.sizes g.ready.well g.ready.index r refl used old.hash
+          ∙ served s before lent_bytes ok message a.clock a.reply message_fair w.gate g.ready r refl used old.hash
           ∙ tested ordered (λ o. rw o (newest (window_of r) n old.below).0) (λ o. rw o refl)
 
       -- its session's record holds its nonce then
       session_after : session_in s.iv (judged q w.gate).state.table ≡ cond ordered (next (nonce_of q) r) r
       session_after =
-          let iv = ap iv_of request ∙ iv_is s before lent_bytes ok message a.clock a.reply (fair-small message_fair) in
+          let iv = ap iv_of request ∙ iv_fair s before lent_bytes ok message a.clock a.reply message_fair in
           ap (λ (v : List ℕ). session_in v (judged q w.gate).state.table) (sym iv)
           ∙ (judge_turns q w.gate g.ready.well g.ready.whole).session
           ∙ ap₂ (turned q) accepted (ap (λ (v : List ℕ). session_in v w.gate.table) iv)
@@ -206,7 +211,8 @@ module _ (s : Setup) where
       session = record { grant = grant_of s; last_time = time; next = 0 };
       kept = begun_kept s before time room lent_bytes ok small long;
       grant = refl;
-      serves = λ i at. subst (λ (x : Record). Serves 0 x) (sym (session-new s before lent_bytes ok)) (record { hash = refl; below = λ any. absurd (true≢false (sym any)) });
+      serves = λ i at. subst (λ (x : Record). Serves 0 x) (sym (session_new s before lent_bytes ok))
+          (record { hash = refl; below = λ any. absurd (true≢false (sym any)) });
     }
 
     agrees : (events : List Event) → AllInOrder s start events → Agree (world_after s start events)
@@ -233,12 +239,13 @@ told_believed s before lent_bytes ok d out a w are grant small e two =
     let k = S.session_in w.scanner in
     let passed = made d w.scanner out e in
     let kept = in_kept w.scanner are passed.is_in_session in
-    let numbers : Small (message_in k d) = record { time = small; last_time = kept.sized.last_time; nonce = omega (arith, passed.left) } in
+    let message = told (message_in k d) in
+    let numbers : Small message = record { time = small; last_time = kept.sized.last_time; nonce = omega (arith, passed.left) } in
     let with_value : List ℕ → Request = λ v.
     request_of s.orders a.clock s.server_key v d.method a.head a.aside d.path d.body a.reply in
-    let value = value_is d w.scanner out e ∙ ap (λ (g : Grant). client_value g (message_in k d)) grant in
-    let hash = ap (λ (v : List ℕ). hash_of (with_value v)) value ∙ hash_is s before lent_bytes ok (message_in k d) a.clock a.reply numbers in
-    let token = ap (λ (v : List ℕ). token_of (with_value v)) value ∙ token_is s before lent_bytes ok (message_in k d) a.clock a.reply numbers in
+    let value = value_is d w.scanner out e ∙ ap (λ (g : Grant). Own.client_value g (message_in k d)) grant ∙ value_told s (message_in k d) in
+    let hash = ap (λ (v : List ℕ). hash_of (with_value v)) value ∙ hash_is s before lent_bytes ok message a.clock a.reply numbers in
+    let token = ap (λ (v : List ℕ). token_of (with_value v)) value ∙ token_is s before lent_bytes ok message a.clock a.reply numbers in
     let o = judged (arriving s d out a w.scanner) w.gate in
     let reply = ((Untouched.judge (arriving s d out a w.scanner) w.gate).invalidated two).reply in
     let text = ap (λ (n : ℕ). take n o.reply) reply.long ∙ reply.front ∙ ap₂ invalidation hash (ap (λ (t : Token). t.key) token) in

@@ -30,8 +30,7 @@ use Rattle.scanner.proofs.States.{Good, good, next_fits}
 use Rattle.scanner.proofs.Calls.{begun_passed, makes, Kept, in_kept, kept_told, kept_in, kept_signed}
 use Rattle.demands.specs.Trial.{SetupReply}
 use Rattle.demands.specs.Scanner.{Left, beginning, signing}
-use Rattle.demands.proofs.Trial.Replies.{some_setup}
-use Rattle.demands.proofs.Scanner.Begins.{begins, begins_kept}
+use Rattle.demands.proofs.Scanner.Begins.{some_setup, begins, begins_kept}
 
 -- a request that every session makes that has a nonce left
 abbrev pub plain : ℕ → Draft

@@ -9,15 +9,17 @@ use Rattle.cells.proofs.Tests.{both}
 use Rattle.names.specs.Names.{is_token}
 use Rattle.lines.specs.Lines.{good_block}
 use Rattle.signed.specs.SignedText.{request_text, signed_of}
-use Rattle.scanner.specs.Requests.{Grant, Message, client_code, client_fields, client_value}
+use Rattle.scanner.specs.Requests as Own
+use Rattle.scanner.specs.Requests.{Grant}
 use Rattle.scanner.specs.State.{Session}
 use Rattle.scanner.specs.Sign.{Draft, draft_good, message_in, value_in}
 use Rattle.scanner.proofs.Drafts.{fitting}
 use Rattle.scanner.proofs.Calls.{Made, made, value_is, Kept, kept_told}
 use Rattle.stages.specs.Request.{request_of}
 use Rattle.gate.specs.Calls.{Setup}
-use Rattle.demands.specs.Client.{grant_of, client_request, Fair}
-use Rattle.demands.specs.Scanner.{World, Arrival, arriving, Proper}
+use Rattle.demands.specs.Client.{Message, client_code, client_fields, client_request, Fair}
+use Rattle.demands.specs.Scanner.{grant_of, World, Arrival, arriving, Proper}
+use Rattle.demands.proofs.Scanner.Client.{told, client_value, value_told}
 
 -- a session's message, with the lines that came
 abbrev pub arrived : Session → Draft → Arrival → Message
@@ -37,8 +39,8 @@ module _ (s : Setup) (k : Session) (grant : k.grant ≡ grant_of s) (w : World) 
   abbrev m : Message
   m = arrived k d a
 
-  same_value : client_value (grant_of s) (message_in k d) ≡ client_value (grant_of s) m
-  unfolding client_value client_fields client_code request_text signed_of
+  same_value : client_value s (told (message_in k d)) ≡ client_value s m
+  unfolding client_fields client_code request_text signed_of
   same_value = rw p.as_signed refl
 
   pub request_is : arriving s d out a w.scanner ≡ client_request s m a.clock a.reply
@@ -47,7 +49,8 @@ module _ (s : Setup) (k : Session) (grant : k.grant ≡ grant_of s) (w : World) 
       ap (λ (v : List ℕ). request_of s.orders a.clock s.server_key v d.method a.head a.aside d.path d.body a.reply)
       (value_is d w.scanner out p.made
       ∙ ap (λ (l : Session). value_in l d) (kept_told kept)
-      ∙ ap (λ (g : Grant). client_value g (message_in k d)) grant
+      ∙ ap (λ (g : Grant). Own.client_value g (message_in k d)) grant
+      ∙ value_told s (message_in k d)
       ∙ same_value)
 
   passed : Made d w.scanner out

@@ -12,15 +12,28 @@ use Rattle.signed.specs.SignedText.{covered_values}
 use Rattle.table.specs.Session.{place_of}
 use Rattle.stages.specs.Request.{Request, request_of}
 use Rattle.stages.specs.Checks.{nowhere}
+use Rattle.scanner.specs.Requests.{Grant}
 use Rattle.scanner.specs.State.{session_in}
 use Rattle.scanner.specs.Begin.{begun}
 use Rattle.scanner.specs.Sign.{Draft, signed}
 use Rattle.gate.specs.Calls.{Setup}
 use Rattle.gate.specs.State.{State}
-use Rattle.gate.specs.Setup.{expiry_of, reply_of, set_up}
+use Rattle.gate.specs.Setup.{chosen_of, expiry_of, sealed_of, reply_of, set_up}
 use Rattle.gate.specs.Judge.{judged}
 use Rattle.demands.specs.History.{Call, answer}
 use Rattle.demands.specs.Struck.{bears}
+
+-- what the reply to a setup brings
+abbrev pub grant_of : Setup → Grant
+grant_of s = record {
+  s = (sealed_of s).cipher;
+  iv = s.iv;
+  tag = (sealed_of s).tag;
+  key = s.session_key;
+  hash = chosen_of s;
+  mask = s.orders.numbers.mask;
+  extra = s.orders.extra;
+}
 
 -- the state that a gate's host keeps, and the one that a scanner's does
 pub record World : Type 0 where
