@@ -1,5 +1,5 @@
 #!/usr/bin/env python3
-"""What a reader must believe, found by following `use`: the spec files that the contracts of the exported calls and the theorems of demands, logs, signatures and carrier rest on.
+"""What a reader must believe, found by following `use`: the spec files that the contracts of the exported calls and the theorems of demands, logs, signatures, carrier and scanner rest on.
 
 Run from the repository's root. Every such file must be named in docs/TRUST.md's table; every other spec file only names what inner functions
 keep, and its name begins with Inner. With --list, prints the files. The last line is 'N passed, M failed'."""
@@ -8,14 +8,15 @@ import re
 import sys
 
 CRATES = pathlib.Path("crates")
-EXPORTS = ["crates/gate/src/lib.rt", "crates/primitives/src/lib.rt", "crates/carrier/src/lib.rt"]
-DEMANDS = ["Untouched", "History", "Agreement", "Cases", "Determined", "Client", "Age", "Chosen", "Index", "Struck", "Arrival", "Trial", "Struck/Steps", "Struck/Witnesses", "Arrival/Witnesses", "Witnesses"]
+EXPORTS = [f"crates/{name}/src/lib.rt" for name in ("gate", "primitives", "carrier", "scanner")]
+DEMANDS = ["Untouched", "History", "Agreement", "Cases", "Determined", "Client", "Age", "Chosen", "Index", "Struck", "Arrival", "Trial", "Scanner", "Scanner/States", "Struck/Steps", "Struck/Witnesses", "Arrival/Witnesses", "Scanner/Witnesses", "Witnesses"]
 THEOREMS = [
     *(f"crates/demands/proofs/{name}.antt" for name in DEMANDS),
     "crates/logs/proofs/Theorems.antt",
     "crates/signatures/proofs/Once.antt",
     "crates/signatures/proofs/Alike.antt",
     "crates/carrier/proofs/Theorems.antt",
+    "crates/scanner/proofs/Theorems.antt",
 ]
 # today's libraries are trusted as a whole, as the checker is
 LIBRARY = {"std", "core"}

@@ -33,11 +33,22 @@ def write_sentences(arguments):
 
 def write_carrier(arguments):
     """Write calls to a carrier."""
-    from carrier import writing as carrier  # here alone: the gate's calls know nothing of it
-    from carrier.calls import Writer
+    from carrier import calls as asked, writing as carrier  # here alone: the gate's calls know nothing of it
 
-    with writing(arguments, Writer) as writer:
-        written, missing = carrier.write(writer, arguments.seed, arguments.count)
+    return write_beside(arguments, asked.Writer, carrier.write)
+
+
+def write_scanner(arguments):
+    """Write a scanner's calls."""
+    from scanner import calls as asked, writing as scanner  # here alone, as above
+
+    return write_beside(arguments, asked.Writer, scanner.write)
+
+
+def write_beside(arguments, writer, write):
+    """The calls of a library beside the gate's."""
+    with writing(arguments, writer) as opened:
+        written, missing = write(opened, arguments.seed, arguments.count)
     print(f"{written} calls")
     for call, number in missing:
         print(f"no drawn {call} was answered {number}")
@@ -149,6 +160,11 @@ def command_line():
     add_seed_and_count(command)
     add_files(command)
     command.set_defaults(run=write_carrier)
+
+    command = commands.add_parser("scanner", help="write a scanner's calls, named and drawn ones, and the answers to them")
+    add_seed_and_count(command)
+    add_files(command)
+    command.set_defaults(run=write_scanner)
 
     command = commands.add_parser("compare", help="compare a program's answers with the expected ones")
     command.add_argument("--calls", required=True)

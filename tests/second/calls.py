@@ -1,6 +1,6 @@
 """The call file and the answers file: writing, reading, comparing. README.md describes both formats."""
 
-from typing import NamedTuple, Optional
+from typing import NamedTuple
 
 import model
 import record as rec
@@ -17,7 +17,12 @@ ARGUMENTS = {
     "fits": ["setup_reply", *SENT],
     "sign": "method authority path lines names created label key_id key out_size out_byte".split(),
     "verify": "method authority path lines names label key_id key input signature created".split(),
+    "scanner_begin": ["time", "setup_reply"],
+    "scanner_sign": "clock method head path body".split(),
+    "scanner_hear": ["value"],
 }
+# Lines that are no call: what is lent from now on, and goes on from call to call.
+LENT = {"table": ("table", "index"), "reply": ("reply",), "state": ("state",), "out": ("out",)}
 MOST_SHOWN = 5
 
 
@@ -105,33 +110,37 @@ class Writer:
 
 
 class Asked(NamedTuple):
-    """One call as read from a call file; table and reply lines stand here only if they came since the last call."""
+    """One call as read from a call file, and what the lines since the last call lend."""
 
     line_number: int
-    line: str
-    table: Optional[str]
-    reply: Optional[str]
+    kind: str
+    fields: list
+    lent: dict
 
 
 def read_calls(lines):
-    table = reply = None
+    lent = {}
     for number, line in enumerate(lines, 1):
-        line = line.rstrip("\n")
-        if line.startswith("table "):
-            table = line
-        elif line.startswith("reply "):
-            reply = line
+        kind, *fields = line.rstrip("\n").split(" ")
+        if kind in LENT:
+            lent |= zip(LENT[kind], fields if kind == "table" else [" ".join(fields)])
         else:
-            yield Asked(number, line, table, reply)
-            table = reply = None
+            yield Asked(number, kind, fields, lent)
+            lent = {}
+
+
+def left_by(kind):
+    """What goes on from call to call, as an answer has it; to a carrier nothing does."""
+    if kind in ("sign", "verify"):
+        return ()
+    return ("out", "state") if kind.startswith("scanner_") else ("reply", "table", "index")
 
 
 def shown(asked, name, before, wanted, got):
     """A difference, with the call whole."""
-    kind, *fields = asked.line.split(" ")
-    lines = [f"line {asked.line_number}: {kind}: {name}"]
-    lines += [f"  lent {text}" for text in before]
-    lines += [f"  {label} {text}" for label, text in zip(ARGUMENTS[kind], fields)]
+    lines = [f"line {asked.line_number}: {asked.kind}: {name}"]
+    lines += [f"  lent {run} {before.get(run, '(none)')}" for run in left_by(asked.kind)]
+    lines += [f"  {label} {text}" for label, text in zip(ARGUMENTS[asked.kind], asked.fields)]
     lines += [f"  expected {wanted}", f"  got      {got}"]
     return "\n".join(lines)
 
@@ -139,23 +148,18 @@ def shown(asked, name, before, wanted, got):
 def compare(calls, names, expected, got, out):
     """Print the first few differences whole and a closing line; true if there was none."""
     differences = count = 0
-    lent = dict.fromkeys(("reply", "table", "index"), "(none)")  # what goes on from call to call, as an answer has it; to a carrier nothing does
+    lent = {}
     got = iter(got)
     for asked, name, wanted in zip(read_calls(calls), names, expected, strict=True):
-        if asked.table:
-            _, lent["table"], lent["index"] = asked.table.split(" ")
-        if asked.reply:
-            lent["reply"] = asked.reply.removeprefix("reply ")
+        lent |= asked.lent
         wanted, answer = wanted.rstrip("\n"), next(got, "no answer").rstrip("\n")
         _, _, *left = wanted.split(" ")
         count += 1
         if wanted != answer:
             differences += 1
             if differences <= MOST_SHOWN:
-                before = [f"{run} {text}" for run, text in lent.items()] if len(left) == len(lent) else []
-                print(shown(asked, name.rstrip("\n"), before, wanted, answer), file=out)
-        if len(left) == len(lent):
-            lent |= {run: text for run, text in zip(lent, left) if text != "="}
+                print(shown(asked, name.rstrip("\n"), lent, wanted, answer), file=out)
+        lent |= {run: text for run, text in zip(left_by(asked.kind), left) if text != "="}
     unasked = sum(1 for _ in got)
     if unasked:
         print(f"{unasked} answers more than calls", file=out)

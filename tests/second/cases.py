@@ -1,4 +1,4 @@
-"""Self-tests: the twelve proved cases of document 01, a hand-made call for each row of its table, the catalogue, and calls to a carrier."""
+"""Self-tests: the twelve proved cases of document 01, a hand-made call for each row of its table, the catalogue, calls to a carrier, and a scanner's."""
 
 import base64
 import hashlib
@@ -20,6 +20,7 @@ import record as rec
 from carrier import cases as carrier_cases
 from faults import CATALOGUE
 from histories import Disagreement, History
+from scanner import cases as scanner_cases
 
 CASES = []
 
@@ -649,7 +650,7 @@ def comparing():
     )
 
 
-# Calls signed for a carrier (document 02, K13)
+# Calls signed for a carrier (document 02, K13), and a scanner's own side (K14)
 
-for told_case in carrier_cases.told():
+for told_case in (*carrier_cases.told(), *scanner_cases.told()):
     equal(*told_case)

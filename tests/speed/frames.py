@@ -11,7 +11,11 @@ import sys
 
 WORD = 8
 PAGE = 4096
-CALLS = ["gate_setup", "gate_judge", "gate_judge_one", "gate_fits", "gate_end", "gate_index", "carrier_sign", "carrier_verify"]
+CALLS = [
+    *("gate_setup", "gate_judge", "gate_judge_one", "gate_fits", "gate_end", "gate_index"),
+    *("carrier_sign", "carrier_verify"),
+    *("scanner_begin", "scanner_sign", "scanner_hear"),
+]
 
 
 def number(text):
