@@ -90,7 +90,8 @@ pub fn code(
     }
 }
 
-// The notes on the covered names in a head, with nothing set aside.
+// The notes on the covered names in a head, with nothing set aside. Not inlined, so that the code is made without the sheet of names in its frame.
+#[inline(never)]
 fn note(mask: u64, extra: &[u8], head: &[u8], in_head: &mut [u16], in_aside: &mut [u16]) -> Noted
     requires { (good_extra extra.now ≡ true) × (length head.now ≤ 16384) × (in_head.old ≡ replicate 64 0) × (in_aside.old ≡ replicate 64 0) }
     ensures { NotedIs (covered_names mask extra.now) head.now [] in_head.new in_aside.new result }
