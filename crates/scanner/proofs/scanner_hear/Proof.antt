@@ -27,7 +27,8 @@ long : (c : tie.Else-not-kept) → length c.args.state.now ≡ state_size
 long c = (tells c.args.state.now (is_in_session c)).long
 
 -- what is compared is the session's invalidation
-compared : (c : tie.After-is_invalidation) → let a = c.args in c.is_invalidation.result ≡ same a.value.now (own_invalidation (session_in a.state.now).grant)
+compared : (c : tie.After-is_invalidation) → let a = c.args in
+    c.is_invalidation.result ≡ same a.value.now (own_invalidation (session_in a.state.now).grant)
 unfolding session_in
 compared c =
     let a = c.args in
@@ -41,7 +42,10 @@ returns-2 c = simp (is_in_session c.before.before.before.before, sym (compared c
 returns-3 : tie.Need-returns
 unfolding heard hear_number
 returns-3 c =
-    simp (is_in_session c.before.before.before.before.before.before.before.before, sym (compared c.before.before.before.before.before) ∙ c.if-not-is_invalidation.false) (ap (answer 0) c.clear.ensures)
+    simp (
+      is_in_session c.before.before.before.before.before.before.before.before,
+      sym (compared c.before.before.before.before.before) ∙ c.if-not-is_invalidation.false,
+    ) (ap (answer 0) c.clear.ensures)
 
 pub scanner_hear_spec : {M : Type 1} → statement M
 scanner_hear_spec =

@@ -31,7 +31,8 @@ returns c =
     let is = (tells state start.requires.is_in_session).written in
     let room : 12 ≤ length (state_of k) = omega (arith, long start, ap length is) in
     c.put64.ensures
-    ∙ ap (λ (l : List ℕ). spliced l 4 (bytes_of 8 (start.args.held.next + start.args.held.mask % 2))) (c.put32.ensures ∙ ap (λ (l : List ℕ). spliced l 0 (bytes_of 4 clock)) is)
+    ∙ ap (λ (l : List ℕ). spliced l 4 (bytes_of 8 (start.args.held.next + start.args.held.mask % 2)))
+    (c.put32.ensures ∙ ap (λ (l : List ℕ). spliced l 0 (bytes_of 4 clock)) is)
     ∙ rewritten k clock _ room
     ∙ ap (λ (n : ℕ). state_of (record { grant = k.grant; last_time = clock; next = n })) (next_is start)
 

@@ -30,7 +30,9 @@ pub begin_spec : {M : Type 1} → statement M
 begin_spec =
     tie.close (tie.spec (λ c κs. search rules) (λ c κs. search rules) (λ c. search rules) (λ c. search rules) (λ c. search rules)
     (λ c. s_room c.before.before.before.before.before.before.before.before.before.before.before.before.before.before.before)
-    (λ c. sym (length-take-le _ _ (s_room c.before.before.before.before.before.before.before.before.before.before.before.before.before.before.before.before)))
+    (λ c. sym
+    (length-take-le _ _ (s_room c.before.before.before.before.before.before.before.before.before.before.before.before.before.before.before.before)))
     (λ c. extra_room c.before.before.before.before.before.before.before.before.before.before.before.before.before.before.before.before)
-    (λ c. sym (length-take-le _ _ (extra_room c.before.before.before.before.before.before.before.before.before.before.before.before.before.before.before.before.before)))
+    (λ c. sym
+    (length-take-le _ _ (extra_room c.before.before.before.before.before.before.before.before.before.before.before.before.before.before.before.before.before)))
     write-requires (λ c. search rules) returns)

@@ -20,7 +20,8 @@ s_long : (c : tie.Start) → let n = c.args.held.s_len in length (cut c.args.sta
 s_long c = long_cut c.args.state.now 83 c.args.held.s_len (omega (arith, c.requires.long, c.requires.s_fits))
 
 extra_long : (c : tie.Start) → let n = c.args.held.s_len in let m = c.args.held.eah_len in length (cut c.args.state.now (83 + n) (83 + n + m)) ≡ m
-extra_long c = long_cut c.args.state.now (83 + c.args.held.s_len) c.args.held.eah_len (omega (arith, c.requires.long, c.requires.s_fits, c.requires.extra_fits))
+extra_long c =
+    long_cut c.args.state.now (83 + c.args.held.s_len) c.args.held.eah_len (omega (arith, c.requires.long, c.requires.s_fits, c.requires.extra_fits))
 
 write-requires : tie.Need-write-requires
 write-requires c κs =

@@ -10,18 +10,18 @@ use Rattle.cells.specs.InnerLaid.{Laid}
 use Rattle.cells.proofs.Numbers.{length_bytes_of}
 use Rattle.cells.proofs.Laid.{laid_more}
 use Rattle.hashes.proofs.Hashes.{mask_small}
-use Rattle.scanner.specs.State.{state_size}
+use Rattle.scanner.specs.State.{state_size, no_session}
 use Rattle.scanner.specs.InnerSteps.{session_of}
 use Rattle.scanner.proofs.States.{laid_session}
 use Rattle.scanner.proofs.state.write.Statement.{statement}
 use Rattle.scanner.proofs.state.write.Tie as tie
 
-long : (c : tie.Start) → length c.args.out.now ≡ 329
-long c = ap length c.requires.0 ∙ length-replicate {A = ℕ} state_size 0
+long : {out : List ℕ} → out ≡ no_session → length out ≡ 329
+long p = ap length p ∙ length-replicate {A = ℕ} state_size 0
 
 -- and stays so
 long_last : (c : tie.After-put32) → length c.put32.new.out ≡ 329
-long_last c = c.put32.auto.out ∙ long c.before.before.before.before.before.before.before.before
+long_last c = c.put32.auto.out ∙ long c.requires.0
 
 long_next : (c : tie.After-put64) → length c.put64.new.out ≡ 329
 long_next c = c.put64.auto.out ∙ long_last c.before.before.before.before
@@ -53,10 +53,9 @@ up_to next p e = record { is = p.is; ends = e }
 
 returns : tie.Need-returns
 returns c =
-    let start = c.before.before.before.before.before.before.before.before.before.before.before.before.before.before.before.before.before.before.before.before.before.before.before.before.before.before.before.before.before.before.before.before.before.before.before.before.before.before.before.before.before.before.before.before in
-    let a = start.args in
-    let p = start.requires in
-    let room = long start in
+    let a = c.args in
+    let p = c.requires in
+    let room = long p.0 in
     let last : Laid a.out.now _ 0 4 _ = record { is = c.put32.ensures; ends = omega (arith, length_bytes_of 4 a.last.0) } in
     let next : Laid _ _ 4 12 _ = record { is = c.put64.ensures; ends = omega (arith, length_bytes_of 8 a.next) } in
     let mask : Laid _ _ 12 20 _ = record { is = c.put64-2.ensures; ends = omega (arith, length_bytes_of 8 a.mask) } in
@@ -72,7 +71,7 @@ returns c =
 
 pub write_spec : {M : Type 1} → statement M
 write_spec =
-    tie.close (tie.spec (λ c κs. omega (arith, long c.before.before.before.before.before.before.before))
+    tie.close (tie.spec (λ c κs. omega (arith, long c.requires.0))
     (λ c κs. omega (arith, long_last c.before.before.before)) (λ c κs. omega (arith, long_next c.before.before.before))
     (λ c κs. search rules) (λ c. omega (arith, c.mask.ensures, mask_small c.args.hash)) (λ c. search rules) (λ c. search rules)
     (λ c. search rules) (λ c κs. omega (arith, long_mask c.before.before.before.before.before))
@@ -80,5 +79,5 @@ write_spec =
     (λ c κs. omega (arith, long_iv c.before.before.before, c.requires)) (λ c κs. omega (arith, long_tag c.before.before.before, c.requires))
     (λ c κs. omega (arith, long_key c.before.before.before, c.requires))
     (λ c κs. omega (arith, long_s c.before.before.before, c.put_at-at.ensures.ends, c.requires))
-    (λ c. long_extra c.before.before ∙ sym (long c.before.before.before.before.before.before.before.before.before.before.before.before.before.before.before.before.before.before.before.before.before.before.before.before.before.before.before.before.before.before.before.before.before.before.before.before.before.before.before.before.before.before.before.before))
+    (λ c. long_extra c.before.before ∙ sym (long c.requires.0))
     returns)

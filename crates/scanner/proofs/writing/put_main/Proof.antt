@@ -27,20 +27,24 @@ short c =
       c.put_next-after_iv.ensures.0,
     )
 
--- the buffer is as long as it was
-room : (c : tie.After-put_field-after_s) → 4096 ≤ length c.put_field-after_s.new.out
-room c = omega (arith, c.requires.0, c.put_field-after_s.auto.out)
-
 put-next-requires-3 : tie.Need-put_next-requires
 unfolding codes
 put-next-requires-3 c κs =
-    omega (arith, short c.before.before.before.before.before, room c.before.before.before.before.before.before.before.before.before.before.before.before.before.before.before.before.before.before.before.before.before.before.before.before.before.before.before.before.before, c.requires, c.put_next-after_c.auto.out, c.put_number-after_t.auto.out, c.put_number-after_lt.auto.out, c.put_next-after_iv.auto.out)
+    omega (
+      arith,
+      short c.before.before.before.before.before,
+      c.requires,
+      c.put_field-after_s.auto.out,
+      c.put_next-after_c.auto.out,
+      c.put_number-after_t.auto.out,
+      c.put_number-after_lt.auto.out,
+      c.put_next-after_iv.auto.out,
+    )
 
 returns : tie.Need-returns
 unfolding codes
 returns c =
-    let start = c.before.before.before.before.before.before.before.before.before.before.before.before.before.before.before.before.before.before.before.before.before.before.before.before.before.before.before.before.before.before.before.before.before.before.before in
-    let a = start.args in
+    let a = c.args in
     let s = c.put_field-after_s in
     let code = c.put_next-after_c in
     let time = c.put_number-after_t in
@@ -52,14 +56,15 @@ returns c =
     let L = field (codes "lt") (number_bytes a.lt.0) in
     let I = field (codes "iv") a.iv.now in
     let G = field (codes "tag") a.tag.now in
-    let end : tag.result ≤ 325 = omega (arith, start.requires, short c.before.before.before.before.before.before.before.before, tag.ensures.0) in
-    let kept = room c.before.before.before.before.before.before.before.before.before.before.before.before.before.before.before.before.before.before.before.before.before.before.before.before.before.before.before.before.before.before.before.before in
+    let end : tag.result ≤ 325 = omega (arith, c.requires, short c.before.before.before.before.before.before.before.before, tag.ensures.0) in
+    let kept : 4096 ≤ length s.new.out = omega (arith, c.requires.0, s.auto.out) in
     let before_iv : last.result ≤ 325 = omega (arith, end, iv.ensures.0, tag.ensures.0) in
-    let before_lt : time.result ≤ 325 = omega (arith, start.requires, s.ensures.0, code.ensures.0, time.ensures.0) in
+    let before_lt : time.result ≤ 325 = omega (arith, c.requires, s.ensures.0, code.ensures.0, time.ensures.0) in
     let two = laid_following (C ∷ []) (T ∷ []) code.ensures.1 time.ensures.1 (omega arith) in
     let three = laid_following (C ∷ T ∷ []) (L ∷ []) two last.ensures.1 (omega arith) in
-    let four = laid_following (C ∷ T ∷ L ∷ []) (I ∷ []) three iv.ensures.1 (omega (arith, short c.before.before.before.before.before.before.before.before)) in
-    (end, laid_more s.ensures.1 (laid_following (C ∷ T ∷ L ∷ I ∷ []) (G ∷ []) four tag.ensures.1 (omega arith)) (omega (arith, start.requires.0)))
+    let four = laid_following (C ∷ T ∷ L ∷ []) (I ∷ []) three iv.ensures.1
+    (omega (arith, short c.before.before.before.before.before.before.before.before)) in
+    (end, laid_more s.ensures.1 (laid_following (C ∷ T ∷ L ∷ I ∷ []) (G ∷ []) four tag.ensures.1 (omega arith)) (omega (arith, c.requires.0)))
 
 pub put_main_spec : {M : Type 1} → statement M
 put_main_spec =
