@@ -146,7 +146,7 @@ cut_bytes n k p q =
     ∙ ap (take (8 - (8 - k))) (suffix (bytes_of 8 n)).1
     ∙ take_all (8 - (8 - k)) (number_bytes n) (omega arith)
 
--- what `isNumeral` says
+-- what `is_numeral` says
 pub numeral_parts : (k : ℕ) (bs : List ℕ) → is_numeral k bs ≡ true → (1 ≤ length bs) × (length bs ≤ k) × (plain bs ≡ true)
 unfolding is_numeral
 numeral_parts k bs t = search (first, second, leb-true)
@@ -194,7 +194,7 @@ pub mask_of_mask_bytes : (m : ℕ) → m < 2 ^ 64 → mask_of (mask_bytes m) ≡
 unfolding mask_bytes mask_of
 mask_of_mask_bytes m h = number_number_bytes m h
 
--- what `isMask` says
+-- what `is_mask` says
 pub mask_parts : (n : ℕ) (bs : List ℕ) → is_mask (n ∷ bs) ≡ true → (n ≡ length bs) × (is_numeral 8 bs ≡ true)
 unfolding is_mask
 mask_parts n bs t = search (first, second, eqb-true)

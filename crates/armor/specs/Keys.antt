@@ -1,5 +1,5 @@
 -- The keys that have a meaning, and the rule for what each holds: document 01, The X-S-Armor value, and document 02, K2, for c.
--- A key goes by its place in the list `keys`: `key-names` of proofs/Keys.antt says which name each number has, and `names-exactly` that no other name has it.
+-- A key goes by its place in the list `keys`: `key_names` of proofs/Keys.antt says which name each number has, and `names_exactly` that no other name has it.
 -- Assumes nothing.
 use Rattle.std.specs.Prelude.{Bool, true, cond, ◌&&◌, ◌||◌, List, [], ◌∷◌, ℕ, suc, eqb, leb, length, get_or}
 use Prim.Native.String.{String}

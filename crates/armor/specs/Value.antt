@@ -1,5 +1,5 @@
 -- The fields of an X-S-Armor value: document 01, The X-S-Armor value.
--- `ValueOf` says what the text of some fields is; `grammar` finds the fields, and `grammar-exactly` of proofs/Value.antt says that the two agree.
+-- `ValueOf` says what the text of some fields is; `grammar` finds the fields, and `grammar_exactly` of proofs/Value.antt says that the two agree.
 -- Assumes nothing.
 use Rattle.std.specs.Prelude.{◌≡◌, ◌⊎◌, Bool, true, false, cond, ◌&&◌, List, [], ◌∷◌, ◌++◌, ℕ, ◌<◌, leb, length}
 use Rattle.std.proofs.Math.Option.{Option, none, some, get_or}

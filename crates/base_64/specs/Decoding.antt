@@ -1,5 +1,5 @@
 -- The byte run of a text, if the text encodes one: RFC 4648, section 4, with the padding required and the spare bits zero (section 3.5).
--- `decoded-exactly` of proofs/Exactly.antt says that this is the inverse of `encoded`.
+-- `decoded_exactly` of proofs/Exactly.antt says that this is the inverse of `encoded`.
 -- Assumes nothing.
 use Rattle.std.specs.Prelude.{Bool, true, false, List, [], ◌∷◌, ◌++◌, ℕ, ◌+◌, ◌*◌, ◌/◌, ◌%◌, eqb, ltb, take}
 use Rattle.base_64.specs.Alphabet.{six_bits, pad}

@@ -1,7 +1,7 @@
 -- Document 02, K1: "60 passes, 61 is 14", and K6: "a request whose t is more than 30 seconds ahead of now is refused; 30 passes". A request
 -- that passes the checks other than those of its nonce, come at another time before its token's expiry, passes them from 30 seconds before its
--- time until its request life after it, and is 21 before that span and 14 after it (`by-life`). Where the orders leave the request life at 0
--- that is 60 seconds (`by_default`), and where they name 300 it is 300 (`as-named`). What is accepted is in its span (`accepted-in-span`), so a
+-- time until its request life after it, and is 21 before that span and 14 after it (`by_life`). Where the orders leave the request life at 0
+-- that is 60 seconds (`by_default`), and where they name 300 it is 300 (`as_named`). What is accepted is in its span (`accepted_in_span`), so a
 -- recorded request is of no use outside it, whatever the table has become (`recorded`).
 -- Assumes nothing.
 use mathlib.Core.Path.{◌≡◌, refl, sym, subst, ◌∙◌}

@@ -1,11 +1,11 @@
 -- Demand 2 of document 00: "On a table that began empty and that only these calls changed, with no IV lent to two setups and nonces
 -- ordered, a request that passes the other checks is accepted exactly if its nonce was not accepted before in that session and is less
 -- than 64 below the highest accepted; a first nonce always passes."
--- `accepted-exactly` is that sentence. `verdict-exactly` says more: which of 0, 15 and 16 is answered, and it asks only that no two setups
+-- `accepted_exactly` is that sentence. `verdict_exactly` says more: which of 0, 15 and 16 is answered, and it asks only that no two setups
 -- that were answered 0 had one IV. The calls before are any, with any arguments and answers, and need not order nonces. The table has any
 -- number of records: where that is not 1 to 4,096, each call that is lent it answers 1. A session is known by its IV (document 01).
--- `well-formed` and `never-malformed`: such a table stays well formed and keeps its length, so 3 is never answered. `index-right` and
--- `never-unindexed`: beside a table of 1 to 4,096 records an index that began without an entry stays the one that fits, so 22 is never answered.
+-- `well_formed_lem` and `never_malformed`: such a table stays well formed and keeps its length, so 3 is never answered. `index_right` and
+-- `never_unindexed`: beside a table of 1 to 4,096 records an index that began without an entry stays the one that fits, so 22 is never answered.
 -- Assumes nothing.
 pub mod Sessions
 pub mod Tables

@@ -1,7 +1,7 @@
 -- Document 02, K7: "For every well-formed table, index that fits it and IV, lookup through the index gives what a scan gives, and each call
--- leaves the index right for the table it leaves." The first is `looked-up`, the second `left-right`. An index that fits is one and only one
--- (`one-fits`, `only-one-fits`), gate_index writes it (`made`), and whether a call answers 3 does not depend on it (`three-alone`).
--- That refusals other than 10 and 13 touch nothing, the index included, is Untouched's `untouched-else`; histories are History's.
+-- leaves the index right for the table it leaves." The first is `looked_up`, the second `left_right`. An index that fits is one and only one
+-- (`one_fits`, `only_one_fits`), gate_index writes it (`made`), and whether a call answers 3 does not depend on it (`three_alone`).
+-- That refusals other than 10 and 13 touch nothing, the index included, is Untouched's `untouched_else`; histories are History's.
 -- Assumes nothing.
 pub mod Calls
 use mathlib.Core.Path.{◌≡◌, refl, sym, ap, ap₂, ◌∙◌}

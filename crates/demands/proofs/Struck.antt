@@ -1,9 +1,9 @@
 -- Document 02, K9: "from a well-formed table, after all setups, take any sequence of requests and endings. Strike out every call that bears
 -- another session's IV. This session's verdicts, replies and record at the end are the same. The clock values of its own calls are kept."
--- `others-struck` is that sentence, and `any-strike` says it of every strike that keeps the calls that bear this session's IV. Calls by the thin
+-- `others_struck` is that sentence, and `any_strike` says it of every strike that keeps the calls that bear this session's IV. Calls by the thin
 -- entry, over a record of the table, and makings of an index may be among them; each brings its clock, orders, keys and bytes with it, whatever they
 -- are. So other sessions' calls neither end a session nor delay it nor fill its window (`unharmed`), and two makers' sessions are judged on two
--- tables as on one (`two-tables`), whatever places they have there and however many records the tables have.
+-- tables as on one (`two_tables`), whatever places they have there and however many records the tables have.
 -- Assumes nothing.
 pub mod Turned
 pub mod Calls

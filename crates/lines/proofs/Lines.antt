@@ -1,4 +1,4 @@
--- A block that is lines has one reading, and `linesIn` finds it.
+-- A block that is lines has one reading, and `lines_in` finds it.
 -- Assumes nothing.
 use mathlib.Core.Path.{◌≡◌, refl, sym, ap, ◌∙◌}
 use mathlib.Core.List.{List, [], ◌∷◌, ◌++◌, append_assoc}

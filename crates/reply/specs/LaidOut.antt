@@ -1,5 +1,5 @@
 -- Whether a text is laid out as a setup writes its reply: document 01, 'The X-S-Armor value', its paragraph on the setup reply, and document 02,
--- K11. `some-setup` of crates/demands/proofs/Trial/Replies.antt says that, with good orders, these are the texts that setups write.
+-- K11. `some_setup` of crates/demands/proofs/Trial/Replies.antt says that, with good orders, these are the texts that setups write.
 -- Assumes nothing.
 use Rattle.std.specs.Prelude.{Bool, ◌&&◌, List, ℕ}
 use Rattle.cells.specs.Runs.{same}

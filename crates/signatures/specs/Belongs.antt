@@ -1,4 +1,4 @@
--- Which base belongs to a message and its parameters, told by RFC 9421, 2.5, step by step: `exactly-one` and `none_of` of proofs/Once.antt are about it.
+-- Which base belongs to a message and its parameters, told by RFC 9421, 2.5, step by step: `exactly_one` and `none_of` of proofs/Once.antt are about it.
 -- Assumes nothing.
 use Rattle.std.specs.Prelude.{ℕ, ◌≡◌, List, [], ◌∷◌, ◌++◌, false}
 use Rattle.names.specs.Extra.{extra_names as listed}

@@ -1,5 +1,5 @@
 -- The token s: document 01, 'The X-S-Armor value', its paragraph on the setup reply, and number 9.
--- `tokenText` says what the text of a token is; `tokenIn` finds the token, and `token-exactly` of proofs/Exactly.antt says that the two agree.
+-- `token_text` says what the text of a token is; `token_in` finds the token, and `token_exactly` of proofs/Exactly.antt says that the two agree.
 -- Assumes nothing.
 use Rattle.std.specs.Prelude.{Bool, true, false, cond, ◌&&◌, List, [], ◌∷◌, ℕ, suc, ◌^◌, eqb, leb, ltb, length, take, drop}
 use Rattle.std.proofs.Math.Option.{Option, none, some}

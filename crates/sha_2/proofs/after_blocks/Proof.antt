@@ -1,4 +1,4 @@
--- `sha2::after_blocks` meets its contract: each hash's own.
+-- `sha_2::after_blocks` meets its contract: each hash's own.
 -- Assumes nothing.
 use Rattle.std.proofs.Common.{rules}
 use Rattle.sha_2.proofs.after_blocks.Statement.{statement}

@@ -1,4 +1,4 @@
--- `sha2::begun` meets its contract.
+-- `sha_2::begun` meets its contract.
 -- Assumes nothing.
 use Rattle.std.proofs.Common.{rules}
 use Rattle.sha_2.proofs.begun.Statement.{statement}

@@ -1,4 +1,4 @@
--- `sha2::blocks_in` meets its contract.
+-- `sha_2::blocks_in` meets its contract.
 -- Assumes nothing.
 use Rattle.std.proofs.Common.{rules}
 use Rattle.sha_2.proofs.blocks_in.Statement.{statement}

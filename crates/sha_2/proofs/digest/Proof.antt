@@ -1,4 +1,4 @@
--- `sha2::digest` meets its contract: each hash's own.
+-- `sha_2::digest` meets its contract: each hash's own.
 -- Assumes nothing.
 use Rattle.std.proofs.Common.{rules}
 use Rattle.sha_2.proofs.digest.Statement.{statement}

@@ -1,4 +1,4 @@
--- `sha2::initial` meets its contract: the standard's numbers.
+-- `sha_2::initial` meets its contract: the standard's numbers.
 -- Assumes nothing.
 use Rattle.std.proofs.Common.{rules}
 use Rattle.sha_2.specs.Constants.{initial}

@@ -1,4 +1,4 @@
--- `sha2::zeros` meets its contract.
+-- `sha_2::zeros` meets its contract.
 -- Assumes nothing.
 use Rattle.std.proofs.Common.{rules}
 use Rattle.sha_2.proofs.zeros.Statement.{statement}

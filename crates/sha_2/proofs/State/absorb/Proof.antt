@@ -1,4 +1,4 @@
--- `sha2::State::absorb` meets its contract: the end of the block that was begun, and then the rest.
+-- `sha_2::State::absorb` meets its contract: the end of the block that was begun, and then the rest.
 -- Assumes nothing.
 use Rattle.std.proofs.Common.{◌≡◌, ℕ, ◌+◌, ◌-◌, ◌%◌, List, length, take, sym, ap, ◌∙◌, arith, length-drop, take-append-drop, length-take-le, rules}
 use Rattle.hashes.specs.declared.Hash.{Hash}

@@ -1,4 +1,4 @@
--- `sha2::State::complete` meets its contract.
+-- `sha_2::State::complete` meets its contract.
 -- Assumes nothing.
 use Rattle.std.proofs.Common.{◌≡◌, ℕ, length, refl, ap, ◌∙◌, arith, rules}
 use Rattle.cells.specs.Runs.{spliced}

@@ -1,4 +1,4 @@
--- `sha2::State::finish` meets its contract: the block that was begun and the padding are whole blocks, side by side.
+-- `sha_2::State::finish` meets its contract: the block that was begun and the padding are whole blocks, side by side.
 -- Assumes nothing.
 use Rattle.std.proofs.Common.{◌≡◌, ℕ, ◌+◌, ◌-◌, ◌*◌, ◌/◌, ◌%◌, ◌≤◌, List, length, take, set, replicate, sym, ap, ◌∙◌, subst, ap₂, arith, length-set, length-take-le, rules}
 use Rattle.cells.specs.Numbers.{bytes_of}

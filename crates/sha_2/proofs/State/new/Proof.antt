@@ -1,4 +1,4 @@
--- `sha2::State::new` meets its contract: no block, no byte.
+-- `sha_2::State::new` meets its contract: no block, no byte.
 -- Assumes nothing.
 use Rattle.std.proofs.Common.{refl, rules}
 use Rattle.sha_2.proofs.Streaming.{none_taken}

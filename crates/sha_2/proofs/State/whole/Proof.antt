@@ -1,4 +1,4 @@
--- `sha2::State::whole` meets its contract.
+-- `sha_2::State::whole` meets its contract.
 -- Assumes nothing.
 use Rattle.std.proofs.Common.{◌≡◌, ℕ, ◌*◌, ◌/◌, ◌≤◌, List, length, drop, refl, ap, ◌∙◌, ap₂, arith, length-drop, rules}
 use Rattle.cells.specs.Runs.{spliced}

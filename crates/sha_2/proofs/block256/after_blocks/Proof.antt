@@ -1,4 +1,4 @@
--- `sha2::block256::after_blocks` meets its contract. The loop's invariant: the first i blocks are hashed.
+-- `sha_2::block256::after_blocks` meets its contract. The loop's invariant: the first i blocks are hashed.
 -- Assumes nothing.
 use Rattle.std.proofs.Common.{◌≡◌, ℕ, ◌+◌, ◌-◌, ◌*◌, ◌≤◌, List, refl, ap, ◌∙◌, ap₂, add-one, arith, rules}
 use Rattle.cells.specs.Runs.{part}

@@ -1,4 +1,4 @@
--- `sha2::block256::digest` meets its contract: eight words side by side.
+-- `sha_2::block256::digest` meets its contract: eight words side by side.
 -- Assumes nothing.
 use Rattle.std.proofs.Common.{ap, ◌∙◌, rules}
 use Rattle.hashes.specs.declared.Hash.TheVariants.{Sha256}

@@ -1,4 +1,4 @@
--- `sha2::block256::narrowed` meets its contract: no bit is lost of a word that fits.
+-- `sha_2::block256::narrowed` meets its contract: no bit is lost of a word that fits.
 -- Assumes nothing.
 use Rattle.std.proofs.Common.{◌≡◌, ℕ, ◌%◌, ◌^◌, ◌<◌, arith, rules}
 use Rattle.sha_2.proofs.block256.narrowed.Statement.{statement}

@@ -1,4 +1,4 @@
--- `sha2::block256::round` meets its contract: T1, T2 and the working variables anew.
+-- `sha_2::block256::round` meets its contract: T1, T2 and the working variables anew.
 -- Assumes nothing.
 use Rattle.std.proofs.Common.{rules}
 use Rattle.sha_2.specs.Block.{T1, T2, round_of}

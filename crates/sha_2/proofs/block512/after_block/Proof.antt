@@ -1,4 +1,4 @@
--- `sha2::block512::after_block` meets its contract: all the rounds, and the sums.
+-- `sha_2::block512::after_block` meets its contract: all the rounds, and the sums.
 -- Assumes nothing.
 use Rattle.std.proofs.Common.{ℕ, List, refl, rules}
 use Rattle.hashes.specs.declared.Hash.TheVariants.{Sha512}

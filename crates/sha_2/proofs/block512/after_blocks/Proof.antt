@@ -1,4 +1,4 @@
--- `sha2::block512::after_blocks` meets its contract. The loop's invariant: the first i blocks are hashed.
+-- `sha_2::block512::after_blocks` meets its contract. The loop's invariant: the first i blocks are hashed.
 -- Assumes nothing.
 use Rattle.std.proofs.Common.{◌≡◌, ℕ, ◌+◌, ◌-◌, ◌*◌, ◌≤◌, List, refl, ap, ◌∙◌, ap₂, add-one, arith}
 use Rattle.cells.specs.Runs.{part}

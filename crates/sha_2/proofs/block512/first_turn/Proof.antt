@@ -1,4 +1,4 @@
--- `sha2::block512::first_turn` meets its contract: a word of the block's own, and its round.
+-- `sha_2::block512::first_turn` meets its contract: a word of the block's own, and its round.
 -- Assumes nothing.
 use Rattle.std.proofs.Common.{arith, rules}
 use Rattle.hashes.specs.declared.Hash.TheVariants.{Sha512}

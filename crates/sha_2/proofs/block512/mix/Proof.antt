@@ -1,4 +1,4 @@
--- `sha2::block512::mix` meets its contract: its sums are the definition's.
+-- `sha_2::block512::mix` meets its contract: its sums are the definition's.
 -- Assumes nothing.
 use Rattle.std.proofs.Common.{rules}
 use Rattle.sha_2.specs.Block.{mix}

@@ -1,4 +1,4 @@
--- `sha2::block512::rounds_0_15` meets its contract: sixteen rounds, one after the other.
+-- `sha_2::block512::rounds_0_15` meets its contract: sixteen rounds, one after the other.
 -- Assumes nothing.
 use Rattle.std.proofs.Common.{refl, lit<}
 use Rattle.sha_2.specs.Constants.{K}

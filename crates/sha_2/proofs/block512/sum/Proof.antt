@@ -1,4 +1,4 @@
--- `sha2::block512::sum` meets its contract: word by word.
+-- `sha_2::block512::sum` meets its contract: word by word.
 -- Assumes nothing.
 use Rattle.std.proofs.Common.{rules}
 use Rattle.sha_2.specs.Block.{sum_of}

@@ -1,4 +1,4 @@
--- `sha2::block512::turn` meets its contract: a word that is made from four before it, and its round.
+-- `sha_2::block512::turn` meets its contract: a word that is made from four before it, and its round.
 -- Assumes nothing.
 use Rattle.std.proofs.Common.{rules}
 use Rattle.hashes.specs.declared.Hash.TheVariants.{Sha512}

@@ -1,4 +1,4 @@
--- `sha2::word256::small_sigma0` meets its contract: rotations within rotations give the same number.
+-- `sha_2::word256::small_sigma0` meets its contract: rotations within rotations give the same number.
 -- Assumes nothing.
 use Rattle.std.proofs.Common.{refl}
 use Rattle.sha_2.specs.Word.{SHR, σ0}

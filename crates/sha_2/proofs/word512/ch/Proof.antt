@@ -1,4 +1,4 @@
--- `sha2::word512::ch` meets its contract: fewer operations give the same number.
+-- `sha_2::word512::ch` meets its contract: fewer operations give the same number.
 -- Assumes nothing.
 use Rattle.sha_2.specs.Word.{Ch}
 use Rattle.sha_2.proofs.ChMaj.{ch_shorter}

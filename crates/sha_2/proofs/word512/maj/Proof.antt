@@ -1,4 +1,4 @@
--- `sha2::word512::maj` meets its contract: fewer operations give the same number.
+-- `sha_2::word512::maj` meets its contract: fewer operations give the same number.
 -- Assumes nothing.
 use Rattle.sha_2.specs.Word.{Maj}
 use Rattle.sha_2.proofs.ChMaj.{maj_shorter}
