@@ -7,7 +7,7 @@ native() {
   machine=$(uname -m)
   kit=$(readlink -f "$(command -v rt)")
   kit=${kit%/bin/rt}
-  tools=on/$machine/toolchain
+  tools=toolchain
   clang=$kit/$tools/bin/clang
   up_to_date "$own/$1.bc" handed_over "$1"
   "$clang" --target="$machine-linux-gnu" -Wno-override-module -x ir -S -emit-llvm -Xclang -disable-llvm-passes -o - "$own/$1.bc" |
@@ -28,13 +28,17 @@ for word; do case \$word in *.bc) cp "\$word" "$own/$1.bc" ;; esac; done
 exec "$clang" "\$@"
 SCRIPT
   chmod +x "$own/kit/$tools/bin/clang"
-  for below in . "on/$machine" "$tools" "$tools/bin"; do
+  for below in . "$tools" "$tools/bin"; do
     for file in "$kit/$below"/*; do
       [[ -e $own/kit/$below/${file##*/} ]] || ln -s "$file" "$own/kit/$below/"
     done
   done
+  # rt takes its kit from where it lies itself
+  rm "$own/kit/bin"
+  cp -r "$kit/bin" "$own/kit/bin"
   tree=$(mktemp -d)
   cp -r crates.txt crates "$tree"
-  (cd "$tree" && RATTLE_HOME=$own/kit rt staticlib "$1")
+  rm -rf "$tree"/crates/*/out
+  (cd "$tree/crates/$1_c" && "$own/kit/bin/rt" lib)
   rm -rf "$tree"
 }
