@@ -16,10 +16,11 @@ program() {
   up_to_date "target/bin/$1" compiled_program "$1"
 }
 
-# rt makes a program only by running it: here on no input, whatever it answers
+# rt makes a program only by running it: here on no input. One that is not proved leaves what was made before.
 compiled_program() {
   mkdir -p target/bin
-  (cd "crates/$1" && { rt run < /dev/null || true; }) && cp "crates/$1/out/$1" "target/bin/$1"
+  rm -f "crates/$1/out/$1"
+  (cd "crates/$1" && rt run < /dev/null) && cp "crates/$1/out/$1" "target/bin/$1"
 }
 
 # up_to_date FILE COMMAND..: the file, by the command
