@@ -18,27 +18,28 @@ native() {
 # handed_over NAME: NAME.bc and NAME.words beside it, what the kit hands to its compiler: it is given one that keeps them. Proofs are
 # by the kit's place, so this proves the crates anew, in a tree of its own.
 handed_over() {
-  local below file tree
+  local below file place tree
+  place=$(mktemp -d) # outside of the checkout, where rt refuses links
   rm -rf "${own:?}"
-  mkdir -p "$own/kit/$tools/bin"
-  cat > "$own/kit/$tools/bin/clang" <<SCRIPT
+  mkdir -p "$own" "$place/kit/$tools/bin"
+  cat > "$place/kit/$tools/bin/clang" <<SCRIPT
 #!/bin/sh
 printf '%s\n' "\$@" > "$own/$1.words"
 for word; do case \$word in *.bc) cp "\$word" "$own/$1.bc" ;; esac; done
 exec "$clang" "\$@"
 SCRIPT
-  chmod +x "$own/kit/$tools/bin/clang"
+  chmod +x "$place/kit/$tools/bin/clang"
   for below in . "$tools" "$tools/bin"; do
     for file in "$kit/$below"/*; do
-      [[ -e $own/kit/$below/${file##*/} ]] || ln -s "$file" "$own/kit/$below/"
+      [[ -e $place/kit/$below/${file##*/} ]] || ln -s "$file" "$place/kit/$below/"
     done
   done
   # rt takes its kit from where it lies itself
-  rm "$own/kit/bin"
-  cp -r "$kit/bin" "$own/kit/bin"
+  rm "$place/kit/bin"
+  cp -r "$kit/bin" "$place/kit/bin"
   tree=$(mktemp -d)
   cp -r crates.txt crates "$tree"
   rm -rf "$tree"/crates/*/out
-  (cd "$tree/crates/$1_c" && "$own/kit/bin/rt" lib)
-  rm -rf "$tree"
+  (cd "$tree/crates/$1_c" && "$place/kit/bin/rt" lib)
+  rm -rf "$tree" "$place"
 }
