@@ -1,4 +1,4 @@
-// The primitives by themselves, for outside vectors and benchmarks: exported to C, no call asks anything of its caller.
+// The primitives by themselves, for outside vectors and benchmarks: primitives_c exports them to C, and no call asks anything of its caller.
 // Each answers 0 when it is done, and 1 where a size does not fit, with every byte as it was.
 #![tactic(auto)]
 

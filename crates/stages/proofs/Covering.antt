@@ -5,23 +5,18 @@ use mathlib.Core.Bool.{Bool, true, false, not, ◌&&◌, and-false}
 use mathlib.Core.List.{List, [], ◌∷◌}
 use Prim.Native.Nat.{ℕ, ◌≤◌}
 use native.Mathlib.Omega.{arith}
-use lib.ListN.{length, take}
-use lib.Seq.{length-take-le, get_or-take}
+use lib.ListN.{length}
 use Rattle.names.specs.Names.{is_token}
 use Rattle.names.specs.Extra.{good_extra}
 use Rattle.names.specs.Covered.{covered_names}
-use Rattle.names.proofs.Sizes.{names_few}
-use Rattle.lines.specs.InnerNotes.{Notes, NotedIs}
+use Rattle.lines.specs.InnerNotes.{NotedIs}
 use Rattle.lines.specs.declared.noting.Noted.{Noted}
+use Rattle.lines.proofs.Notes.{notes_on}
 use Rattle.coverage.specs.Coverage.{as_ordered}
 use Rattle.stages.specs.Request.{Request}
 use Rattle.stages.specs.Checks.{check, first}
 use Rattle.stages.specs.Parts.{fields_of, twice, covering_part}
 use Rattle.stages.specs.InnerStages.{CoveredNotes, Covers}
-
--- notes on names, and on as many of them as there are names
-noted_front : (block : List ℕ) (ns : List (List ℕ)) (notes : List ℕ) → Notes block ns notes → Notes block ns (take (length ns) notes)
-noted_front block ns notes h i l = rw (get_or-take (length ns) notes i 0 l) (h i l)
 
 abbrev names : Request → List (List ℕ)
 names q = covered_names q.orders.numbers.mask q.orders.extra
@@ -37,16 +32,8 @@ module _ (q : Request) (good : good_extra q.orders.extra ≡ true) (in_head in_a
 
   read_notes : n.good ≡ true → CoveredNotes q.orders q.head q.aside in_head in_aside n.covered
   read_notes e =
-      let few = names_few q.orders.numbers.mask q.orders.extra good in
-      record {
-        fits = omega (arith, is.covered, few);
-        notes = rw is.covered (record {
-          long_head = length-take-le (length (names q)) in_head (omega arith);
-          long_aside = length-take-le (length (names q)) in_aside (omega arith);
-          of_head = noted_front q.head (names q) in_head (is.of_head e);
-          of_aside = noted_front q.aside (names q) in_aside (is.of_aside e);
-        });
-      }
+      let on = notes_on q.orders.numbers.mask q.orders.extra q.head q.aside in_head in_aside n good long long_aside is e in
+      record { fits = on.0; notes = on.1 }
 
   -- what is answered by it
   module _ (token ordered : Bool) (number : ℕ) (t : token ≡ is_token q.method)
