@@ -10,8 +10,7 @@ use lib.ListN.{length, get_or, take, drop, set, length-append, length-drop, get_
 use lib.Seq.{take_all, drop-cons, lt-length-set, get_or-set_same, drop-set-lt}
 use borrow.Author.Tests.{lt-ltb, le-ltb}
 use Rattle.cells.specs.Runs.{Bytes}
-use Rattle.cells.specs.Decimal.{decimal_to, decimal, value_after, Shown}
-use Rattle.cells.specs.declared.decimal.Decimal.{Decimal}
+use Rattle.cells.specs.Decimal.{decimal_to, decimal, value_after}
 
 -- any depth above the number serves
 to_any : (depth other n : ℕ) → n < depth → n < other → decimal_to depth n ≡ decimal_to other n
@@ -132,7 +131,3 @@ last_laid n left start all e h g = stored_digit all start (48 + left) g ∙ sym 
 pub fewer : (start left : ℕ) → left < 10 ^ suc start → 10 ≤ left → (1 ≤ start) × (left / 10 < 10 ^ start)
 fewer zero left h g = absurd (omega arith)
 fewer (suc start) left h g = omega arith
-
--- the part of an array that shows a number
-pub shown_piece : (n : ℕ) (r : Decimal) → Shown n r → take (20 - r.start) (drop r.start r.all) ≡ decimal n
-shown_piece n r h = take_all (20 - r.start) (drop r.start r.all) (omega (arith, length-drop r.start r.all, h.size)) ∙ h.shows

@@ -1,7 +1,6 @@
 -- Numbers in decimal, highest digit first, without leading zeros.
 -- Assumes nothing.
-use Rattle.std.specs.Prelude.{◌≡◌, cond, List, [], ◌∷◌, ◌++◌, ℕ, zero, suc, ◌+◌, ◌-◌, ◌*◌, ◌/◌, ◌%◌, ◌≤◌, ltb, length, drop}
-use Rattle.cells.specs.declared.decimal.Decimal.{Decimal}
+use Rattle.std.specs.Prelude.{◌≡◌, cond, List, [], ◌∷◌, ◌++◌, ℕ, zero, suc, ◌+◌, ◌-◌, ◌*◌, ◌/◌, ◌%◌, ◌≤◌, ltb}
 
 -- the digits of n, of which there are fewer than depth
 unfoldable pub decimal_to : ℕ → ℕ → List ℕ
@@ -17,9 +16,3 @@ decimal n = decimal_to (suc n) n
 unfoldable pub value_after : ℕ → List ℕ → ℕ
 value_after v [] = v
 value_after v (d ∷ ds) = value_after (v * 10 + (d - 48)) ds
-
--- the digits of n stand at the end of the array
-pub record Shown (n : ℕ) (r : Decimal) : Type 0 where
-  pub size : length r.all ≡ 20
-  pub within : r.start ≤ 19
-  pub shows : drop r.start r.all ≡ decimal n

@@ -1,24 +1,22 @@
 // Numbers in decimal.
-ghost use Rattle.cells.specs.Decimal.{Shown};
+ghost use Rattle.std.specs.Prelude.{◌≡◌};
+ghost use Rattle.cells.specs.Run.{run_of};
+ghost use Rattle.cells.specs.Decimal.{decimal};
 
-// The decimal digits of a number, at the end of an array: they start at byte start.
-#[derive(Clone, Copy)]
-pub struct Decimal {
-    pub all: [u8; 20],
-    pub start: usize,
-}
+use crate::run::Run;
 
-pub fn digits(n: u64) -> Decimal
-    ensures { Shown n result }
+// The decimal digits of a number.
+pub fn digits(n: u64) -> Run<20>
+    ensures { run_of result ≡ decimal n }
 {
-    let mut all = [48u8; 20];
-    let mut start: usize = 19;
+    let mut all = [b'0'; 20];
+    let mut start = 19;
     let mut left = n;
     while 10 <= left {
-        all[start] = (48 + left % 10) as u8;
-        left = left / 10;
+        all[start] = b'0' + (left % 10) as u8;
+        left /= 10;
         start -= 1;
     }
-    all[start] = (48 + left) as u8;
-    Decimal { all, start }
+    all[start] = b'0' + left as u8;
+    Run::of(&all[start..])
 }
