@@ -1,12 +1,11 @@
 -- Names for what the code holds and answers.
 -- Assumes nothing.
-use Rattle.std.specs.Prelude.{List, ◌≡◌, ℕ, ◌+◌, ◌-◌, ◌*◌, ◌/◌, ◌%◌, ◌^◌, ◌<◌}
+use Rattle.std.specs.Prelude.{List, Result, Ok, Err, ◌≡◌, ℕ, ◌+◌, ◌-◌, ◌*◌, ◌/◌, ◌%◌, ◌^◌, ◌<◌}
 use Rattle.std.proofs.Math.Option.{Option, none, some}
 use Rattle.gcm.specs.Multiply.{bit_at, v_at, z_at}
 use Rattle.gcm.specs.declared.Block.{Block}
 use Rattle.gcm.specs.declared.Turn.{Turn}
-use Rattle.gcm.specs.declared.Opened.{Opened}
-use Rattle.gcm.specs.declared.Opened.TheVariants.{Text, Wrong}
+use Rattle.gcm.specs.declared.WrongTag.{WrongTag}
 
 -- the number that a block stands for
 abbrev pub whole : Block → ℕ
@@ -21,9 +20,9 @@ abbrev pub BitsFrom : ℕ → ℕ → ℕ → Type 0
 BitsFrom x k w = (i : ℕ) → i < 64 → w / 2 ^ (63 - i) % 2 ≡ bit_at x (k + i)
 
 -- the answer for what opening gives, and the buffer after it, which was old
-abbrev pub answer : Option (List ℕ) → Opened
-answer none = Wrong
-answer (some text) = Text
+abbrev pub answer : Option (List ℕ) → Result Unit WrongTag
+answer none = Err (record {})
+answer (some text) = Ok tt
 
 abbrev pub left : Option (List ℕ) → List ℕ → List ℕ
 left none old = old

@@ -262,14 +262,18 @@ pub fn seal(key: &[u8], iv: &[u8], text: &[u8], out: &mut [u8], tag: &mut [u8])
     tag_of(&keys, iv, out, tag);
 }
 
-#[derive(Clone, Copy)]
-pub enum Opened {
-    Text,
-    Wrong,
-}
+// Why nothing was opened: the tag is not that of the cipher text.
+#[derive(Clone, Copy, PartialEq, Eq)]
+pub struct WrongTag;
 
 // The text of cipher under key and iv into out, if tag is the right one; else out stays.
-pub fn unseal(key: &[u8], iv: &[u8], cipher: &[u8], tag: &[u8], out: &mut [u8]) -> Opened
+pub fn unseal(
+    key: &[u8],
+    iv: &[u8],
+    cipher: &[u8],
+    tag: &[u8],
+    out: &mut [u8],
+) -> Result<(), WrongTag>
     requires { (length key.now ≡ 32) × (length iv.now ≡ 12) × (length cipher.now ≤ 2 ^ 36 - 32) × (length tag.now ≡ 16) × (length out.old ≡ length cipher.now) }
     ensures { (result ≡ answer (S.opened key.now iv.now [] cipher.now tag.now)) × (out.new ≡ left (S.opened key.now iv.now [] cipher.now tag.now) out.old) }
 {
@@ -277,8 +281,8 @@ pub fn unseal(key: &[u8], iv: &[u8], cipher: &[u8], tag: &[u8], out: &mut [u8]) 
     let mut right = [0u8; 16];
     tag_of(&keys, iv, cipher, &mut right);
     if !cells::same(tag, &right) {
-        return Opened::Wrong;
+        return Err(WrongTag);
     }
     stream(&keys, next(pre_counter(iv)), cipher, out);
-    Opened::Text
+    Ok(())
 }
