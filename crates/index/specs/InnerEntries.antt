@@ -1,13 +1,11 @@
 -- An index entry by entry, as the code reads and writes it.
 -- Assumes nothing.
-use Rattle.std.specs.Prelude.{ℕ, zero, suc, ◌+◌, ◌-◌, ◌*◌, ◌^◌, ◌≤◌, ◌<◌, ◌≡◌, List, Bool, true, false, cond, ◌&&◌, ◌||◌, length, get_or, eqb, ltb}
+use Rattle.std.specs.Prelude.{ℕ, zero, suc, ◌+◌, ◌-◌, ◌*◌, ◌^◌, ◌≤◌, ◌<◌, ◌≡◌, List, Bool, true, false, cond, ◌&&◌, ◌||◌, length, get_or, eqb, ltb, Option, Some, None}
 use Rattle.table.specs.declared.session.Record.{Record}
 use Rattle.table.specs.Record.{freed}
 use Rattle.table.specs.Table.{is_used}
 use Rattle.table.specs.WellFormed.{sound}
 use Rattle.index.specs.declared.order.Key.{Key}
-use Rattle.index.specs.declared.rule.Tallied.{Tallied}
-use Rattle.index.specs.declared.rule.Tallied.TheVariants.{Used, Unsound}
 use Rattle.index.specs.Index.{precedes, lower, among, ranked_to, vacant, filled, coded}
 use Rattle.index.specs.Fits.{UsedAt, Stands}
 
@@ -50,9 +48,9 @@ abbrev pub sound_at : List Record → ℕ → Bool
 sound_at table p = sound (get_or table p freed)
 
 -- all records are sound, and this many used; or one is not sound
-abbrev pub TallyIs : List Record → Tallied → Type 0
-TallyIs table (Used count) = (every (sound_at table) (length table) ≡ true) × (count ≡ used_to table (length table))
-TallyIs table Unsound = every (sound_at table) (length table) ≡ false
+abbrev pub TallyIs : List Record → Option ℕ → Type 0
+TallyIs table (Some count) = (every (sound_at table) (length table) ≡ true) × (count ≡ used_to table (length table))
+TallyIs table None = every (sound_at table) (length table) ≡ false
 
 -- an index holds some places of used records by rising IV
 pub record Holds (table : List Record) (index ps : List ℕ) : Type 0 where

@@ -1,6 +1,5 @@
 // Records taken and freed, the index kept right; and the index made anew.
-ghost use Rattle.std.specs.Prelude.{◌≡◌, ◌+◌, ◌*◌, ◌<◌, ◌≤◌, length, replicate, true};
-ghost use Rattle.table.specs.declared.place.Place.TheVariants as P;
+ghost use Rattle.std.specs.Prelude.{◌≡◌, ◌+◌, ◌*◌, ◌<◌, ◌≤◌, length, true};
 ghost use Rattle.table.specs.Record.{freed};
 ghost use Rattle.table.specs.Session.{with_record};
 ghost use Rattle.table.specs.Table.{places, records, found, Within};
@@ -9,21 +8,19 @@ ghost use Rattle.index.specs.Index.{vacant, index_of, Indexed};
 ghost use Rattle.index.specs.InnerEntries.{Enterable, Entered, Made};
 
 use super::{entries, lookup, order};
-use table::place::Place;
 use table::session;
 use table::session::{Record, SIZE};
 
 // The entry of a place is taken out, if its record is used: that record is to be freed.
 fn leave(table: &[u8], index: &mut [u8], place: usize)
     requires { (place < places table.now) × Indexed table.now index.old }
-    ensures { Indexed (with_record table.now (P.At place) freed) index.new }
+    ensures { Indexed (with_record table.now (Some place) freed) index.new }
 {
     let record = session::read(table, place);
     if record.used != 1 {
         return;
     }
-    let iv = record.iv;
-    let at = lookup::rank(table, index, &iv);
+    let at = lookup::rank(table, index, &record.iv);
     entries::close(&mut index[2 * at..]);
 }
 
@@ -33,41 +30,29 @@ fn enter(table: &[u8], index: &mut [u8], place: usize)
     ensures { Entered (records table.now) index.old index.new place }
 {
     let record = session::read(table, place);
-    let iv = record.iv;
-    let at = lookup::rank(table, index, &iv);
+    let at = lookup::rank(table, index, &record.iv);
     entries::open(&mut index[2 * at..], place);
 }
 
 // The record at a place is free afterwards.
-pub fn free(table: &mut [u8], index: &mut [u8], place: Place)
+pub fn free(table: &mut [u8], index: &mut [u8], place: Option<usize>)
     requires { Within (places table.old) place × Indexed table.old index.old }
     ensures { (table.new ≡ with_record table.old place freed) × Indexed table.new index.new }
 {
-    let Place::At(at) = place else {
-        return;
-    };
-    leave(table, index, at);
-    session::store(table, at, session::freed());
+    if let Some(at) = place {
+        leave(table, index, at);
+        session::store(table, at, session::freed());
+    }
 }
 
 // The record takes a place of the table, whatever stood there.
 pub fn take(table: &mut [u8], index: &mut [u8], place: usize, record: Record)
-    requires { (place < places table.old) × Indexed table.old index.old × («record».used ≡ 1) × Sound «record» × (found (records table.old) «record».iv ≡ P.Nowhere) }
-    ensures { (table.new ≡ with_record table.old (P.At place) «record») × Indexed table.new index.new }
+    requires { (place < places table.old) × Indexed table.old index.old × («record».used ≡ 1) × Sound «record» × (found (records table.old) «record».iv ≡ None) }
+    ensures { (table.new ≡ with_record table.old (Some place) «record») × Indexed table.new index.new }
 {
-    free(table, index, Place::At(place));
+    free(table, index, Some(place));
     session::store(table, place, record);
     enter(table, index, place);
-}
-
-fn vacate(index: &mut [u8])
-    ensures { index.new ≡ replicate (length index.old) 255 }
-{
-    let mut j: usize = 0;
-    while j < index.len() {
-        index[j] = 255;
-        j += 1;
-    }
 }
 
 // The next place, where its record is used, is put among those before it.
@@ -86,11 +71,8 @@ pub fn make(table: &[u8], index: &mut [u8])
     requires { (places table.now ≤ vacant) × (length index.old ≡ 2 * places table.now) × (well_formed (records table.now) ≡ true) }
     ensures { index.new ≡ index_of (records table.now) }
 {
-    vacate(index);
-    let n = table.len() / SIZE;
-    let mut i: usize = 0;
-    while i < n {
-        enter_next(table, index, i);
-        i += 1;
+    index.fill(255);
+    for place in 0..table.len() / SIZE {
+        enter_next(table, index, place);
     }
 }

@@ -15,11 +15,7 @@ pub fn open(run: &mut [u8], entry: usize)
     requires { (2 ≤ length run.old) × (entry < 65536) }
     ensures { run.new ≡ bytes_of 2 entry ++ take (length run.old - 2) run.old }
 {
-    let mut j = run.len() - 1;
-    while 1 < j {
-        run[j] = run[j - 2];
-        j -= 1;
-    }
+    run.copy_within(..run.len() - 2, 2);
     run[0] = (entry / 256) as u8;
     run[1] = (entry % 256) as u8;
 }
@@ -29,12 +25,7 @@ pub fn close(run: &mut [u8])
     requires { 2 ≤ length run.old }
     ensures { run.new ≡ drop 2 run.old ++ 255 ∷ 255 ∷ [] }
 {
+    run.copy_within(2.., 0);
     let end = run.len() - 2;
-    let mut j: usize = 0;
-    while j < end {
-        run[j] = run[j + 2];
-        j += 1;
-    }
-    run[end] = 255;
-    run[end + 1] = 255;
+    run[end..].fill(255);
 }

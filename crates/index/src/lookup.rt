@@ -6,7 +6,6 @@ ghost use Rattle.index.specs.InnerEntries.{Ordered, Ranks};
 
 use super::{entries, order};
 use table::place;
-use table::place::Place;
 use table::session::SIZE;
 
 // How many entries are of lower IVs than this.
@@ -28,21 +27,15 @@ pub fn rank(table: &[u8], index: &[u8], iv: &[u8]) -> usize
 }
 
 // The place of the used record with this IV.
-pub fn find(table: &[u8], index: &[u8], iv: &[u8]) -> Place
+pub fn find(table: &[u8], index: &[u8], iv: &[u8]) -> Option<usize>
     requires { (length iv.now ≡ 12) × Indexed table.now index.now }
     ensures { Placed (found (records table.now) iv.now) (places table.now) result }
 {
     let n = table.len() / SIZE;
     let at = rank(table, index, iv);
     if n <= at {
-        return Place::Nowhere;
+        return None;
     }
     let place = entries::read(index, at);
-    if n <= place {
-        return Place::Nowhere;
-    }
-    if place::has_iv(table, place, iv) {
-        return Place::At(place);
-    }
-    Place::Nowhere
+    (place < n && place::has_iv(table, place, iv)).then_some(place)
 }

@@ -1,5 +1,5 @@
 // IVs compared from their first byte.
-ghost use Rattle.std.specs.Prelude.{◌≡◌, ◌+◌, ◌≤◌, ltb, length};
+ghost use Rattle.std.specs.Prelude.{◌≡◌, ◌+◌, ◌≤◌, length};
 ghost use Rattle.cells.specs.Runs.{part};
 ghost use Rattle.cells.specs.Numbers.{number};
 ghost use Rattle.table.specs.Table.{records};
@@ -8,7 +8,7 @@ ghost use Rattle.index.specs.InnerEntries.{worth, used_at, low_at};
 use table::session::SIZE;
 
 // An IV as one number, in two parts: two of them are compared sooner than twelve bytes.
-#[derive(Clone, Copy)]
+#[derive(Clone, Copy, PartialEq, Eq, PartialOrd, Ord)]
 pub struct Key(pub u64, pub u32);
 
 // The IV that stands in some bytes from byte at on.
@@ -19,23 +19,11 @@ pub fn key_at(s: &[u8], at: usize) -> Key
     Key(cells::load64(s, at), cells::load32(s, at + 8))
 }
 
-pub fn below(a: Key, b: Key) -> bool
-    ensures { result ≡ ltb (worth a) (worth b) }
-{
-    if a.0 < b.0 {
-        return true;
-    }
-    (a.0 == b.0) & (a.1 < b.1)
-}
-
 // Whether a used record stands at a place, which may be any number.
 pub fn is_used(table: &[u8], place: usize) -> bool
     ensures { result ≡ used_at (records table.now) place }
 {
-    if table.len() / SIZE <= place {
-        return false;
-    }
-    table[SIZE * place] == 1
+    place < table.len() / SIZE && table[SIZE * place] == 1
 }
 
 // And whether its IV is lower than this.
@@ -43,8 +31,5 @@ pub fn is_low(table: &[u8], place: usize, iv: &[u8]) -> bool
     requires { length iv.now ≡ 12 }
     ensures { result ≡ low_at (records table.now) iv.now place }
 {
-    if !is_used(table, place) {
-        return false;
-    }
-    below(key_at(table, SIZE * place + 1), key_at(iv, 0))
+    is_used(table, place) && key_at(table, SIZE * place + 1) < key_at(iv, 0)
 }

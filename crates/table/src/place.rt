@@ -1,16 +1,11 @@
 // The places of the table that a call looks for.
-ghost use Rattle.std.specs.Prelude.{◌≡◌, ◌+◌, ◌*◌, ◌<◌, ◌≤◌, length, drop};
+ghost use Rattle.std.specs.Prelude.{◌≡◌, ℕ, Bool, ◌+◌, ◌*◌, ◌<◌, ◌≤◌, length, drop};
 ghost use Rattle.cells.specs.Runs.{part, same};
 ghost use Rattle.table.specs.Table.{places, record_at, records, first_from, holds, is_free, lapsed, taken, Placed};
+ghost use Rattle.table.specs.declared.session.Record.{Record};
 
 use super::session::SIZE;
 use window::time::Time;
-
-#[derive(Clone, Copy)]
-pub enum Place {
-    At(usize),
-    Nowhere,
-}
 
 // Whether a place has a used record with this IV.
 pub fn has_iv(table: &[u8], place: usize, iv: &[u8]) -> bool
@@ -38,20 +33,26 @@ fn same_iv(table: &[u8], at: usize, iv: &[u8]) -> bool
     cells::load32(table, at + 8) == cells::load32(iv, 8)
 }
 
+// The lowest place from `start` on whose record passes a test.
+fn first<F: Fn(usize) -> bool>(table: &[u8], start: usize, passes: F) -> Option<usize>
+    requires within { start ≤ places table.now }
+    requires callable { (place : ℕ) → place < places table.now → F.pre passes place }
+    ensures { (test : Record → Bool) → ((place : ℕ) (r : Bool) → place < places table.now → F.post passes place r → r ≡ test (record_at table.now place)) → Placed (first_from test start (drop start (records table.now))) (places table.now) result }
+{
+    for place in start..table.len() / SIZE {
+        if passes(place) {
+            return Some(place);
+        }
+    }
+    None
+}
+
 // The lowest place from `start` on that has a used record with this IV.
-pub fn find_from(table: &[u8], start: usize, iv: &[u8]) -> Place
+pub fn find_from(table: &[u8], start: usize, iv: &[u8]) -> Option<usize>
     requires { start ≤ places table.now }
     ensures { Placed (first_from (holds iv.now) start (drop start (records table.now))) (places table.now) result }
 {
-    let n = table.len() / SIZE;
-    let mut i = start;
-    while i < n {
-        if has_iv(table, i, iv) {
-            return Place::At(i);
-        }
-        i += 1;
-    }
-    Place::Nowhere
+    first(table, start, |place| has_iv(table, place, iv))
 }
 
 // Whether a place is free.
@@ -59,23 +60,7 @@ fn is_free(table: &[u8], place: usize) -> bool
     requires { place < places table.now }
     ensures { result ≡ is_free (record_at table.now place) }
 {
-    let at = SIZE * place;
-    table[at] == 0
-}
-
-// The lowest free place.
-fn first_free(table: &[u8]) -> Place
-    ensures { Placed (first_from is_free 0 (records table.now)) (places table.now) result }
-{
-    let n = table.len() / SIZE;
-    let mut i: usize = 0;
-    while i < n {
-        if is_free(table, i) {
-            return Place::At(i);
-        }
-        i += 1;
-    }
-    Place::Nowhere
+    table[SIZE * place] == 0
 }
 
 // Whether the expiry at a place is at or before now.
@@ -86,27 +71,10 @@ fn has_lapsed(table: &[u8], place: usize, clock: Time) -> bool
     cells::load32(table, SIZE * place + 13) <= clock.0
 }
 
-// The lowest place whose expiry is at or before now.
-fn first_lapsed(table: &[u8], clock: Time) -> Place
-    ensures { Placed (first_from (lapsed clock.0) 0 (records table.now)) (places table.now) result }
-{
-    let n = table.len() / SIZE;
-    let mut i: usize = 0;
-    while i < n {
-        if has_lapsed(table, i, clock) {
-            return Place::At(i);
-        }
-        i += 1;
-    }
-    Place::Nowhere
-}
-
 // The place that a setup takes: the lowest free one, else the lowest whose expiry is at or before now.
-pub fn to_take(table: &[u8], clock: Time) -> Place
+pub fn to_take(table: &[u8], clock: Time) -> Option<usize>
     ensures { Placed (taken (records table.now) clock.0) (places table.now) result }
 {
-    if let Place::At(i) = first_free(table) {
-        return Place::At(i);
-    }
-    first_lapsed(table, clock)
+    first(table, 0, |place| is_free(table, place))
+        .or_else(|| first(table, 0, |place| has_lapsed(table, place, clock)))
 }

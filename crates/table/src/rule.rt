@@ -3,7 +3,6 @@ ghost use Rattle.std.specs.Prelude.{◌≡◌, not, ◌+◌, ◌≤◌, ◌<◌,
 ghost use Rattle.table.specs.Table.{places, record_at, records, holds};
 ghost use Rattle.table.specs.WellFormed.{traceless, blank, window_sound, sound, some, fitting, well_formed};
 
-use super::place::Place;
 use super::session::{Record, SIZE};
 use super::{place, session};
 
@@ -65,8 +64,7 @@ fn fits_at(table: &[u8], place: usize) -> bool
     if here.used != 1 {
         return record_sound(here);
     }
-    let iv = here.iv;
-    record_sound(here) & stands_nowhere(table, place + 1, &iv)
+    record_sound(here) & stands_nowhere(table, place + 1, &here.iv)
 }
 
 // Whether no used record from `start` on has this IV.
@@ -74,22 +72,11 @@ fn stands_nowhere(table: &[u8], start: usize, iv: &[u8]) -> bool
     requires { start ≤ places table.now }
     ensures { result ≡ not (some (holds iv.now) (drop start (records table.now))) }
 {
-    match place::find_from(table, start, iv) {
-        Place::At(_) => false,
-        Place::Nowhere => true,
-    }
+    place::find_from(table, start, iv).is_none()
 }
 
 pub fn well_formed(table: &[u8]) -> bool
     ensures { result ≡ well_formed (records table.now) }
 {
-    let n = table.len() / SIZE;
-    let mut i: usize = 0;
-    while i < n {
-        if !fits_at(table, i) {
-            return false;
-        }
-        i += 1;
-    }
-    true
+    (0..table.len() / SIZE).all(|place| fits_at(table, place))
 }

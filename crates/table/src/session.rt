@@ -1,11 +1,10 @@
 // A record, read from its bytes and written as its bytes.
 ghost use Rattle.std.specs.Prelude.{◌≡◌, [], ◌∷◌, ◌*◌, ◌<◌, length};
 ghost use Rattle.cells.specs.Runs.{spliced};
-ghost use Rattle.table.specs.Record.{size, record_of, record_bytes, freed, begun, mark, window_of, with_window};
+ghost use Rattle.table.specs.Record.{size, record_of, record_bytes, freed, begun, window_of, with_window};
 ghost use Rattle.table.specs.Session.{held_at, with_record};
 ghost use Rattle.table.specs.Table.{places, record_at, holds, Within};
 
-use super::place::Place;
 use window::time::Time;
 use window::{Nonce, Window};
 
@@ -39,25 +38,17 @@ fn parse(bytes: &[u8]) -> Record
     requires { length bytes.now ≡ size }
     ensures { result ≡ record_of bytes.now }
 {
-    let iv = twelve(&bytes[1..13]);
+    let mut iv = [0; 12];
+    iv.copy_from_slice(&bytes[1..13]);
     Record {
         used: bytes[0],
-        iv: iv,
+        iv,
         expiry: Time(cells::load32(bytes, 13)),
         any: bytes[17],
         highest: Nonce(cells::load32(bytes, 18)),
         bits: cells::load64(bytes, 22),
         hash: bytes[30],
     }
-}
-
-fn twelve(bytes: &[u8]) -> [u8; 12]
-    requires { length bytes.now ≡ 12 }
-    ensures { result ≡ bytes.now }
-{
-    let mut copy = [0u8; 12];
-    cells::put_front(&mut copy, bytes);
-    copy
 }
 
 // The record takes a place of the table; every other byte stays.
@@ -74,9 +65,8 @@ fn write(out: &mut [u8], session: Record)
     requires { length out.old ≡ size }
     ensures { out.new ≡ record_bytes session }
 {
-    let iv = session.iv;
     put_byte(out, 0, session.used);
-    cells::put_at(out, 1, &iv);
+    cells::put_at(out, 1, &session.iv);
     cells::put32(out, 13, session.expiry.0);
     put_byte(out, 17, session.any);
     cells::put32(out, 18, session.highest.0);
@@ -92,25 +82,24 @@ fn put_byte(out: &mut [u8], at: usize, x: u8)
 }
 
 // What the record at a place holds; a free one where there is no place.
-pub fn held_at(table: &[u8], place: Place) -> Record
+pub fn held_at(table: &[u8], place: Option<usize>) -> Record
     requires { Within (places table.now) place }
     ensures { result ≡ held_at table.now place }
 {
     match place {
-        Place::At(at) => read(table, at),
-        Place::Nowhere => freed(),
+        Some(at) => read(table, at),
+        None => freed(),
     }
 }
 
 // The record takes its place in the table, if it has one.
-pub fn put(table: &mut [u8], place: Place, record: Record)
+pub fn put(table: &mut [u8], place: Option<usize>, record: Record)
     requires { Within (places table.old) place }
     ensures { table.new ≡ with_record table.old place «record» }
 {
-    let Place::At(at) = place else {
-        return;
-    };
-    store(table, at, record);
+    if let Some(at) = place {
+        store(table, at, record);
+    }
 }
 
 // The record of a new session.
@@ -118,15 +107,14 @@ pub fn begin(iv: &[u8], expiry: Time, hash: u8) -> Record
     requires { length iv.now ≡ 12 }
     ensures { result ≡ begun iv.now expiry.0 hash }
 {
-    let copy = twelve(iv);
+    let mut own = [0; 12];
+    own.copy_from_slice(iv);
     Record {
         used: 1,
-        iv: copy,
+        iv: own,
         expiry,
-        any: 0,
-        highest: Nonce(0),
-        bits: 0,
         hash,
+        ..freed()
     }
 }
 
@@ -134,10 +122,9 @@ pub fn begin(iv: &[u8], expiry: Time, hash: u8) -> Record
 pub fn freed() -> Record
     ensures { result ≡ freed }
 {
-    let zeros = [0u8; 12];
     Record {
         used: 0,
-        iv: zeros,
+        iv: [0; 12],
         expiry: Time(0),
         any: 0,
         highest: Nonce(0),
@@ -151,17 +138,15 @@ impl Record {
     pub fn is_of(self, iv: &[u8]) -> bool
         ensures { result ≡ holds iv.now self }
     {
-        let own = self.iv;
-        (self.used == 1) & cells::same(&own, iv)
+        (self.used == 1) & cells::same(&self.iv, iv)
     }
 
     pub fn window(self) -> Window
         ensures { result ≡ window_of self }
     {
-        let highest = self.highest;
         Window {
             any: self.any == 1,
-            highest,
+            highest: self.highest,
             bits: self.bits,
         }
     }
@@ -169,23 +154,11 @@ impl Record {
     pub fn with_window(self, window: Window) -> Record
         ensures { result ≡ with_window self window }
     {
-        let iv = self.iv;
-        let expiry = self.expiry;
-        let highest = window.highest;
         Record {
-            used: self.used,
-            iv,
-            expiry,
-            any: mark(window.any),
-            highest,
+            any: u8::from(window.any),
+            highest: window.highest,
             bits: window.bits,
-            hash: self.hash,
+            ..self
         }
     }
-}
-
-fn mark(set: bool) -> u8
-    ensures { result ≡ mark set }
-{
-    if set { 1 } else { 0 }
 }
