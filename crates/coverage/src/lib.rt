@@ -10,13 +10,14 @@ ghost use Rattle.armor.specs.InnerAnswers.{Holds};
 ghost use Rattle.coverage.specs.Coverage.{as_ordered};
 
 use armor::Request;
+use hashes::Hash;
 
 // Whether h of a request is one that the orders allow, c as long as its digests, and ah and eah those that the orders say, byte for byte.
 pub fn as_ordered(value: &[u8], request: Request, hashes: u64, mask: u64, extra: &[u8]) -> bool
     requires { (request_fields (carried value.now) ≡ true) × Holds value.now (carried value.now) request × (length extra.now ≤ 128) }
     ensures { result ≡ as_ordered hashes mask extra.now (carried value.now) }
 {
-    let size = hashes::size(hashes::named(request.h));
+    let size = Hash::named(request.h).size();
     let hash_good = hashes::allowed_one(hashes, request.h) & (request.c_len == size);
     let mask_good = request.ah == mask;
     let with_eah = request.with_eah;

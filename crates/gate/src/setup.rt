@@ -93,7 +93,7 @@ fn until(mask: u64, hashes: u64, clock: Time, life: u32) -> Offer
     if 4294967295 - clock.0 < life {
         return Offer::Refused(20);
     }
-    Offer::Until(hashes::chosen(mask, hashes), Time(clock.0 + life))
+    Offer::Until(Hash::chosen(mask, hashes), Time(clock.0 + life))
 }
 
 // The place for the new session: checks 17 and 18.
@@ -137,7 +137,7 @@ pub fn apply(
         table,
         index,
         place,
-        session::begin(iv, expiry, hashes::mask(hash) as u8),
+        session::begin(iv, expiry, hash.mask() as u8),
     );
     256 * (len as u32)
 }

@@ -6,6 +6,7 @@ ghost use Rattle.orders.specs.Orders.{orders};
 ghost use Rattle.gate.specs.InnerTrials.{SameTokenIs, AgainstIs};
 
 use armor::{Reply, Request};
+use hashes::Hash;
 use orders::Numbers;
 use stages::{reading, vouching};
 
@@ -50,7 +51,7 @@ pub fn against<'a>(
         return 8;
     }
     let key = reply.key;
-    let hash = hashes::named(request.h);
+    let hash = Hash::named(request.h);
     if !vouching::signs(
         numbers,
         extra,

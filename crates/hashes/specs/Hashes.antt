@@ -1,8 +1,9 @@
 -- The hashes, and the masks that name them: document 001, Table 5.1, and document 02, K2.
 -- Assumes nothing.
-use Rattle.std.specs.Prelude.{ℕ, ◌/◌, ◌%◌, Bool, cond, ◌&&◌, ◌||◌, eqb}
+use Rattle.std.specs.Prelude.{◌≡◌, ℕ, ◌/◌, ◌%◌, Bool, cond, ◌&&◌, ◌||◌, eqb, Result, Ok, Err}
 use Rattle.hashes.specs.declared.Hash.{Hash}
 use Rattle.hashes.specs.declared.Hash.TheVariants.{Sha256, Sha512}
+use Rattle.hashes.specs.declared.NotOneHash.{NotOneHash}
 
 -- bit 0 is SHA-256, bit 2 SHA-512
 abbrev pub hash_mask : Hash → ℕ
@@ -25,6 +26,10 @@ names_one mask = eqb mask 1 || eqb mask 4
 
 unfoldable pub named : ℕ → Hash
 named mask = cond (eqb mask 1) Sha256 Sha512
+
+-- what a mask gives as a hash: the one that it names alone, or that it names none alone
+unfoldable pub NamedAlone : ℕ → Result Hash NotOneHash → Type 0
+NamedAlone mask r = r ≡ cond (names_one mask) (Ok (named mask)) (Err (record {}))
 
 -- orders allow one of the two, or both
 abbrev pub good_allowed : ℕ → Bool

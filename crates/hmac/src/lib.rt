@@ -20,7 +20,7 @@ fn key_block(hash: Hash, key: &[u8]) -> [u8; 128]
         let s = State::new(hash);
         let t = s.absorb(key);
         let d = t.finish();
-        let n = hashes::size(hash);
+        let n = hash.size();
         cells::put_front(&mut block, &d[..n]);
         return block;
     }
@@ -75,7 +75,7 @@ pub fn finish(hash: Hash, key: &[u8], state: State) -> [u8; 64]
     ensures { (text : List ℕ) → Taken hash state (inner_key (sha2 hash) (block_size hash) key.now ++ text) → take (digest_size hash) result ≡ hmac_of hash key.now text }
 {
     let d = state.finish();
-    let n = hashes::size(hash);
+    let n = hash.size();
     let outer = keyed(hash, key, 0x5c);
     let s = outer.absorb(&d[..n]);
     s.finish()

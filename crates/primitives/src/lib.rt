@@ -19,7 +19,7 @@ const LIMIT: usize = 1152921504606846976;
 fn digest(hash: Hash, text: &[u8], out: &mut [u8]) -> u32
     ensures { answer result out.new ≡ digest_call hash text.now out.old }
 {
-    let size = hashes::size(hash);
+    let size = hash.size();
     if out.len() != size {
         return 1;
     }
@@ -51,7 +51,7 @@ pub fn prim_sha512(text: &[u8], out: &mut [u8]) -> u32
 fn code(hash: Hash, key: &[u8], text: &[u8], out: &mut [u8]) -> u32
     ensures { answer result out.new ≡ hmac_call hash key.now text.now out.old }
 {
-    let size = hashes::size(hash);
+    let size = hash.size();
     if out.len() != size {
         return 1;
     }

@@ -38,7 +38,7 @@ pub fn invalidate(out: &mut [u8], hash: Hash, key: &[u8]) -> usize
     let fresh = hmac::begin(hash, key);
     let taken = fresh.absorb(b"Session Expired");
     let code = hmac::finish(hash, key, taken);
-    let n = hashes::size(hash);
+    let n = hash.size();
     armor::put_field(out, 0, b"i", &code[..n])
 }
 
@@ -58,7 +58,7 @@ pub fn put_orders(out: &mut [u8], at: usize, hash: Hash, mask: u64, extra: &[u8]
     requires { (at + 208 ≤ length out.old) × (length extra.now ≤ 128) }
     ensures { (result ≤ at + 208) × Laid out.old out.new at result (following (order_fields hash mask extra.now)) }
 {
-    let after_h = armor::put_mask(out, at, b"h", hashes::mask(hash));
+    let after_h = armor::put_mask(out, at, b"h", hash.mask());
     let after_ah = armor::put_mask(out, after_h, b"ah", mask);
     put_extra(out, after_ah, extra)
 }

@@ -7,6 +7,7 @@ ghost use Rattle.reply.specs.LaidOut.{reply_with};
 ghost use Rattle.reply.specs.InnerRead.{ReadsLaidOut};
 
 use armor::{Reply, ReplyRead};
+use hashes::Hash;
 
 // What a reply carries, if it is laid out as a setup writes it. Not inlined, as is_written is not, so that gate_fits signs without their frames.
 #[inline(never)]
@@ -39,7 +40,7 @@ fn is_written(text: &[u8], reply: Reply) -> bool
     let key = reply.key;
     let eah = reply.eah;
     let eah_len = reply.eah_len;
-    let hash = hashes::named(reply.h);
+    let hash = Hash::named(reply.h);
     let mut out = [0u8; 1024];
     let len = super::setup(
         &mut out,

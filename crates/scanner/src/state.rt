@@ -67,7 +67,7 @@ fn numbers(state: &[u8]) -> Held
     Held {
         s_len: wide(state[21]) as usize,
         eah_len: wide(state[22]) as usize,
-        hash: hashes::named(wide(state[20])),
+        hash: Hash::named(wide(state[20])),
         mask: cells::load64(state, 12),
         last: Time(cells::load32(state, 0)),
         next: cells::load64(state, 4),
@@ -105,7 +105,7 @@ fn is_good(state: &[u8], held: Held) -> bool
         &state[s_end..end],
     );
     ((1 <= held.s_len)
-        & (reading::are_good(mask, hashes::mask(hash), &state[s_end..end])
+        & (reading::are_good(mask, hash.mask(), &state[s_end..end])
             & (next <= most_next(mask))))
         & cells::same(state, &anew)
 }
@@ -139,7 +139,7 @@ fn write(
     cells::put32(out, 0, last.0);
     cells::put64(out, 4, next);
     cells::put64(out, 12, mask);
-    let sizes = [hashes::mask(hash) as u8, s.len() as u8, eah.len() as u8];
+    let sizes = [hash.mask() as u8, s.len() as u8, eah.len() as u8];
     cells::put_at(out, 20, &sizes);
     cells::put_at(out, 23, iv);
     cells::put_at(out, 35, tag);
@@ -166,7 +166,7 @@ pub fn begin(state: &mut [u8], time: Time, reply: Reply)
         time,
         0,
         reply.ah,
-        hashes::named(reply.h),
+        Hash::named(reply.h),
         &iv,
         &tag,
         &key,

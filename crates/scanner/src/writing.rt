@@ -23,7 +23,7 @@ pub fn put(out: &mut [u8], code: [u8; 64], clock: Time, state: &[u8], held: Held
     let end = s_end + held.eah_len;
     let hash = held.hash;
     let last = held.last;
-    let size = hashes::size(hash);
+    let size = hash.size();
     let after_main = put_main(
         out,
         &state[83..s_end],

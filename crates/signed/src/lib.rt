@@ -64,7 +64,7 @@ fn opening(
     ensures { TookParts state (opening_parts method.now hash mask extra.now n.0 t.0 lt.0) result }
 {
     let mut s = absorb(state, method);
-    s = absorb_mask(s, hashes::mask(hash));
+    s = absorb_mask(s, hash.mask());
     s = absorb_mask(s, mask);
     s = absorb(s, extra);
     s = absorb_nonce(s, mask, n);
@@ -201,6 +201,6 @@ fn absorb(state: State, part: &[u8]) -> State
 pub fn same_code(c: &[u8], code: [u8; 64], hash: Hash) -> bool
     ensures { result ≡ same c.now (take (digest_size hash) code) }
 {
-    let size = hashes::size(hash);
+    let size = hash.size();
     cells::same(c, &code[..size])
 }

@@ -32,7 +32,7 @@ pub fn admit(
     let Place::At(_) = place else {
         return as_it_was(12, held);
     };
-    if held.hash as u64 != hashes::mask(hash) {
+    if held.hash as u64 != hash.mask() {
         return as_it_was(8, held);
     }
     if time::idle(t, lt, limits.idle) {

@@ -38,7 +38,7 @@ pub fn settle(
 ) -> Decision
     ensures { SettleIs numbers clock.0 vouched token request limits place held result }
 {
-    let hash = hashes::named(request.h);
+    let hash = Hash::named(request.h);
     if vouched != 0 {
         return decided(vouched, place, token, hash, false, held);
     }

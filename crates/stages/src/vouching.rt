@@ -65,7 +65,7 @@ pub fn vouch<'a>(
     }
     let token = opened.token;
     let key = token.key;
-    let hash = hashes::named(request.h);
+    let hash = Hash::named(request.h);
     if !signs(
         numbers, extra, &key, request, fields, hash, method, head, aside, in_head, in_aside, path,
         body,

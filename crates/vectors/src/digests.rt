@@ -38,7 +38,7 @@ fn code(hash: Hash, key: &[u8], text: &[u8]) -> [u8; 64] {
 // whole MESSAGE
 pub fn whole<W: Write>(out: &mut W, hash: Hash, message: &[u8]) -> io::Result<()> {
     let digest = digest(hash, message);
-    print(out, &digest, hashes::size(hash))
+    print(out, &digest, hash.size())
 }
 
 // parts FIRST MESSAGE: the message is taken in by parts as long as the first
@@ -56,7 +56,7 @@ pub fn parts<W: Write>(out: &mut W, hash: Hash, first: &[u8], message: &[u8]) ->
     }
     let all = state.absorb(&message[at..]);
     let digest = all.finish();
-    print(out, &digest, hashes::size(hash))
+    print(out, &digest, hash.size())
 }
 
 // letters FIRST: a million letters a, by parts as long as the first
@@ -70,7 +70,7 @@ pub fn letters<W: Write>(out: &mut W, hash: Hash, first: &[u8]) -> io::Result<()
 pub fn monte<W: Write>(out: &mut W, hash: Hash, seeds: &[u8]) -> io::Result<()>
     requires { length seeds.now ≤ 49152 }
 {
-    let size = hashes::size(hash);
+    let size = hash.size();
     let mut chain = large_buffer();
     cells::put_front(&mut chain, seeds);
     let last = 1002 * size;
