@@ -14,8 +14,7 @@ use mathlib.Core.List.Permᴰ
 use mathlib.Core.List.{List, [], ◌∷◌, filter_map}
 use Prim.Native.Nat.{ℕ}
 use Rattle.window.specs.declared.Window.{Window}
-use Rattle.table.specs.declared.place.Place.{Place}
-use Rattle.table.specs.declared.place.Place.TheVariants.{At, Nowhere}
+use Rattle.std.specs.Prelude.{Option, Some, None}
 use Rattle.table.specs.Record.{Fits, window_of, with_window}
 use Rattle.table.specs.Session.{place_of, held_at}
 use Rattle.table.specs.WellFormed.{Sound}
@@ -45,7 +44,7 @@ module _ (iv : List ℕ) (state : State) where
     ready : Ready (after state calls)
     others_ready : Ready (after state others)
     like : LikeBut iv (after state calls).table (after state others).table
-    window : (p : ℕ) → place_of (after state calls).table iv ≡ At p → window_of (session_in iv (after state calls).table) ≡ arrived begins (nonces_of own)
+    window : (p : ℕ) → place_of (after state calls).table iv ≡ Some p → window_of (session_in iv (after state calls).table) ≡ arrived begins (nonces_of own)
 
   module _ (call : Call) (calls own others : List Call) (b : Arrived calls own others) where
     own_more : bears iv call ≡ true → is_request call ≡ true → (answer call (after state calls)).number ≡ 0 → Arrived (call ∷ calls) (call ∷ own) others
@@ -81,9 +80,9 @@ module _ (iv : List ℕ) (state : State) where
 session_sound : (iv : List ℕ) (state : State) → Ready state → Sound (session_in iv state.table) × Fits (session_in iv state.table)
 session_sound iv state r = by (place_of state.table iv) refl
   where
-    by : (p : Place) → place_of state.table iv ≡ p → Sound (held_at state.table p) × Fits (held_at state.table p)
-    by (At p) e = let h = (found_session state.table iv p e).within in (sound_at_lem state.table r.well p h, r.whole p h)
-    by Nowhere e = (freed_sound, freed_fits)
+    by : (p : Option ℕ) → place_of state.table iv ≡ p → Sound (held_at state.table p) × Fits (held_at state.table p)
+    by (Some p) e = let h = (found_session state.table iv p e).within in (sound_at_lem state.table r.well p h, r.whole p h)
+    by None e = (freed_sound, freed_fits)
 
 module _ (iv : List ℕ) (state : State) (calls calls' : List Call) (lendable : Lendable state) (reordered : Reordered iv calls calls')
     (all : AllAccepted iv state calls) (all' : AllAccepted iv state calls') where
@@ -102,8 +101,8 @@ module _ (iv : List ℕ) (state : State) (calls calls' : List Call) (lendable : 
   pub same_record : session_in iv (after state calls).table ≡ session_in iv (after state calls').table
   same_record = by (place_of (after state calls).table iv) refl
     where
-      by : (p : Place) → place_of (after state calls).table iv ≡ p → session_in iv (after state calls).table ≡ session_in iv (after state calls').table
-      by (At p) e =
+      by : (p : Option ℕ) → place_of (after state calls).table iv ≡ p → session_in iv (after state calls).table ≡ session_in iv (after state calls').table
+      by (Some p) e =
           let start = session_sound iv state (ready state lendable) in
           rejoined _ (session_sound iv (after state calls) one.ready).0
           ∙ ap₂ with_window like.but
@@ -111,7 +110,7 @@ module _ (iv : List ℕ) (state : State) (calls calls' : List Call) (lendable : 
           ∙ any_arrival (window_of (session_in iv state.table)) (sound_holds _ start.0 start.1) (Permᴰ.filter_map nonce_in reordered.own)
           ∙ sym (other.window p (sym (like.place iv) ∙ e)))
           ∙ sym (rejoined _ (session_sound iv (after state calls') other.ready).0)
-      by Nowhere e = ap (held_at (after state calls).table) e ∙ sym (ap (held_at (after state calls').table) (sym (like.place iv) ∙ e))
+      by None e = ap (held_at (after state calls).table) e ∙ sym (ap (held_at (after state calls').table) (sym (like.place iv) ∙ e))
 
   -- and so is every other, and the index
   pub same_records : SameRecords (after state calls) (after state calls')

@@ -12,7 +12,7 @@ use Rattle.hashes.specs.declared.Hash.{Hash}
 use Rattle.hashes.specs.Hashes.{hash_mask}
 use Rattle.hashes.proofs.Hashes.{mask_tells}
 use Rattle.table.specs.declared.session.Record.{Record}
-use Rattle.table.specs.declared.place.Place.TheVariants.{At}
+use Rattle.std.specs.Prelude.{Some}
 use Rattle.table.specs.Record.{freed}
 use Rattle.table.specs.Table.{records, record_at}
 use Rattle.table.specs.Session.{place_of, held_at}
@@ -34,7 +34,7 @@ use Rattle.demands.proofs.History.Sessions.{KeptBy}
 use Rattle.demands.proofs.History.Tables.{held}
 
 -- the record of an accepted request's session keeps the request's hash
-kept : (q : Request) (state : State) (place : ℕ) → first (request_checks q state) ≡ 0 → place_of state.table (iv_of q) ≡ At place
+kept : (q : Request) (state : State) (place : ℕ) → first (request_checks q state) ≡ 0 → place_of state.table (iv_of q) ≡ Some place
     → (record_at state.table place).hash ≡ hash_mask (hash_of q)
 unfolding session_part keeps_hash
 kept q state place e at =
@@ -51,7 +51,7 @@ module _ (n : ℕ) (calls : List Call) (q : Request) where
   abbrev now : State
   now = after (empty n) calls
 
-  recorded : (place : ℕ) → place_of now.table (iv_of q) ≡ At place → (record_at now.table place).hash ≡ hash_mask (hash_of q)
+  recorded : (place : ℕ) → place_of now.table (iv_of q) ≡ Some place → (record_at now.table place).hash ≡ hash_mask (hash_of q)
       → chosen_in (iv_of q) (empty n) calls ≡ some (hash_of q)
   recorded place at keeps =
       let st = standing n calls in
@@ -75,7 +75,7 @@ module _ (n : ℕ) (calls : List Call) (q : Request) where
 
 -- a request with another hash than its session's is 8, though its token and its signature are right
 pub talked_down : (q : Request) (state : State) (place : ℕ) → first (entry_part q state) ≡ 0 → first (reading_part q) ≡ 0 → first (vouching_part q) ≡ 0
-    → place_of state.table (iv_of q) ≡ At place → ((record_at state.table place).hash ≡ hash_mask (hash_of q) → ⊥) → (judged q state).number ≡ 8
+    → place_of state.table (iv_of q) ≡ Some place → ((record_at state.table place).hash ≡ hash_mask (hash_of q) → ⊥) → (judged q state).number ≡ 8
 unfolding request_checks session_part keeps_hash
 talked_down q state place entry reading vouching at other =
     judged_number_lem q state

@@ -37,7 +37,7 @@ use Rattle.window.specs.Time.{exceeds, most_ahead}
 use Rattle.window.specs.Window.{step_of}
 use Rattle.window.proofs.Times.{exceeds_sum}
 use Rattle.table.specs.declared.session.Record.{Record}
-use Rattle.table.specs.declared.place.Place.TheVariants.{At}
+use Rattle.std.specs.Prelude.{Some}
 use Rattle.table.specs.Record as R
 use Rattle.table.specs.Record.{record_bytes, begun}
 use Rattle.table.specs.Table.{places, record_at, records}
@@ -265,7 +265,7 @@ module _ (s : Setup) (state : State) (done : first (setup_checks s state) ≡ 0)
         stored_well (records state.table) takes.place new inside (well_formed_is (records state.table) entered.formed)
         (begun_sound s.iv (expiry_of s) hash) (alone_new (records state.table) takes.place new takes.unused)
 
-    found_new : place_of after.table (iv_of q) ≡ At takes.place
+    found_new : place_of after.table (iv_of q) ≡ Some takes.place
     found_new =
         rw (iv_is, records_are)
         (at_found (set (records state.table) takes.place new) s.iv takes.place well (rw length-set inside)
@@ -397,7 +397,7 @@ pub record Bears (s : Setup) (q : Request) (after : State) : Type 0 where
   pub tag : the key_tag (fields_of q) ≡ (sealed_of s).tag
   pub hash : hash_of q ≡ chosen_of s
   pub place : ℕ
-  pub at : place_of after.table s.iv ≡ At place
+  pub at : place_of after.table s.iv ≡ Some place
   pub keeps : (record_at after.table place).hash ≡ hash_mask (chosen_of s)
 
 pub client_bears : (s : Setup) (state : State) (m : Message) (clock : ℕ) (reply : List ℕ) → LentBytes s → (set_up s state).number ≡ 0

@@ -18,8 +18,7 @@ use Rattle.cells.specs.Numbers.{bytes_of}
 use Rattle.cells.proofs.Numbers.{number_of}
 use Rattle.cells.proofs.Tests.{tested}
 use Rattle.table.specs.declared.session.Record.{Record}
-use Rattle.table.specs.declared.place.Place.{Place}
-use Rattle.table.specs.declared.place.Place.TheVariants.{At, Nowhere}
+use Rattle.std.specs.Prelude.{Option, Some, None}
 use Rattle.table.specs.Record.{freed}
 use Rattle.table.specs.Session.{place_of}
 use Rattle.table.specs.Table.{records, holds, found}
@@ -62,17 +61,17 @@ only_one_fits table index f = fits_only table index f
 -- a lookup through the entries finds the record that one of them names
 module _ (table : List Record) (iv : List ℕ) where
   named_there : (es : List ℕ) (i : ℕ) → holds iv (get_or table i freed) ≡ true
-      → ((k : ℕ) → k < length es → holds iv (get_or table (get_or es k 0) freed) ≡ true → get_or es k 0 ≡ i) → Stands i es → named table iv es ≡ At i
+      → ((k : ℕ) → k < length es → holds iv (get_or table (get_or es k 0) freed) ≡ true → get_or es k 0 ≡ i) → Stands i es → named table iv es ≡ Some i
   named_there [] i e one s = absurd (omega (arith, s.within))
   named_there (x ∷ es) i e one s =
-      tested (holds iv (get_or table x freed)) (λ t. rw t (ap At (one 0 (omega arith) t)))
+      tested (holds iv (get_or table x freed)) (λ t. rw t (ap Some (one 0 (omega arith) t)))
       (λ t. rw t (named_there es i e (λ k m. one (suc k) (omega arith)) (behind s.at s.within s.is t)))
     where
       behind : (at : ℕ) → at < length (x ∷ es) → get_or (x ∷ es) at 0 ≡ i → holds iv (get_or table x freed) ≡ false → Stands i es
       behind zero m f t = absurd (true≢false (sym e ∙ ap (λ (k : ℕ). holds iv (get_or table k freed)) (sym f) ∙ t))
       behind (suc at) m f t = record { at = at; within = omega arith; is = f }
 
-  named_nowhere : (es : List ℕ) → ((k : ℕ) → k < length es → holds iv (get_or table (get_or es k 0) freed) ≡ false) → named table iv es ≡ Nowhere
+  named_nowhere : (es : List ℕ) → ((k : ℕ) → k < length es → holds iv (get_or table (get_or es k 0) freed) ≡ false) → named table iv es ≡ None
   named_nowhere [] none = refl
   named_nowhere (x ∷ es) none = rw (none 0 (omega arith)) (named_nowhere es (λ k l. none (suc k) (omega arith)))
 
@@ -115,8 +114,8 @@ looked_up table index iv few w f = ap (named table iv) those ∙ by (found table
     beyond : holds iv (get_or table vacant freed) ≡ false
     beyond = ap (holds iv) (get_or-eq_default table freed {n = vacant} (omega arith))
 
-    by : (p : Place) → found table iv ≡ p → named table iv es ≡ p
-    by (At i) e =
+    by : (p : Option ℕ) → found table iv ≡ p → named table iv es ≡ p
+    by (Some i) e =
         let there = found_at table iv i e in
         let used = holds_used iv (get_or table i freed) there.1 in
         let s = in_stands i ps (ranked_in table (length table) i there.0 used.0) in
@@ -125,7 +124,7 @@ looked_up table index iv few w f = ap (named table iv) those ∙ by (found table
         (λ m. let told = holds_used iv (get_or table (get_or es k 0) freed) t in w.apart (get_or es k 0) i m there.0 told.0 used.0 (told.1 ∙ sym used.1))
         (λ v. absurd (true≢false (sym t ∙ ap (λ (x : ℕ). holds iv (get_or table x freed)) v ∙ beyond))) (entry k l))
         (record { at = s.at; within = omega (arith, s.within, h.few, long); is = filled_front (length table) ps s.at s.within ∙ s.is })
-    by Nowhere e =
+    by None e =
         named_nowhere table iv es (λ k l. ⊎_elim (λ m. found_nowhere table iv e (get_or es k 0) m) (λ v. ap (λ (x : ℕ). holds iv (get_or table x freed)) v ∙ beyond) (entry k l))
 
 -- gate_index answers 0 where the sizes fit and the table is well formed, and writes the index that fits

@@ -19,8 +19,7 @@ use Rattle.hashes.specs.Hashes.{hash_mask}
 use Rattle.signed.specs.SignedText.{orders_nonce}
 use Rattle.window.proofs.Steps.{newest}
 use Rattle.table.specs.declared.session.Record.{Record}
-use Rattle.table.specs.declared.place.Place.{Place}
-use Rattle.table.specs.declared.place.Place.TheVariants.{At}
+use Rattle.std.specs.Prelude.{Option, Some}
 use Rattle.table.specs.Record.{window_of}
 use Rattle.table.specs.Table.{is_used}
 use Rattle.table.specs.Session.{place_of, held_at}
@@ -90,7 +89,7 @@ module _ (s : Setup) where
     session : Session
     kept : Kept session w.scanner
     grant : session.grant ≡ grant_of s
-    serves : (place : ℕ) → place_of w.gate.table s.iv ≡ At place → Serves session.next (session_in s.iv w.gate.table)
+    serves : (place : ℕ) → place_of w.gate.table s.iv ≡ Some place → Serves session.next (session_in s.iv w.gate.table)
 
   -- more nonces are below a later one
   serves_later : {n l : ℕ} {r : Record} → n ≤ l → Serves n r → Serves l r
@@ -108,14 +107,14 @@ module _ (s : Setup) where
       abbrev n : ℕ
       n = g.session.next
 
-      place : (i : ℕ) × (place_of w.gate.table s.iv ≡ At i)
+      place : (i : ℕ) × (place_of w.gate.table s.iv ≡ Some i)
       place = placed (place_of w.gate.table s.iv) p.stands
 
       old : Serves n r
       old = g.serves place.0 place.1
 
       used : r.used ≡ 1
-      used = ap (λ (i : Place). (held_at w.gate.table i).used) place.1 ∙ (found_session w.gate.table s.iv place.0 place.1).used
+      used = ap (λ (i : Option ℕ). (held_at w.gate.table i).used) place.1 ∙ (found_session w.gate.table s.iv place.0 place.1).used
 
       abbrev message : Message
       message = arrived g.session d a

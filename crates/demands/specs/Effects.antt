@@ -1,11 +1,10 @@
 -- What each call may do to table and reply buffer, by its number: document 01, 'The numbers a call returns'.
 -- Assumes nothing.
-use Rattle.std.specs.Prelude.{◌≡◌, true, false, ◌⊎◌, ℕ, ◌≤◌, length, take, drop}
+use Rattle.std.specs.Prelude.{◌≡◌, true, false, ◌⊎◌, ℕ, ◌≤◌, length, take, drop, Some}
 use mathlib.Core.List.{List, [], ◌∷◌, Memᴰ}
 use Rattle.cells.specs.Runs.{Bytes}
 use Rattle.hashes.specs.Hashes.{hash_mask}
 use Rattle.window.specs.Window.{step_of}
-use Rattle.table.specs.declared.place.Place.TheVariants.{At}
 use Rattle.table.specs.Record.{freed, begun, window_of, with_window}
 use Rattle.table.specs.Table.{records, record_at, taken}
 use Rattle.index.specs.Fits.{Fits}
@@ -54,7 +53,7 @@ Right s = Fits (records s.table) s.index
 -- a setup takes the lowest free record, else the lowest whose expiry is at or before now
 pub record Begun (s : Setup) (before : State) (o : Outcome) : Type 0 where
   pub place : ℕ
-  pub lowest : taken (records before.table) s.clock ≡ At place
+  pub lowest : taken (records before.table) s.clock ≡ Some place
   pub session : Replaced before.table o.state.table place (begun s.iv (expiry_of s) (hash_mask (chosen_of s)))
   pub index : Right o.state
   pub reply : Replied (reply_of s) s.reply o

@@ -1,12 +1,11 @@
 -- Calls struck out of a history, and what is left of a session: document 02, K9. Calls and what they tell stand with the latest first, as in History.
 -- Assumes nothing.
-use Rattle.std.specs.Prelude.{◌≡◌, Bool, true, false, cond, not, ◌&&◌, List, [], ◌∷◌, ◌↔◌, ℕ, ◌<◌, length}
+use Rattle.std.specs.Prelude.{◌≡◌, Bool, true, false, cond, not, ◌&&◌, List, [], ◌∷◌, ◌↔◌, ℕ, ◌<◌, length, Some}
 use Rattle.std.proofs.Math.Option.{Option, none, some}
 use Rattle.cells.specs.Runs.{Bytes, same}
 use Rattle.armor.specs.Value.{grammar}
 use Rattle.armor.specs.Fields.{request_fields}
 use Rattle.table.specs.declared.session.Record.{Record}
-use Rattle.table.specs.declared.place.Place.TheVariants.{At}
 use Rattle.table.specs.Record.{window_of}
 use Rattle.table.specs.Table.{places, records}
 use Rattle.table.specs.Session.{place_of, held_at}
@@ -87,7 +86,7 @@ session_in iv table = held_at table (place_of table iv)
 -- the session of an IV stands alike in two tables: the same record, at a place of the one and where that place is in the other
 pub record StandsAlike (to : ℕ → ℕ) (iv one other : List ℕ) : Type 0 where
   pub session : session_in iv one ≡ session_in iv other
-  pub place : (p : ℕ) → (place_of one iv ≡ At p) ↔ (place_of other iv ≡ At (to p))
+  pub place : (p : ℕ) → (place_of one iv ≡ Some p) ↔ (place_of other iv ≡ Some (to p))
   pub within : (p : ℕ) → (p < places one) ↔ (to p < places other)
 
 -- places are where they were

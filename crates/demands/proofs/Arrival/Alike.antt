@@ -13,7 +13,7 @@ use Rattle.cells.proofs.Equality.{same_equal, same_self}
 use Rattle.cells.proofs.Tests.{tested}
 use Rattle.window.specs.Window.{fresh}
 use Rattle.table.specs.declared.session.Record.{Record}
-use Rattle.table.specs.declared.place.Place.{Place}
+use Rattle.std.specs.Prelude.{Option}
 use Rattle.table.specs.Record.{size, freed, with_window}
 use Rattle.table.specs.Table.{places, records, record_at, first_from, taken, or_else, is_free, lapsed}
 use Rattle.table.specs.Session.{place_of, held_at}
@@ -68,7 +68,7 @@ module _ {A : Type 0} (f : Record → A) where
   used_alike one other place session w p h u =
       let v = (record_at one p).iv in
       let at = session_found one v p w (record { within = h; used = u; iv = refl }) in
-      ap (λ (q : Place). f (held_at one q)) (sym at) ∙ session v ∙ ap (λ (q : Place). f (held_at other q)) (sym (place v) ∙ at)
+      ap (λ (q : Option ℕ). f (held_at one q)) (sym at) ∙ session v ∙ ap (λ (q : Option ℕ). f (held_at other q)) (sym (place v) ∙ at)
 
   place_alike : (one other : List ℕ) → length one ≡ length other → ((v : List ℕ) → place_of one v ≡ place_of other v) → ((v : List ℕ) → f (session_in v one) ≡ f (session_in v other))
       → WellFormed (records one) → WellFormed (records other) → (p : ℕ) → p < places one → f (get_or (records one) p freed) ≡ f (get_or (records other) p freed)

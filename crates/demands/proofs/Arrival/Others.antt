@@ -7,8 +7,7 @@ use mathlib.Core.Logic.{◌↔◌, ⊎_elim}
 use Prim.Native.Nat.{ℕ}
 use Rattle.cells.proofs.Equality.{same_self}
 use Rattle.cells.proofs.Tests.{tested}
-use Rattle.table.specs.declared.place.Place.{Place}
-use Rattle.table.specs.declared.place.Place.TheVariants.{At, Nowhere}
+use Rattle.std.specs.Prelude.{Option, Some, None}
 use Rattle.table.specs.Session.{place_of}
 use Rattle.gate.specs.Calls.{Setup}
 use Rattle.gate.specs.State.{State}
@@ -22,10 +21,10 @@ use Rattle.demands.proofs.Arrival.Alike.{LikeBut, bare, own_or_other, stands}
 use Rattle.demands.proofs.Arrival.Setups.{setup_alike, stood_before}
 
 -- one place, if each place is the one exactly if it is the other
-same_place : (p q : Place) → ((i : ℕ) → (p ≡ At i) ↔ (q ≡ At i)) → p ≡ q
-same_place (At i) q f = sym ((f i).0 refl)
-same_place Nowhere (At i) f = (f i).1 refl
-same_place Nowhere Nowhere f = refl
+same_place : (p q : Option ℕ) → ((i : ℕ) → (p ≡ Some i) ↔ (q ≡ Some i)) → p ≡ q
+same_place (Some i) q f = sym ((f i).0 refl)
+same_place None (Some i) f = (f i).1 refl
+same_place None None f = refl
 
 module _ (iv : List ℕ) (a b : State) (ra : Ready a) (rb : Ready b) (l : LikeBut iv a.table b.table) (call : Call) (e : bears iv call ≡ false) (later : NoSetup call) where
   alike : (v : List ℕ) → (v ≡ iv → ⊥) → StandsAlike here v (answer call a).state.table (answer call b).state.table
@@ -66,8 +65,8 @@ module _ (iv : List ℕ) (a b : State) (ra : Ready a) (rb : Ready b) (l : LikeBu
 module _ (iv : List ℕ) (state : State) (ready : Ready state) (p : ℕ) where
   abbrev Stood : Call → Type 0
   Stood call =
-      place_of (answer call state).state.table iv ≡ At p
-      → (place_of state.table iv ≡ At p) × (session_in iv (answer call state).state.table ≡ session_in iv state.table)
+      place_of (answer call state).state.table iv ≡ Some p
+      → (place_of state.table iv ≡ Some p) × (session_in iv (answer call state).state.table ≡ session_in iv state.table)
 
   kept : (call : Call) → NoSetup call → bears iv call ≡ false → Stood call
   kept call later e at = let u = undisturbed state ready iv call later e in (sym u.place ∙ at, u.session)

@@ -10,8 +10,7 @@ use borrow.Author.Tests.{eq-eqb}
 use Rattle.window.specs.declared.Window.{Window}
 use Rattle.window.specs.Window.{step_of}
 use Rattle.table.specs.declared.session.Record.{Record}
-use Rattle.table.specs.declared.place.Place.{Place}
-use Rattle.table.specs.declared.place.Place.TheVariants.{At, Nowhere}
+use Rattle.std.specs.Prelude.{Option as Maybe, Some, None}
 use Rattle.table.specs.Record.{window_of}
 use Rattle.table.specs.Table.{is_used}
 use Rattle.table.specs.Session.{place_of, held_at}
@@ -57,7 +56,7 @@ pub record Serves (iv : List ℕ) (nonce : Option ℕ) (before after : List ℕ)
   pub window : window_of (session_in iv after) ≡ with_nonce_lem nonce (window_of (session_in iv before))
 
 -- by how it turns its session's record
-module _ (q : Request) (before after : List ℕ) (place : ℕ) (at : place_of before (iv_of q) ≡ At place) (turn : Record → Record) (t : Turns (iv_of q) turn before after)
+module _ (q : Request) (before after : List ℕ) (place : ℕ) (at : place_of before (iv_of q) ≡ Some place) (turn : Record → Record) (t : Turns (iv_of q) turn before after)
     (is : turn (session_in (iv_of q) before) ≡ turned q 0 (session_in (iv_of q) before)) where
   abbrev old : Record
   old = session_in (iv_of q) before
@@ -66,7 +65,7 @@ module _ (q : Request) (before after : List ℕ) (place : ℕ) (at : place_of be
   stays_used = ap is_used is ∙ by (ordered q)
     where
       held : old.used ≡ 1
-      held = ap (λ (p : Place). (held_at before p).used) at ∙ (found_session before (iv_of q) place at).used
+      held = ap (λ (p : Maybe ℕ). (held_at before p).used) at ∙ (found_session before (iv_of q) place at).used
 
       by : (o : Bool) → is_used (cond o (next (nonce_of q) old) old) ≡ true
       by true = eq-eqb _ 1 held
@@ -77,7 +76,7 @@ module _ (q : Request) (before after : List ℕ) (place : ℕ) (at : place_of be
     like = record {
       long = t.long;
       place = λ v.
-          ⊎_elim (λ e. rw e (t.place ∙ ap (λ (u : Bool). cond u (place_of before (iv_of q)) Nowhere) stays_used)) (λ n. (t.others v n).place) (own_or_other v (iv_of q));
+          ⊎_elim (λ e. rw e (t.place ∙ ap (λ (u : Bool). cond u (place_of before (iv_of q)) None) stays_used)) (λ n. (t.others v n).place) (own_or_other v (iv_of q));
       session = λ v n. (t.others v n).session;
       but = ap bare (t.session ∙ is) ∙ as_bare (ordered q);
     };
@@ -106,7 +105,7 @@ module _ (state : State) (ready : Ready state) where
       let old = session_in (iv_of q) state.table in
       served q state.table _ place (own state ready.well place (iv_of q) f.place f.finds).there (turned_at place q state (judged_at place q state).number)
       (one_turns place q state ready.well ready.whole)
-      (ap (λ (p : Place). cond (nowhere p) old (turned q (judged_at place q state).number old)) f.finds ∙ ap (λ (n : ℕ). turned q n old) z)
+      (ap (λ (p : Maybe ℕ). cond (nowhere p) old (turned q (judged_at place q state).number old)) f.finds ∙ ap (λ (n : ℕ). turned q n old) z)
 
   -- the session whose IV it bears
   pub serves : (iv : List ℕ) (call : Call) → bears iv call ≡ true → is_request call ≡ true → (answer call state).number ≡ 0

@@ -12,8 +12,7 @@ use Rattle.cells.specs.Runs.{spliced, same}
 use Rattle.hashes.specs.declared.Hash.{Hash}
 use Rattle.window.specs.History.{keep}
 use Rattle.table.specs.declared.session.Record.{Record}
-use Rattle.table.specs.declared.place.Place.{Place}
-use Rattle.table.specs.declared.place.Place.TheVariants.{At, Nowhere}
+use Rattle.std.specs.Prelude.{Option as Maybe, Some, None}
 use Rattle.table.specs.Record.{size, record_bytes, Fits, freed}
 use Rattle.table.specs.Table.{records, record_at}
 use Rattle.table.specs.Session.{place_of, with_record, without}
@@ -55,12 +54,12 @@ module _ (n : ℕ) (state : State) (ivs : List (List ℕ)) (nonces : List ℕ �
   unfolding without
   freed_one iv = by (place_of one iv) refl
     where
-      by : (p : Place) → place_of one iv ≡ p → Standing n (spliced state.table (size * place) (with_record one p freed)) ivs nonces hashes
-      by (At j) e =
+      by : (p : Maybe ℕ) → place_of one iv ≡ p → Standing n (spliced state.table (size * place) (with_record one p freed)) ivs nonces hashes
+      by (Some j) e =
           let o = own state st.sessions.well place iv j e in
-          subst (λ (p : Place). Standing n (spliced state.table (size * place) (with_record one p freed)) ivs nonces hashes) (sym o.here ∙ e)
+          subst (λ (p : Maybe ℕ). Standing n (spliced state.table (size * place) (with_record one p freed)) ivs nonces hashes) (sym o.here ∙ e)
           (stored iv freed o freed_fits (freed_sessions (records state.table) ivs nonces hashes st.sessions place (rw length_records o.within)))
-      by Nowhere e = kept
+      by None e = kept
 
   module _ (q : Request) where
     -- a nonce taken

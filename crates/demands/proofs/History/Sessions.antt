@@ -17,7 +17,7 @@ use Rattle.window.specs.Window.{step_of}
 use Rattle.window.specs.History.{is_accepted, keep}
 use Rattle.window.proofs.Tracks.{Tracks, tracks_fresh, right}
 use Rattle.table.specs.declared.session.Record.{Record}
-use Rattle.table.specs.declared.place.Place.TheVariants.{At, Nowhere}
+use Rattle.std.specs.Prelude.{Some, None}
 use Rattle.table.specs.Record.{Fits, freed, begun, window_of, with_window}
 use Rattle.table.specs.Table.{holds, found}
 use Rattle.table.specs.WellFormed.{Sound, WellFormed}
@@ -41,11 +41,11 @@ pub record Sessions (rs : List Record) (ivs : List (List ℕ)) (nonces : List �
   pub well : WellFormed rs
   pub fit : (i : ℕ) → i < length rs → Fits (get_or rs i freed)
   -- a session's window stands for the nonces accepted in it
-  pub known : Apart ivs → (iv : List ℕ) (i : ℕ) → found rs iv ≡ At i → Tracks (window_of (get_or rs i freed)) (nonces iv)
+  pub known : Apart ivs → (iv : List ℕ) (i : ℕ) → found rs iv ≡ Some i → Tracks (window_of (get_or rs i freed)) (nonces iv)
   -- a session's record keeps that hash
-  pub keeps : (iv : List ℕ) (i : ℕ) → found rs iv ≡ At i → KeptBy (get_or rs i freed).hash (hashes iv)
+  pub keeps : (iv : List ℕ) (i : ℕ) → found rs iv ≡ Some i → KeptBy (get_or rs i freed).hash (hashes iv)
   -- under an IV that was not set up yet there is no session, and nothing was accepted
-  pub new : Apart ivs → (iv : List ℕ) → iv_among ivs iv ≡ false → (found rs iv ≡ Nowhere) × (nonces iv ≡ [])
+  pub new : Apart ivs → (iv : List ℕ) → iv_among ivs iv ≡ false → (found rs iv ≡ None) × (nonces iv ≡ [])
 
 -- free records
 pub free_sessions : (n : ℕ) → Sessions (replicate n freed) [] (λ iv. []) (λ iv. none)
@@ -76,17 +76,17 @@ module _ (rs : List Record) (i : ℕ) (r : Record) (h : i < length rs) where
       there n = subst (λ (x : Record). Fits x) (sym (stored_other rs i r h j n)) (fit j (rw length-set at l))
 
   -- none is found where none was and the new record has another IV
-  found_none : (iv : List ℕ) → found rs iv ≡ Nowhere → holds iv r ≡ false → found (set rs i r) iv ≡ Nowhere
+  found_none : (iv : List ℕ) → found rs iv ≡ None → holds iv r ≡ false → found (set rs i r) iv ≡ None
   found_none iv e n = found_kept rs i r h iv (n ∙ sym (found_nowhere rs iv e i h)) ∙ e
 
   -- the sessions of a table with a record stored, from what they are under the IVs of the new record and of the others
   stored : (ivs : List (List ℕ)) (nonces : List ℕ → List ℕ) (hashes : List ℕ → Option Hash) → WellFormed rs → ((j : ℕ) → j < length rs → Fits (get_or rs j freed))
       → Fits r → Sound r → Alone rs i r
       → (Apart ivs → (iv : List ℕ) → holds iv r ≡ true → Tracks (window_of r) (nonces iv))
-      → (Apart ivs → (iv : List ℕ) (j : ℕ) → (j ≡ i → ⊥) → found rs iv ≡ At j → Tracks (window_of (get_or rs j freed)) (nonces iv))
+      → (Apart ivs → (iv : List ℕ) (j : ℕ) → (j ≡ i → ⊥) → found rs iv ≡ Some j → Tracks (window_of (get_or rs j freed)) (nonces iv))
       → ((iv : List ℕ) → holds iv r ≡ true → KeptBy r.hash (hashes iv))
-      → ((iv : List ℕ) (j : ℕ) → (j ≡ i → ⊥) → found rs iv ≡ At j → KeptBy (get_or rs j freed).hash (hashes iv))
-      → (Apart ivs → (iv : List ℕ) → iv_among ivs iv ≡ false → (found rs iv ≡ Nowhere) × (holds iv r ≡ false) × (nonces iv ≡ []))
+      → ((iv : List ℕ) (j : ℕ) → (j ≡ i → ⊥) → found rs iv ≡ Some j → KeptBy (get_or rs j freed).hash (hashes iv))
+      → (Apart ivs → (iv : List ℕ) → iv_among ivs iv ≡ false → (found rs iv ≡ None) × (holds iv r ≡ false) × (nonces iv ≡ []))
       → Sessions (set rs i r) ivs nonces hashes
   stored ivs nonces hashes w fit f s a here there Kept-here kept_there absent = record {
     well = stored_well rs i r h w s a;
@@ -103,7 +103,7 @@ module _ (rs : List Record) (i : ℕ) (r : Record) (h : i < length rs) where
           subst (λ (x : Record). Tracks (window_of x) (nonces iv))
           (sym (ap (λ (k : ℕ). get_or (set rs i r) k freed) p.0 ∙ stored_here rs i r h)) (here apart iv p.1)
 
-      other : Apart ivs → (iv : List ℕ) (j : ℕ) → (j ≡ i → ⊥) × (found rs iv ≡ At j) → Tracks (window_of (get_or (set rs i r) j freed)) (nonces iv)
+      other : Apart ivs → (iv : List ℕ) (j : ℕ) → (j ≡ i → ⊥) × (found rs iv ≡ Some j) → Tracks (window_of (get_or (set rs i r) j freed)) (nonces iv)
       other apart iv j p =
           subst (λ (x : Record). Tracks (window_of x) (nonces iv)) (sym (stored_other rs i r h j p.0)) (there apart iv j p.0 p.1)
 
@@ -111,7 +111,7 @@ module _ (rs : List Record) (i : ℕ) (r : Record) (h : i < length rs) where
       own_hash iv j p =
           subst (λ (x : Record). KeptBy x.hash (hashes iv)) (sym (ap (λ (k : ℕ). get_or (set rs i r) k freed) p.0 ∙ stored_here rs i r h)) (Kept-here iv p.1)
 
-      other_hash : (iv : List ℕ) (j : ℕ) → (j ≡ i → ⊥) × (found rs iv ≡ At j) → KeptBy (get_or (set rs i r) j freed).hash (hashes iv)
+      other_hash : (iv : List ℕ) (j : ℕ) → (j ≡ i → ⊥) × (found rs iv ≡ Some j) → KeptBy (get_or (set rs i r) j freed).hash (hashes iv)
       other_hash iv j p =
           subst (λ (x : Record). KeptBy x.hash (hashes iv)) (sym (stored_other rs i r h j p.0)) (kept_there iv j p.0 p.1)
 
@@ -131,7 +131,7 @@ module _ (rs : List Record) (ivs : List (List ℕ)) (nonces : List ℕ → List 
       (λ apart iv e. ((s.new apart iv e).0, refl, (s.new apart iv e).1))
 
   -- a record taken by a new session
-  pub begun_sessions : (i : ℕ) (iv : List ℕ) (expiry : ℕ) (hash : Hash) → i < length rs → found rs iv ≡ Nowhere → length iv ≡ 12 → expiry < 2 ^ 32
+  pub begun_sessions : (i : ℕ) (iv : List ℕ) (expiry : ℕ) (hash : Hash) → i < length rs → found rs iv ≡ None → length iv ≡ 12 → expiry < 2 ^ 32
       → Sessions (set rs i (begun iv expiry (hash_mask hash))) (iv ∷ ivs) nonces (λ other. cond (same iv other) (some hash) (hashes other))
   begun_sessions i iv expiry hash h e long small =
       let r = begun iv expiry (hash_mask hash) in
@@ -150,7 +150,7 @@ module _ (rs : List Record) (ivs : List (List ℕ)) (nonces : List ℕ → List 
       (old.0, same_comm iv other ∙ parts.0, old.1))
 
   -- a session's record with the window that accepted a nonce
-  pub stepped_sessions : (i : ℕ) (iv : List ℕ) (n : ℕ) → found rs iv ≡ At i → n < 2 ^ 32
+  pub stepped_sessions : (i : ℕ) (iv : List ℕ) (n : ℕ) → found rs iv ≡ Some i → n < 2 ^ 32
       → is_accepted (step_of (window_of (get_or rs i freed)) n).verdict ≡ true
       → Sessions (set rs i (with_window (get_or rs i freed) (step_of (window_of (get_or rs i freed)) n).window)) ivs
       (λ other. keep (same iv other) n (nonces other)) hashes
@@ -181,12 +181,12 @@ module _ (rs : List Record) (ivs : List (List ℕ)) (nonces : List ℕ → List 
       used : (old.used ≡ 1) × (old.iv ≡ iv)
       used = holds_used iv old at.1
 
-      apart_from : (other : List ℕ) (j : ℕ) → (j ≡ i → ⊥) → found rs other ≡ At j → same iv other ≡ false
+      apart_from : (other : List ℕ) (j : ℕ) → (j ≡ i → ⊥) → found rs other ≡ Some j → same iv other ≡ false
       apart_from other j m f =
           same_not iv other
           (λ p.
-          let q : At j ≡ At i = sym f ∙ ap (found rs) (sym p) ∙ e in
+          let q : Some j ≡ Some i = sym f ∙ ap (found rs) (sym p) ∙ e in
           m (cc))
 
-      gone_from : (other : List ℕ) → found rs other ≡ Nowhere → same iv other ≡ false
+      gone_from : (other : List ℕ) → found rs other ≡ None → same iv other ≡ false
       gone_from other f = same_not iv other (λ p. nowhere_at i (sym f ∙ sym (ap (found rs) p) ∙ e))

@@ -10,8 +10,7 @@ use Rattle.cells.specs.Runs.{spliced}
 use Rattle.cells.specs.Numbers.{number}
 use Rattle.hashes.specs.declared.Hash.{Hash}
 use Rattle.table.specs.declared.session.Record.{Record}
-use Rattle.table.specs.declared.place.Place.{Place}
-use Rattle.table.specs.declared.place.Place.TheVariants.{At, Nowhere}
+use Rattle.std.specs.Prelude.{Option as Maybe, Some, None}
 use Rattle.table.specs.Record.{size, record_bytes, record_of, Fits, freed}
 use Rattle.table.specs.Table.{places, record_at, chunks, records}
 use Rattle.table.proofs.Records.{length_records, records_at, records_stored, freed_fits}
@@ -69,8 +68,8 @@ module _ (n : ℕ) (table : List ℕ) (ivs : List (List ℕ)) (nonces : List ℕ
   unfolding without
   without_standing iv = by (place_of table iv) refl
     where
-      by : (p : Place) → place_of table iv ≡ p → Standing n (with_record table p freed) ivs nonces hashes
-      by (At i) e =
+      by : (p : Maybe ℕ) → place_of table iv ≡ p → Standing n (with_record table p freed) ivs nonces hashes
+      by (Some i) e =
           let h = (found_at (records table) iv i e).0 in
           stored_standing i freed h freed_fits (freed_sessions (records table) ivs nonces hashes s.sessions i h)
-      by Nowhere e = s
+      by None e = s

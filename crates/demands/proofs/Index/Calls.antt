@@ -15,8 +15,7 @@ use Rattle.cells.proofs.Runs.{length_spliced}
 use Rattle.table.specs.declared.session.Record.{Record}
 use Rattle.table.specs.Record as R
 use Rattle.table.specs.Record.{size, record_bytes, freed}
-use Rattle.table.specs.declared.place.Place.{Place}
-use Rattle.table.specs.declared.place.Place.TheVariants.{At, Nowhere}
+use Rattle.std.specs.Prelude.{Option, Some, None}
 use Rattle.table.specs.Session.{place_of, with_record, without}
 use Rattle.table.specs.Table.{places, record_at, records}
 use Rattle.table.specs.WellFormed.{WellFormed}
@@ -110,15 +109,15 @@ module _ (state : State) (fits : state_fits state ≡ true) (fit : Whole state.t
         let e' = ap invalidates (sym (judged_number_lem q (taken_out place state))) ∙ e in
         judged_table q (taken_out place state) ∙ rw (not_zero (first (request_checks q (taken_out place state))) e', e')
 
-    cleared : (p : Place) → place_of one (iv_of q) ≡ p
+    cleared : (p : Option ℕ) → place_of one (iv_of q) ≡ p
         → WellFormed (records (spliced state.table (size * place) (with_record one p freed))) × (length (spliced state.table (size * place) (with_record one p freed)) ≡ length state.table)
-    cleared (At j) e =
+    cleared (Some j) e =
         let mine = own state w place (iv_of q) j e in
-        rw (ap (λ (p : Place). spliced state.table (size * place) (with_record one p freed)) (sym e ∙ mine.here) ∙ put_back_lem state w place freed mine.whole refl) (
+        rw (ap (λ (p : Option ℕ). spliced state.table (size * place) (with_record one p freed)) (sym e ∙ mine.here) ∙ put_back_lem state w place freed mine.whole refl) (
           cleared_well state.table place mine.within w,
           length_spliced state.table (record_bytes freed) (size * place) (omega (arith, mine.within, length_record_bytes freed refl)),
         )
-    cleared Nowhere e = rw (respliced state.table (size * place) size) (w, refl)
+    cleared None e = rw (respliced state.table (size * place) size) (w, refl)
 
     freed_right : invalidates n ≡ true → Right (judged_at place q state).state
     unfolding without

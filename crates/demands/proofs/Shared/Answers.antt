@@ -16,7 +16,7 @@ use Rattle.hashes.specs.declared.Hash.{Hash}
 use Rattle.hashes.specs.Hashes.{hash_mask}
 use Rattle.window.specs.Window.{step_of}
 use Rattle.table.specs.declared.session.Record.{Record}
-use Rattle.table.specs.declared.place.Place.TheVariants.{At}
+use Rattle.std.specs.Prelude.{Some}
 use Rattle.table.specs.Record.{size, record_bytes, begun, window_of, with_window}
 use Rattle.table.specs.Table.{records, record_at, taken}
 use Rattle.index.specs.Index.{index_of}
@@ -68,7 +68,7 @@ set_up_index s state e = by (eqb (first (setup_checks s state)) 0) refl
     by false z = absurd (eqb-false _ 0 z (sym (set_up_number s state) ∙ e))
 
 -- with the place that is taken
-pub begun_table : (s : Setup) (table : List ℕ) (place : ℕ) → taken (records table) s.clock ≡ At place
+pub begun_table : (s : Setup) (table : List ℕ) (place : ℕ) → taken (records table) s.clock ≡ Some place
     → with_session s table ≡ spliced table (size * place) (record_bytes (begun s.iv (expiry_of s) (hash_mask (chosen_of s))))
 unfolding with_session
 begun_table s table place e = rw e
@@ -149,7 +149,7 @@ module _ (q : Request) (state : State) where
       by false o false = refl
 
 -- with the place of the session
-module _ (q : Request) (table : List ℕ) (place : ℕ) (e : place_of table (iv_of q) ≡ At place) where
+module _ (q : Request) (table : List ℕ) (place : ℕ) (e : place_of table (iv_of q) ≡ Some place) where
   pub found_step : stepped q table ≡ step_of (window_of (record_at table place)) (nonce_of q)
   unfolding stepped
   found_step = rw e

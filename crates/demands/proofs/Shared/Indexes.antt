@@ -13,8 +13,7 @@ use Rattle.cells.specs.Runs.{same, spliced}
 use Rattle.cells.proofs.Equality.{same_self}
 use Rattle.hashes.specs.Hashes.{hash_mask}
 use Rattle.table.specs.declared.session.Record.{Record}
-use Rattle.table.specs.declared.place.Place.{Place}
-use Rattle.table.specs.declared.place.Place.TheVariants.{At, Nowhere}
+use Rattle.std.specs.Prelude.{Option, Some, None}
 use Rattle.table.specs.Record.{size, record_of, freed, begun}
 use Rattle.table.specs.Session.{place_of, with_record, without}
 use Rattle.table.specs.Table.{places, record_at, records}
@@ -44,7 +43,7 @@ right_sized state right =
     eq-eqb _ _ (ap length (fits_only _ _ right) ∙ length_index_of (records state.table) ∙ ap (λ (n : ℕ). 2 * n) (length_records state.table))
 
 -- a record freed
-pub cleared_well : (table : List ℕ) (place : ℕ) → place < places table → WellFormed (records table) → WellFormed (records (with_record table (At place) freed))
+pub cleared_well : (table : List ℕ) (place : ℕ) → place < places table → WellFormed (records table) → WellFormed (records (with_record table (Some place) freed))
 cleared_well table place within w =
     rw (records_stored table place freed within freed_fits) (freed_well (records table) w place (omega (arith, length_records table)))
 
@@ -52,11 +51,11 @@ without_well : (table iv : List ℕ) → WellFormed (records table) → WellForm
 unfolding without
 without_well table iv w = by (place_of table iv) refl
   where
-    by : (p : Place) → place_of table iv ≡ p → WellFormed (records (with_record table p freed))
-    by (At i) e =
+    by : (p : Option ℕ) → place_of table iv ≡ p → WellFormed (records (with_record table p freed))
+    by (Some i) e =
         let h = (found_at (records table) iv i e).0 in
         cleared_well table i (omega (arith, length_records table)) w
-    by Nowhere e = w
+    by None e = w
 
 pub without_right : (table iv : List ℕ) → WellFormed (records table) → Right (indexed (without table iv))
 without_right table iv w = fits_one (records (without table iv)) (without_well table iv w)

@@ -12,7 +12,7 @@ use Rattle.window.specs.declared.Verdict.{Verdict}
 use Rattle.window.specs.declared.Verdict.TheVariants.{Accepted, TooOld, Seen}
 use Rattle.window.specs.Window.{number_of}
 use Rattle.window.specs.History.{is_accepted}
-use Rattle.table.specs.declared.place.Place.TheVariants.{At}
+use Rattle.std.specs.Prelude.{Some}
 use Rattle.gate.specs.State.{State}
 use Rattle.stages.specs.Request.{Request}
 use Rattle.stages.specs.Checks.{first}
@@ -42,7 +42,7 @@ verdict_number Seen = refl
 module _ (q : Request) (state : State) where
   pub record Finds : Type 0 where
     pub place : ℕ
-    pub finds : place_of state.table (iv_of q) ≡ At place
+    pub finds : place_of state.table (iv_of q) ≡ Some place
     pub small : nonce_of q < 2 ^ 32
 
   -- none of those checks holds, part by part

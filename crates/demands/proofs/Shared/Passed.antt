@@ -18,8 +18,7 @@ use Rattle.armor.proofs.Requests.{request_by}
 use Rattle.orders.specs.Orders.{orders_good}
 use Rattle.names.specs.Names.{is_token}
 use Rattle.lines.specs.Lines.{good_block}
-use Rattle.table.specs.declared.place.Place.{Place}
-use Rattle.table.specs.declared.place.Place.TheVariants.{At, Nowhere}
+use Rattle.std.specs.Prelude.{Option as Maybe, Some, None}
 use Rattle.table.specs.Table.{records, taken}
 use Rattle.table.specs.WellFormed.{WellFormed}
 use Rattle.table.proofs.Meaning.{well_formed_is}
@@ -90,15 +89,15 @@ pub accepted_passed : (q : Request) (state : State) → first (request_checks q 
 unfolding entry_part reading_part covering_part entry_checks state_checks
 accepted_passed q state e = passed q state 0 refl refl (λ z. omega arith) e
 
-unplaced : (p : Place) → nowhere p ≡ true → p ≡ Nowhere
-unplaced (At i) e = absurd (true≢false (sym e))
-unplaced Nowhere e = refl
+unplaced : (p : Maybe ℕ) → nowhere p ≡ true → p ≡ None
+unplaced (Some i) e = absurd (true≢false (sym e))
+unplaced None e = refl
 
 -- a setup of which no check holds takes a record, its IV is in no used record, its IV and expiry fit in one, and both sides have a hash
 pub record Takes (s : Setup) (state : State) : Type 0 where
   pub place : ℕ
-  pub takes : taken (records state.table) s.clock ≡ At place
-  pub unused : place_of state.table s.iv ≡ Nowhere
+  pub takes : taken (records state.table) s.clock ≡ Some place
+  pub unused : place_of state.table s.iv ≡ None
   pub long : length s.iv ≡ 12
   pub small : expiry_of s < 2 ^ 32
   pub common : in_common (S.offered s) s.orders.numbers.hashes ≡ true

@@ -12,7 +12,7 @@ use Rattle.cells.specs.Runs.{spliced, part}
 use Rattle.cells.proofs.Runs.{length_spliced}
 use Rattle.table.specs.declared.session.Record.{Record}
 use Rattle.table.specs.Record.{size, record_bytes, Fits, freed}
-use Rattle.table.specs.declared.place.Place.TheVariants.{At}
+use Rattle.std.specs.Prelude.{Some}
 use Rattle.table.specs.Table.{places, record_at, records, holds, found, taken}
 use Rattle.table.specs.WellFormed.{Sound, WellFormed}
 use Rattle.table.proofs.Records.{length_record_bytes, length_records, records_at, records_stored}
@@ -76,21 +76,21 @@ laid_well table place r h f w sound alone =
     rw (records_stored table place r h f) (stored_well (records table) place r (rw length_records h) w sound alone)
 
 -- what is found is the new record, or was found there before
-pub found_either : (rs : List Record) (i : ℕ) (r : Record) → i < length rs → (iv : List ℕ) (j : ℕ) → WellFormed rs → found (set rs i r) iv ≡ At j
-    → ((j ≡ i) × (holds iv r ≡ true)) ⊎ ((j ≡ i → ⊥) × (found rs iv ≡ At j))
+pub found_either : (rs : List Record) (i : ℕ) (r : Record) → i < length rs → (iv : List ℕ) (j : ℕ) → WellFormed rs → found (set rs i r) iv ≡ Some j
+    → ((j ≡ i) × (holds iv r ≡ true)) ⊎ ((j ≡ i → ⊥) × (found rs iv ≡ Some j))
 found_either rs i r h iv j w e = ⊎_elim here there (equal_or_not j i)
   where
     at : (j < length (set rs i r)) × (holds iv (get_or (set rs i r) j freed) ≡ true)
     at = found_at (set rs i r) iv j e
 
-    here : j ≡ i → ((j ≡ i) × (holds iv r ≡ true)) ⊎ ((j ≡ i → ⊥) × (found rs iv ≡ At j))
+    here : j ≡ i → ((j ≡ i) × (holds iv r ≡ true)) ⊎ ((j ≡ i → ⊥) × (found rs iv ≡ Some j))
     here p = inl (p, sym (ap (holds iv) (ap (λ (k : ℕ). get_or (set rs i r) k freed) p ∙ stored_here rs i r h)) ∙ at.1)
 
-    there : (j ≡ i → ⊥) → ((j ≡ i) × (holds iv r ≡ true)) ⊎ ((j ≡ i → ⊥) × (found rs iv ≡ At j))
+    there : (j ≡ i → ⊥) → ((j ≡ i) × (holds iv r ≡ true)) ⊎ ((j ≡ i → ⊥) × (found rs iv ≡ Some j))
     there n = inr (n, at_found rs iv j w (rw length-set at at.0) (sym (ap (holds iv) (stored_other rs i r h j n)) ∙ at.1))
 
 -- a place that a setup takes is one of the table's
-pub taken_within : (table : List ℕ) (clock place : ℕ) → taken (records table) clock ≡ At place → place < places table
+pub taken_within : (table : List ℕ) (clock place : ℕ) → taken (records table) clock ≡ Some place → place < places table
 taken_within table clock place e = rw length_records at (taken_at (records table) clock place e).0
 
 -- a part laid over itself changes nothing

@@ -10,7 +10,7 @@ use lib.Seq.{take_all}
 use Rattle.cells.specs.Runs.{spliced}
 use Rattle.cells.proofs.Runs.{spliced_front, fronted_whole}
 use Rattle.table.specs.declared.session.Record.{Record}
-use Rattle.table.specs.declared.place.Place.TheVariants.{At}
+use Rattle.std.specs.Prelude.{Some}
 use Rattle.table.specs.Record.{size, record_bytes, record_of, freed}
 use Rattle.table.specs.Table.{places, records, record_at}
 use Rattle.table.specs.Session.{place_of, with_record}
@@ -66,27 +66,27 @@ module _ (state : State) (w : WellFormed (records state.table)) (place : ℕ) wh
   pub record Own (iv : List ℕ) : Type 0 where
     pub within : place < places state.table
     pub whole : length one ≡ size
-    pub here : place_of one iv ≡ At 0
+    pub here : place_of one iv ≡ Some 0
     pub same_record : record_at one 0 ≡ record_at state.table place
-    pub there : place_of state.table iv ≡ At place
+    pub there : place_of state.table iv ≡ Some place
 
-  owned : (iv : List ℕ) → place < places state.table → place_of one iv ≡ At 0 → place_of state.table iv ≡ At place → Own iv
+  owned : (iv : List ℕ) → place < places state.table → place_of one iv ≡ Some 0 → place_of state.table iv ≡ Some place → Own iv
   owned iv h e f = record { within = h; whole = one_long h; here = e; same_record = one_record h; there = f }
 
-  pub own : (iv : List ℕ) (j : ℕ) → place_of one iv ≡ At j → Own iv
+  pub own : (iv : List ℕ) (j : ℕ) → place_of one iv ≡ Some j → Own iv
   own iv j e =
       let within = one_place j (found_session one iv j e).within in
-      let here : place_of one iv ≡ At 0 = e ∙ ap At within.1 in
+      let here : place_of one iv ≡ Some 0 = e ∙ ap Some within.1 in
       owned iv within.0 here (session_found state.table iv place w (stands_so (sym (one_record within.0)) within.0 (found_session one iv 0 here)))
 
   -- and a session of the table is found in its record
-  pub lent : (iv : List ℕ) → place_of state.table iv ≡ At place → Own iv
+  pub lent : (iv : List ℕ) → place_of state.table iv ≡ Some place → Own iv
   lent iv e =
       let s = found_session state.table iv place e in
       owned iv s.within (session_found one iv 0 one_well (stands_so (one_record s.within) (omega (arith, one_long s.within)) s)) e
 
   -- another record laid over it, put back, is that record laid over its place
   pub put_back_lem : (r : Record) → length one ≡ size → length r.iv ≡ 12
-      → spliced state.table (size * place) (with_record one (At 0) r) ≡ with_record state.table (At place) r
+      → spliced state.table (size * place) (with_record one (Some 0) r) ≡ with_record state.table (Some place) r
   put_back_lem r whole long =
       ap (spliced state.table (size * place)) (spliced_front one (record_bytes r) ∙ fronted_whole (record_bytes r) one (length_record_bytes r long ∙ sym whole))

@@ -11,8 +11,7 @@ use Rattle.cells.specs.Runs.{spliced}
 use Rattle.window.specs.Window.{step_of}
 use Rattle.window.specs.History.{is_accepted}
 use Rattle.table.specs.declared.session.Record.{Record}
-use Rattle.table.specs.declared.place.Place.{Place}
-use Rattle.table.specs.declared.place.Place.TheVariants.{At, Nowhere}
+use Rattle.std.specs.Prelude.{Option, Some, None}
 use Rattle.table.specs.Record.{size, freed, window_of}
 use Rattle.table.specs.Table.{records, record_at}
 use Rattle.table.specs.Session.{place_of, held_at, with_record, without}
@@ -45,23 +44,23 @@ turned q n r = cond (eqb n 0) (cond (ordered q) (next (nonce_of q) r) r) (cond (
 abbrev Accepts : Request → Record → Type 0
 Accepts q r = (is_accepted (step_of (window_of r) (nonce_of q)).verdict ≡ true) × (nonce_of q < 2 ^ 32)
 
-taken : (q : Request) (state : State) (place : ℕ) → first (request_checks q state) ≡ 0 → ordered q ≡ true → place_of state.table (iv_of q) ≡ At place
+taken : (q : Request) (state : State) (place : ℕ) → first (request_checks q state) ≡ 0 → ordered q ≡ true → place_of state.table (iv_of q) ≡ Some place
     → Accepts q (record_at state.table place)
 taken q state place e o at = (rw (found_step q state.table place at) at (accepted_step q state e o), (passes_finds q state (accepted_passes q state e)).small)
 
 -- the next record, as the definitions put it
-next_is : (q : Request) (table : List ℕ) (place : ℕ) → place_of table (iv_of q) ≡ At place → next_of q table ≡ next (nonce_of q) (record_at table place)
+next_is : (q : Request) (table : List ℕ) (place : ℕ) → place_of table (iv_of q) ≡ Some place → next_of q table ≡ next (nonce_of q) (record_at table place)
 unfolding next_of
 next_is q table place at = rw (found_step q table place at, at) refl
 
 module _ (table : List ℕ) (w : WellFormed (records table)) (fit : Whole table) where
   -- a session's record freed
   module _ (iv : List ℕ) (turn : Record → Record) (frees : (r : Record) → turn r ≡ freed) where
-    freed_turns : (place : ℕ) → place_of table iv ≡ At place → Turns iv turn table (with_record table (At place) freed)
+    freed_turns : (place : ℕ) → place_of table iv ≡ Some place → Turns iv turn table (with_record table (Some place) freed)
     freed_turns place e = turned_into iv table w fit place (found_session table iv place e) freed freed_fits freed_sound (inl refl) turn (frees _)
 
   -- the session of a request at its place, by what its number does and by whether nonces are ordered
-  module _ (q : Request) (place : ℕ) (at : place_of table (iv_of q) ≡ At place) where
+  module _ (q : Request) (place : ℕ) (at : place_of table (iv_of q) ≡ Some place) where
     abbrev old : Record
     old = record_at table place
 
@@ -71,7 +70,7 @@ module _ (table : List ℕ) (w : WellFormed (records table)) (fit : Whole table)
     acts : (t u o : Bool)
         → (t ≡ true → o ≡ true → Accepts q old)
         → Turns (iv_of q) (λ r. cond t (cond o (next (nonce_of q) r) r) (cond u freed r)) table
-        (cond t (cond o (with_record table (At place) (next (nonce_of q) old)) table) (cond u (with_record table (At place) freed) table))
+        (cond t (cond o (with_record table (Some place) (next (nonce_of q) old)) table) (cond u (with_record table (Some place) freed) table))
     acts true u true accepts =
         let a = accepts refl refl in
         turned_into (iv_of q) table w fit place there (next (nonce_of q) old) (stepped_fits old (nonce_of q) (fit place there.within) a.1)
@@ -92,7 +91,7 @@ module _ (q : Request) (state : State) (w : WellFormed (records state.table)) (f
   abbrev n : ℕ
   n = first (request_checks q state)
 
-  unserved : place_of state.table (iv_of q) ≡ Nowhere → turned q n freed ≡ freed
+  unserved : place_of state.table (iv_of q) ≡ None → turned q n freed ≡ freed
   unserved none = by (eqb n 0) refl (invalidates n)
     where
       by : (t : Bool) → eqb n 0 ≡ t → (u : Bool) → cond t (cond (ordered q) (next (nonce_of q) freed) freed) (cond u freed freed) ≡ freed
@@ -108,15 +107,15 @@ module _ (q : Request) (state : State) (w : WellFormed (records state.table)) (f
       subst (λ (k : ℕ). Turns (iv_of q) (turned q k) state.table (judged q state).state.table) (sym (judged_number_lem q state))
       (subst (λ (t : List ℕ). Turns (iv_of q) (turned q n) state.table t) (sym (judged_table q state)) (by (place_of state.table (iv_of q)) refl))
     where
-      by : (p : Place) → place_of state.table (iv_of q) ≡ p
+      by : (p : Option ℕ) → place_of state.table (iv_of q) ≡ p
           → Turns (iv_of q) (turned q n) state.table
           (cond (eqb n 0) (cond (ordered q) (with_record state.table p (next_of q state.table)) state.table) (cond (invalidates n) (with_record state.table p freed) state.table))
-      by (At place) e =
+      by (Some place) e =
           rw (next_is q state.table place e)
           (acts state.table w fit q place e (eqb n 0) (invalidates n) (ordered q) (λ t o. taken q state place (eqb-true n 0 t) o e))
-      by Nowhere e =
+      by None e =
           unturned (iv_of q) (turned q n) state.table _ w fit (still (eqb n 0) (invalidates n) (ordered q) state.table)
-          (ap (λ (p : Place). turned q n (held_at state.table p)) e ∙ unserved e ∙ ap (held_at state.table) (sym e))
+          (ap (λ (p : Option ℕ). turned q n (held_at state.table p)) e ∙ unserved e ∙ ap (held_at state.table) (sym e))
 
 -- by the thin entry, which does nothing to a session that is not the one of the record that it is lent
 abbrev pub turned_at : ℕ → Request → State → ℕ → Record → Record
@@ -145,23 +144,23 @@ module _ (place : ℕ) (q : Request) (state : State) (w : WellFormed (records st
       (subst (λ (k : ℕ). Turns (iv_of q) (turned_at place q state k) state.table (spliced state.table (size * place) (judged q (taken_out place state)).state.table)) (sym (judged_number_lem q (taken_out place state)))
       (subst (λ (t : List ℕ). Turns (iv_of q) (turned_at place q state m) state.table (spliced state.table (size * place) t)) (sym (judged_table q (taken_out place state))) (by (place_of one (iv_of q)) refl)))
     where
-      Put : Place → Type 0
+      Put : Option ℕ → Type 0
       Put p =
           Turns (iv_of q) (λ r. cond (nowhere p) r (turned q m r)) state.table
           (spliced state.table (size * place) (cond (eqb m 0) (cond (ordered q) (with_record one p (next_of q one)) one) (cond (invalidates m) (with_record one p freed) one)))
 
-      by : (p : Place) → place_of one (iv_of q) ≡ p → Put p
-      by (At j) e =
+      by : (p : Option ℕ) → place_of one (iv_of q) ≡ p → Put p
+      by (Some j) e =
           let mine = own state w place (iv_of q) j e in
-          subst (λ (p : Place). Put p) (sym mine.here ∙ e)
+          subst (λ (p : Option ℕ). Put p) (sym mine.here ∙ e)
           (subst (λ (t : List ℕ). Turns (iv_of q) (turned q m) state.table t)
-          (sym (put (eqb m 0) (invalidates m) (ordered q) (with_record one (At 0) (next_of q one)) (with_record one (At 0) freed)
-          (ap (λ (r : Record). spliced state.table (size * place) (with_record one (At 0) r)) (next_is q one 0 mine.here ∙ ap (next (nonce_of q)) mine.same_record)
+          (sym (put (eqb m 0) (invalidates m) (ordered q) (with_record one (Some 0) (next_of q one)) (with_record one (Some 0) freed)
+          (ap (λ (r : Record). spliced state.table (size * place) (with_record one (Some 0) r)) (next_is q one 0 mine.here ∙ ap (next (nonce_of q)) mine.same_record)
           ∙ put_back_lem state w place (next (nonce_of q) (record_at state.table place)) mine.whole (fit place mine.within).iv)
           (put_back_lem state w place freed mine.whole refl)))
           (acts state.table w fit q place mine.there (eqb m 0) (invalidates m) (ordered q)
           (λ t o. subst (λ (r : Record). Accepts q r) mine.same_record (taken q (taken_out place state) 0 (eqb-true m 0 t) o mine.here))))
-      by Nowhere e =
+      by None e =
           unturned (iv_of q) _ state.table _ w fit
           (ap (spliced state.table (size * place)) (still (eqb m 0) (invalidates m) (ordered q) one) ∙ respliced state.table (size * place) size) refl
 

@@ -13,8 +13,7 @@ use Rattle.cells.proofs.Equality.{same_equal}
 use Rattle.hashes.specs.declared.Hash.{Hash}
 use Rattle.reply.specs.Replies.{invalidation}
 use Rattle.table.specs.declared.session.Record.{Record}
-use Rattle.table.specs.declared.place.Place.{Place}
-use Rattle.table.specs.declared.place.Place.TheVariants.{At, Nowhere}
+use Rattle.std.specs.Prelude.{Option, Some, None}
 use Rattle.table.specs.Record.{freed}
 use Rattle.table.specs.Table.{records, record_at, is_used}
 use Rattle.table.specs.Session.{place_of, held_at, without}
@@ -43,9 +42,9 @@ use Rattle.demands.proofs.Struck.Calls.{turned, turned_at, judge_turns, one_turn
 pub unused : (iv table : List ℕ) → nowhere (place_of table iv) ≡ not (is_used (session_in iv table))
 unused iv table = by (place_of table iv) refl
   where
-    by : (p : Place) → place_of table iv ≡ p → nowhere p ≡ not (is_used (held_at table p))
-    by (At i) e = rw (eq-eqb (record_at table i).used 1 (found_session table iv i e).used) refl
-    by Nowhere e = refl
+    by : (p : Option ℕ) → place_of table iv ≡ p → nowhere p ≡ not (is_used (held_at table p))
+    by (Some i) e = rw (eq-eqb (record_at table i).used 1 (found_session table iv i e).used) refl
+    by None e = refl
 
 alike_nowhere : (iv one other : List ℕ) → session_in iv one ≡ session_in iv other → nowhere (place_of one iv) ≡ nowhere (place_of other iv)
 alike_nowhere iv one other e = unused iv one ∙ ap (λ (r : Record). not (is_used r)) e ∙ sym (unused iv other)
@@ -116,7 +115,7 @@ alike_after to iv a b a' b' f g ta tb alike e = record {
   within = λ p. rw (ta.long, tb.long) (alike.within p);
 }
   where
-    by : (p : ℕ) (t : Bool) → (cond t (place_of a iv) Nowhere ≡ At p) ↔ (cond t (place_of b iv) Nowhere ≡ At (to p))
+    by : (p : ℕ) (t : Bool) → (cond t (place_of a iv) None ≡ Some p) ↔ (cond t (place_of b iv) None ≡ Some (to p))
     by p true = alike.place p
     by p false = (λ z. absurd (nowhere_at p z), λ z. absurd (nowhere_at (to p) z))
 

@@ -10,8 +10,7 @@ use lib.Dec.{eqb, leb, ltb}
 use lib.ListN.{length}
 use Rattle.cells.proofs.Tests.{tested, both}
 use Rattle.table.specs.declared.session.Record.{Record}
-use Rattle.table.specs.declared.place.Place.{Place}
-use Rattle.table.specs.declared.place.Place.TheVariants.{At, Nowhere}
+use Rattle.std.specs.Prelude.{Option, Some, None}
 use Rattle.table.specs.Record.{size, Fits, freed}
 use Rattle.table.specs.Table.{places, records, record_at}
 use Rattle.table.specs.Session.{place_of, held_at}
@@ -70,17 +69,17 @@ module _ (to : ℕ → ℕ) (iv : List ℕ) (a b : State) (wa : WellFormed (reco
   pub one_session : session_in iv (taken_out place a).table ≡ session_in iv (taken_out (to place) b).table
   one_session = by (place_of (taken_out place a).table iv) refl
     where
-      by : (p : Place) → place_of (taken_out place a).table iv ≡ p → held_at (taken_out place a).table p ≡ session_in iv (taken_out (to place) b).table
-      by (At j) e =
+      by : (p : Option ℕ) → place_of (taken_out place a).table iv ≡ p → held_at (taken_out place a).table p ≡ session_in iv (taken_out (to place) b).table
+      by (Some j) e =
           let mine = own a wa place iv j e in
           let yours = lent b wb (to place) iv ((alike.place place).0 mine.there) in
           ap (held_at (taken_out place a).table) (sym e ∙ mine.here) ∙ mine.same_record
           ∙ ap (held_at a.table) (sym mine.there) ∙ alike.session ∙ ap (held_at b.table) yours.there
           ∙ sym yours.same_record ∙ ap (held_at (taken_out (to place) b).table) (sym yours.here)
-      by Nowhere e = none (place_of (taken_out (to place) b).table iv) refl
+      by None e = none (place_of (taken_out (to place) b).table iv) refl
         where
-          none : (p : Place) → place_of (taken_out (to place) b).table iv ≡ p → freed ≡ held_at (taken_out (to place) b).table p
-          none (At j) f =
+          none : (p : Option ℕ) → place_of (taken_out (to place) b).table iv ≡ p → freed ≡ held_at (taken_out (to place) b).table p
+          none (Some j) f =
               let mine = lent a wa place iv ((alike.place place).1 (own b wb (to place) iv j f).there) in
               absurd (nowhere_at 0 (sym e ∙ mine.here))
-          none Nowhere f = refl
+          none None f = refl

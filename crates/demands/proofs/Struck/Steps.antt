@@ -28,8 +28,7 @@ use Rattle.orders.specs.Orders.{orders_good, limits_of}
 use Rattle.window.specs.Window.{number_of, step_of}
 use Rattle.table.specs.declared.session.Record.{Record}
 use Rattle.table.specs.Record.{record_bytes, record_of, freed, begun, window_of}
-use Rattle.table.specs.declared.place.Place.{Place}
-use Rattle.table.specs.declared.place.Place.TheVariants.{At}
+use Rattle.std.specs.Prelude.{Option, Some}
 use Rattle.table.specs.Session.{place_of, held_at}
 use Rattle.table.specs.Table.{records, is_used, found, taken}
 use Rattle.table.specs.WellFormed.{sound, fitting, well_formed}
@@ -181,7 +180,7 @@ module _ {iv other : List ℕ} (party : Party iv other) (n : ℕ) (small : n < 2
     asks_nonce own others t e = subst (λ (r : Record). Two iv other (judged q state).state r others) (nonce_kept own) (asks own others 0 t e)
 
     -- by the thin entry
-    module _ (place : ℕ) (at : place_of state.table iv ≡ At place) (own others : Record) (t : Two iv other state own others) where
+    module _ (place : ℕ) (at : place_of state.table iv ≡ Some place) (own others : Record) (t : Two iv other state own others) where
       mine : Own state t.ready.well place iv
       mine = lent state t.ready.well place iv at
 
@@ -198,7 +197,7 @@ module _ {iv other : List ℕ} (party : Party iv other) (n : ℕ) (small : n < 2
             session =
                 ap (λ (v : List ℕ). session_in v (judged_at place q state).state.table) (sym own_iv) ∙ turns.session
                 ∙ ap₂ (turned_at place q state) e (ap (λ (v : List ℕ). session_in v state.table) own_iv ∙ t.session)
-                ∙ ap (λ (p : Place). cond (nowhere p) own (turned q 0 own)) (ap (place_of (taken_out place state).table) own_iv ∙ mine.here)
+                ∙ ap (λ (p : Option ℕ). cond (nowhere p) own (turned q 0 own)) (ap (place_of (taken_out place state).table) own_iv ∙ mine.here)
                 ∙ nonce_kept own;
             beside = (turns.others other (λ is. party.apart (is ∙ own_iv))).session ∙ t.beside;
           }
@@ -227,7 +226,7 @@ module _ {iv other : List ℕ} (party : Party iv other) (long : length iv ≡ 12
       }
 
 -- both are there from the beginning, theirs at 1
-pub at_first : Two ours theirs both_sessions (new ours) (new theirs) × (place_of both_sessions.table theirs ≡ At 1)
+pub at_first : Two ours theirs both_sessions (new ours) (new theirs) × (place_of both_sessions.table theirs ≡ Some 1)
 unfolding found records record_of record_bytes bytes_of number same
 at_first = (record { ready = ready both_sessions lendable; session = refl; beside = refl }, refl)
 

@@ -9,8 +9,7 @@ use native.Mathlib.Omega.{arith}
 use borrow.Author.Tests.{eq-eqb}
 use lib.ListN.{length, get_or, set}
 use Rattle.table.specs.declared.session.Record.{Record}
-use Rattle.table.specs.declared.place.Place.{Place}
-use Rattle.table.specs.declared.place.Place.TheVariants.{At, Nowhere}
+use Rattle.std.specs.Prelude.{Option, Some, None}
 use Rattle.table.specs.Record.{Fits, freed}
 use Rattle.table.specs.Table.{records, record_at, is_used, holds, found}
 use Rattle.table.specs.Session.{place_of, held_at, with_record}
@@ -35,18 +34,18 @@ pub record Turns (iv : List ℕ) (turn : Record → Record) (before after : List
   pub well : WellFormed (records after)
   pub whole : Whole after
   pub session : session_in iv after ≡ turn (session_in iv before)
-  pub place : place_of after iv ≡ cond (is_used (turn (session_in iv before))) (place_of before iv) Nowhere
+  pub place : place_of after iv ≡ cond (is_used (turn (session_in iv before))) (place_of before iv) None
   pub others : (other : List ℕ) → (other ≡ iv → ⊥) → Undisturbed other before after
 
 -- nothing is turned
 module _ (iv : List ℕ) (turn : Record → Record) (before after : List ℕ) (w : WellFormed (records before)) (fit : Whole before)
     (is : after ≡ before) (stays : turn (session_in iv before) ≡ session_in iv before) where
-  place_stays : place_of before iv ≡ cond (is_used (session_in iv before)) (place_of before iv) Nowhere
+  place_stays : place_of before iv ≡ cond (is_used (session_in iv before)) (place_of before iv) None
   place_stays = by (place_of before iv) refl
     where
-      by : (p : Place) → place_of before iv ≡ p → p ≡ cond (is_used (held_at before p)) p Nowhere
-      by (At i) e = rw (eq-eqb _ 1 (found_session before iv i e).used) refl
-      by Nowhere e = refl
+      by : (p : Option ℕ) → place_of before iv ≡ p → p ≡ cond (is_used (held_at before p)) p None
+      by (Some i) e = rw (eq-eqb _ 1 (found_session before iv i e).used) refl
+      by None e = refl
 
   pub unturned : Turns iv turn before after
   unturned = record {
@@ -54,7 +53,7 @@ module _ (iv : List ℕ) (turn : Record → Record) (before after : List ℕ) (w
     well = rw is w;
     whole = subst (λ (t : List ℕ). Whole t) (sym is) fit;
     session = ap (session_in iv) is ∙ sym stays;
-    place = ap (λ (t : List ℕ). place_of t iv) is ∙ place_stays ∙ ap (λ (r : Record). cond (is_used r) (place_of before iv) Nowhere) (sym stays);
+    place = ap (λ (t : List ℕ). place_of t iv) is ∙ place_stays ∙ ap (λ (r : Record). cond (is_used r) (place_of before iv) None) (sym stays);
     others = λ other apart. record { long = ap length is; place = ap (λ (t : List ℕ). place_of t other) is; session = ap (session_in other) is };
   }
 
@@ -66,7 +65,7 @@ FreeOr iv r = (r ≡ freed) ⊎ ((r.used ≡ 1) × (r.iv ≡ iv))
 module _ (iv table : List ℕ) (w : WellFormed (records table)) (fit : Whole table) (place : ℕ) (there : SessionAt table iv place)
     (r : Record) (f : Fits r) (sound : Sound r) (own : FreeOr iv r) where
   abbrev after : List ℕ
-  after = with_record table (At place) r
+  after = with_record table (Some place) r
 
   laid : Replaced table after place r
   laid = replaced table place r there.within f
@@ -88,25 +87,25 @@ module _ (iv table : List ℕ) (w : WellFormed (records table)) (fit : Whole tab
   well = laid_well table place r there.within f w sound (alone own)
 
   -- the session keeps its place, or is gone
-  stays : r.used ≡ 1 → r.iv ≡ iv → place_of after iv ≡ At place
+  stays : r.used ≡ 1 → r.iv ≡ iv → place_of after iv ≡ Some place
   stays u e =
       session_found after iv place well
       (record { within = omega (arith, laid.as_long, there.within); used = ap (λ (x : Record). x.used) laid.here ∙ u; iv = ap (λ (x : Record). x.iv) laid.here ∙ e })
 
-  gone : r ≡ freed → place_of after iv ≡ Nowhere
+  gone : r ≡ freed → place_of after iv ≡ None
   gone z = by (place_of after iv) refl
     where
-      by : (p : Place) → place_of after iv ≡ p → p ≡ Nowhere
-      by (At j) e =
+      by : (p : Option ℕ) → place_of after iv ≡ p → p ≡ None
+      by (Some j) e =
           ⊎_elim (λ here. absurd (omega (arith, (holds_used iv r here.1).0, ap (λ (x : Record). x.used) z)))
-          (λ kept. let is : At j ≡ At place = sym kept.1 ∙ session_found table iv place w there in absurd (kept.0 cc))
+          (λ kept. let is : Some j ≡ Some place = sym kept.1 ∙ session_found table iv place w there in absurd (kept.0 cc))
           (found_either (records table) place r inside iv j w (rw records_are at e))
-      by Nowhere e = refl
+      by None e = refl
 
   session_there : session_in iv table ≡ record_at table place
   session_there = rw (session_found table iv place w there) refl
 
-  placed : FreeOr iv r → place_of after iv ≡ cond (is_used r) (place_of table iv) Nowhere
+  placed : FreeOr iv r → place_of after iv ≡ cond (is_used r) (place_of table iv) None
   placed (inl e) = gone e ∙ rw e refl
   placed (inr k) = stays k.0 k.1 ∙ rw (eq-eqb r.used 1 k.0) (sym (session_found table iv place w there))
 
@@ -125,11 +124,11 @@ module _ (iv table : List ℕ) (w : WellFormed (records table)) (fit : Whole tab
         ∙ found_kept (records table) place r inside other
         (unheld r own ∙ sym (ap (holds other) old ∙ unheld (record_at table place) (inr (there.used, there.iv))))
 
-    elsewhere : (p : Place) → place_of table other ≡ p → held_at after p ≡ held_at table p
-    elsewhere (At j) e =
+    elsewhere : (p : Option ℕ) → place_of table other ≡ p → held_at after p ≡ held_at table p
+    elsewhere (Some j) e =
         let s = found_session table other j e in
         laid.others j s.within (λ h. apart (sym s.iv ∙ ap (λ (k : ℕ). (record_at table k).iv) h ∙ there.iv))
-    elsewhere Nowhere e = refl
+    elsewhere None e = refl
 
     undisturbed : Undisturbed other table after
     undisturbed = record { long = laid.as_long; place = same_place; session = ap (held_at after) same_place ∙ elsewhere (place_of table other) refl }
@@ -142,6 +141,6 @@ module _ (iv table : List ℕ) (w : WellFormed (records table)) (fit : Whole tab
         well = well;
         whole = replaced_whole laid f fit;
         session = session_is own ∙ sym is;
-        place = placed own ∙ ap (λ (x : Record). cond (is_used x) (place_of table iv) Nowhere) (sym is);
+        place = placed own ∙ ap (λ (x : Record). cond (is_used x) (place_of table iv) None) (sym is);
         others = undisturbed;
       }

@@ -15,8 +15,7 @@ use Rattle.cells.proofs.Equality.{same_equal, same_comm}
 use Rattle.cells.proofs.Tests.{tested}
 use Rattle.table.specs.declared.session.Record.{Record}
 use Rattle.table.specs.Record.{record_bytes, record_of, freed}
-use Rattle.table.specs.declared.place.Place.{Place}
-use Rattle.table.specs.declared.place.Place.TheVariants.{At, Nowhere}
+use Rattle.std.specs.Prelude.{Option, Some, None}
 use Rattle.table.specs.Session.{place_of, held_at}
 use Rattle.table.specs.Table.{records, found}
 use Rattle.table.specs.WellFormed.{sound, fitting, well_formed}
@@ -118,9 +117,9 @@ pub record TableWitnesses : Type 0 where
   pub theirs_alike : (iv : List ℕ) → same iv ours ≡ false → StandsAlike moved iv both_sessions.table their_table.table
 
 -- the place that a place is
-placed : Place → ℕ
-placed (At place) = place
-placed Nowhere = 0
+placed : Option ℕ → ℕ
+placed (Some place) = place
+placed None = 0
 
 moved_back : (p : ℕ) → moved p ≡ 0 → p ≡ 1
 moved_back zero e = absurd (omega arith)
@@ -133,11 +132,11 @@ moved_within (suc zero) = (λ h. lit< tt, λ h. lit< tt)
 moved_within (suc (suc p)) = (λ h. absurd (omega arith), λ h. absurd (omega arith))
 
 -- of any other IV there is no session
-absent : (iv : List ℕ) → same ours iv ≡ false → same theirs iv ≡ false → (place_of both_sessions.table iv ≡ Nowhere) × (place_of their_table.table iv ≡ Nowhere)
+absent : (iv : List ℕ) → same ours iv ≡ false → same theirs iv ≡ false → (place_of both_sessions.table iv ≡ None) × (place_of their_table.table iv ≡ None)
 unfolding found records record_of record_bytes bytes_of number
 absent iv e f = (rw (e, f) refl, rw f refl)
 
-none_alike : (iv : List ℕ) → (place_of both_sessions.table iv ≡ Nowhere) × (place_of their_table.table iv ≡ Nowhere) → StandsAlike moved iv both_sessions.table their_table.table
+none_alike : (iv : List ℕ) → (place_of both_sessions.table iv ≡ None) × (place_of their_table.table iv ≡ None) → StandsAlike moved iv both_sessions.table their_table.table
 unfolding record_bytes bytes_of
 none_alike iv gone = record {
   session = ap (held_at both_sessions.table) gone.0 ∙ sym (ap (held_at their_table.table) gone.1);
@@ -161,7 +160,7 @@ table_witnesses =
       theirs_alike = λ iv e. tested (same iv theirs)
           (λ t. subst (λ (v : List ℕ). StandsAlike moved v both_sessions.table their_table.table) (sym (same_equal iv theirs t)) (record {
             session = refl;
-            place = λ p. (λ z. ap At (ap moved (ap placed z)), λ z. ap At (sym (moved_back p (sym (ap placed z)))));
+            place = λ p. (λ z. ap Some (ap moved (ap placed z)), λ z. ap Some (sym (moved_back p (sym (ap placed z)))));
             within = moved_within;
           }))
           (λ t. none_alike iv (absent iv (same_comm ours iv ∙ e) (same_comm theirs iv ∙ t)));
