@@ -6,8 +6,8 @@ use Prim.Native.Nat.{ℕ, zero, suc, ◌+◌, ◌-◌, ◌*◌, ◌/◌, ◌%◌
 use native.Mathlib.Nat.{not-suc-le-zero, le_of_suc-le-suc}
 use native.Mathlib.Decide.{dec_lt}
 use native.Mathlib.Omega.{arith}
-use lib.ListN.{length, get_or, take, drop, set, length-append, length-drop, get_or-append}
-use lib.Seq.{take_all, drop-cons, lt-length-set, get_or-set_same, drop-set-lt}
+use lib.ListN.{length, get_or, drop, set, length-append, get_or-append}
+use lib.Seq.{drop-cons, lt-length-set, get_or-set_same, drop-set-lt}
 use borrow.Author.Tests.{lt-ltb, le-ltb}
 use Rattle.cells.specs.Runs.{Bytes}
 use Rattle.cells.specs.Decimal.{decimal_to, decimal, value_after}

@@ -1,6 +1,6 @@
 -- Numbers in decimal, highest digit first, without leading zeros.
 -- Assumes nothing.
-use Rattle.std.specs.Prelude.{◌≡◌, cond, List, [], ◌∷◌, ◌++◌, ℕ, zero, suc, ◌+◌, ◌-◌, ◌*◌, ◌/◌, ◌%◌, ◌≤◌, ltb}
+use Rattle.std.specs.Prelude.{cond, List, [], ◌∷◌, ◌++◌, ℕ, zero, suc, ◌+◌, ◌-◌, ◌*◌, ◌/◌, ◌%◌, ltb}
 
 -- the digits of n, of which there are fewer than depth
 unfoldable pub decimal_to : ℕ → ℕ → List ℕ

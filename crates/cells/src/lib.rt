@@ -106,8 +106,8 @@ pub fn same(a: &[u8], b: &[u8]) -> bool
         return false;
     }
     let mut differences = 0;
-    for (x, y) in a.iter().zip(b) {
-        differences |= x ^ y;
+    for (i, x) in a.iter().enumerate() {
+        differences |= x ^ b[i];
     }
     differences == 0
 }

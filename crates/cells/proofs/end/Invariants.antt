@@ -1,5 +1,5 @@
 -- The bytes from at up to i pass.
-use Rattle.std.proofs.Common.{◌≡◌, ℕ, Bool, ◌<◌, drop}
+use Rattle.std.proofs.Common.{◌≡◌, ℕ, Bool, ◌<◌}
 use Rattle.cells.specs.Spans.{Passed}
 use Rattle.cells.proofs.end.Given as goal
 

@@ -1,5 +1,5 @@
 -- The definition, opened, is what the copy leaves.
-use Rattle.std.proofs.Common.{rules, refl}
+use Rattle.std.proofs.Common.{refl}
 use Rattle.cells.specs.Runs.{fronted}
 use Rattle.cells.proofs.put_front.Goals as goal
 
