@@ -1,7 +1,7 @@
 -- Notes on a block: where each covered name stands, and whether on several lines: how the code's contracts say it. A note is 0 where no line bears
 -- the name; otherwise 1 more than where the first that does starts, and 32768 more if others do too.
 -- Assumes nothing.
-use Rattle.std.specs.Prelude.{ℕ, ◌+◌, ◌-◌, ◌%◌, ◌≤◌, ◌<◌, ◌≡◌, List, [], ◌∷◌, Bool, true, false, cond, ◌&&◌, ◌||◌, length, get_or, set, replicate, eqb, leb, ltb}
+use Rattle.std.specs.Prelude.{ℕ, ◌+◌, ◌-◌, ◌%◌, ◌≤◌, ◌<◌, ◌≡◌, List, [], ◌∷◌, Bool, true, false, cond, ◌&&◌, ◌||◌, length, get_or, set, replicate, eqb, leb, ltb, Option, None, Some}
 use Rattle.names.specs.Names.{same_name}
 use Rattle.names.specs.InnerSheet.{Sheet}
 use Rattle.lines.specs.Lines.{lines_in, good_block}
@@ -63,9 +63,10 @@ pub record NotesOn (ns : List (List ℕ)) (head aside in_head in_aside : List �
 abbrev pub marked : ℕ → ℕ → ℕ
 marked note at = cond (eqb note 0) (at + 1) (cond (leb 32768 note) note (note + 32768))
 
--- the notes when one line more bears the name with this number, from 1 on
-abbrev pub marked_in : List ℕ → ℕ → ℕ → List ℕ
-marked_in notes number at = cond (eqb number 0) notes (set notes (number - 1) (marked (get_or notes (number - 1) 0) at))
+-- the notes when one line more bears the name with this number, if it is one of the names
+abbrev pub marked_in : List ℕ → Option ℕ → ℕ → List ℕ
+marked_in notes (Some number) at = set notes number (marked (get_or notes number 0) at)
+marked_in notes None at = notes
 
 -- no two names are the same
 abbrev pub Apart : List (List ℕ) → Type 0
@@ -88,10 +89,15 @@ abbrev pub RepeatsIs : List ℕ → List ℕ → List ℕ → List ℕ → ℕ �
 RepeatsIs known extra sheet notes count r =
     (ns : List (List ℕ)) (block : List ℕ) → Sheet known extra sheet ns → length ns ≡ count → Notes block ns notes → r ≡ repeated ns (lines_in block)
 
--- what is noted of both blocks
-pub record NotedIs (ns : List (List ℕ)) (head aside in_head in_aside : List ℕ) (r : Noted) : Type 0 where
-  pub good : r.good ≡ (good_block head && good_block aside)
+-- what is noted of both blocks, which are lines
+pub record NotedOf (ns : List (List ℕ)) (head aside in_head in_aside : List ℕ) (r : Noted) : Type 0 where
+  pub good : (good_block head && good_block aside) ≡ true
   pub covered : r.covered ≡ length ns
-  pub twice : r.good ≡ true → r.twice ≡ (repeated ns (lines_in head) || repeated ns (lines_in aside))
-  pub of_head : r.good ≡ true → Notes head ns in_head
-  pub of_aside : r.good ≡ true → Notes aside ns in_aside
+  pub twice : r.twice ≡ (repeated ns (lines_in head) || repeated ns (lines_in aside))
+  pub of_head : Notes head ns in_head
+  pub of_aside : Notes aside ns in_aside
+
+-- nothing where they are not
+abbrev pub NotedIs : List (List ℕ) → List ℕ → List ℕ → List ℕ → List ℕ → Option Noted → Type 0
+NotedIs ns head aside in_head in_aside (Some r) = NotedOf ns head aside in_head in_aside r
+NotedIs ns head aside in_head in_aside None = (good_block head && good_block aside) ≡ false

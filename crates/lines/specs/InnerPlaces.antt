@@ -1,14 +1,10 @@
 -- Where lines and values stand in a block: how the code's contracts say it.
 -- Assumes nothing.
-use Rattle.std.specs.Prelude.{ℕ, ◌+◌, ◌≤◌, ◌<◌, ◌≡◌, List, [], ◌∷◌, ◌++◌, true, length, drop}
+use Rattle.std.specs.Prelude.{ℕ, ◌+◌, ◌≤◌, ◌<◌, ◌≡◌, List, [], ◌∷◌, ◌++◌, true, length, drop, Option, None, Some}
 use Rattle.cells.specs.Runs.{cut}
 use Rattle.lines.specs.Lines.{Line, good_line, line_text, lines_in}
-use Rattle.lines.specs.Values.{trim_end, trimmed, values_in}
-use Rattle.lines.specs.declared.Place.{Place}
-use Rattle.lines.specs.declared.Place.TheVariants.{Whole, Broken}
-use Rattle.lines.specs.declared.Span.{Span}
-use Rattle.lines.specs.declared.Found.{Found}
-use Rattle.lines.specs.declared.Found.TheVariants.{At, Missing}
+use Rattle.lines.specs.Values.{trimmed, values_in}
+use Rattle.lines.specs.declared.Line.{Line as Place}
 
 -- the line from index at on, whose colon stands at colon and whose CR at end
 abbrev pub line_between : List ℕ → ℕ → ℕ → ℕ → Line
@@ -25,21 +21,10 @@ pub record WholeLine (block : List ℕ) (at colon end : ℕ) : Type 0 where
 abbrev pub NoLine : List ℕ → ℕ → Type 0
 NoLine block at = (l : Line) (rest : List ℕ) → good_line l ≡ true → drop at block ≡ line_text l ++ rest → ⊥
 
-abbrev pub PlaceIs : List ℕ → ℕ → Place → Type 0
-PlaceIs block at (Whole colon end) = WholeLine block at colon end
-PlaceIs block at Broken = NoLine block at
-
--- where the part of the block from index start up to index end ends without the blanks at its end
-pub record BackAt (block : List ℕ) (start end r : ℕ) : Type 0 where
-  pub from : start ≤ r
-  pub within : r ≤ end
-  pub is : trim_end (cut block start end) ≡ cut block start r
-
--- r is where the part of the block from index start up to index end stands when it is trimmed
-pub record TrimmedTo (block : List ℕ) (start end : ℕ) (r : Span) : Type 0 where
-  pub ordered : r.start ≤ r.end
-  pub within : r.end ≤ end
-  pub is : trimmed (cut block start end) ≡ cut block r.start r.end
+-- r is the line from index at on, if one stands there
+abbrev pub LineIs : List ℕ → ℕ → Option Place → Type 0
+LineIs block at (Some r) = WholeLine block at r.colon r.end
+LineIs block at None = NoLine block at
 
 -- a line stands at index at
 pub record Stands (block : List ℕ) (at : ℕ) : Type 0 where
@@ -69,16 +54,16 @@ pub record FoundAt (block : List ℕ) (values : List (List ℕ)) (at place : ℕ
   pub stands : Stands block place
   pub are : values ≡ own_at block place
 
-abbrev pub Finds : List ℕ → List (List ℕ) → ℕ → Found → Type 0
-Finds block values at (At place) = FoundAt block values at place
-Finds block values at Missing = values ≡ []
+abbrev pub Finds : List ℕ → List (List ℕ) → ℕ → Option ℕ → Type 0
+Finds block values at (Some place) = FoundAt block values at place
+Finds block values at None = values ≡ []
 
 -- r is the first line from index at on that bears the name
-abbrev pub FoundIs : List ℕ → ℕ → List ℕ → Found → Type 0
+abbrev pub FoundIs : List ℕ → ℕ → List ℕ → Option ℕ → Type 0
 FoundIs block at name r = Finds block (values_in (lines_in (drop at block)) name) at r
 
 -- r is the first line after the one at index at that bears its name
-pub record AgainIs (block : List ℕ) (at : ℕ) (r : Found) : Type 0 where
+pub record AgainIs (block : List ℕ) (at : ℕ) (r : Option ℕ) : Type 0 where
   pub others : List (List ℕ)
   pub are : own_at block at ≡ front_at block at ∷ others
   pub found : Finds block others (at + 1) r

@@ -4,8 +4,8 @@
 ghost use Rattle.std.specs.Prelude.{◌≡◌, ◌≤◌, ◌%◌, length, get_or};
 ghost use Rattle.cells.specs.Spans.{all, Spans, Passed};
 ghost use Rattle.lines.specs.Lines.{value_byte, good_block};
-ghost use Rattle.lines.specs.Values.{blank, joined};
-ghost use Rattle.lines.specs.InnerPlaces.{PlaceIs, BackAt, TrimmedTo, Stands, front_at, own_at, FoundIs, AgainIs};
+ghost use Rattle.lines.specs.Values.{blank, trimmed, joined};
+ghost use Rattle.lines.specs.InnerPlaces.{LineIs, Stands, front_at, own_at, FoundIs, AgainIs};
 ghost use Rattle.lines.specs.InnerNotes.{place_of, PlaceIn, first_by};
 
 use names::token;
@@ -16,12 +16,12 @@ pub mod noting;
 pub fn good_block(block: &[u8]) -> bool
     ensures { result ≡ good_block block.now }
 {
-    let mut at: usize = 0;
+    let mut at = 0;
     while at < block.len() {
-        let Place::Whole { end, .. } = line_at(block, at) else {
+        let Some(line) = line_at(block, at) else {
             return false;
         };
-        at = end + 2;
+        at = line.end + 2;
     }
     true
 }
@@ -53,17 +53,13 @@ pub fn joined_size(block: &[u8], at: usize) -> usize
     requires { Stands block.now at }
     ensures { result ≡ length (joined (own_at block.now at)) }
 {
-    let first = value_at(block, at);
-    let mut size = first.len();
+    let mut size = value_at(block, at).len();
     let mut place = at;
-    loop {
-        let Found::At(next) = again(block, place) else {
-            return size;
-        };
-        let value = value_at(block, next);
-        size = size + 2 + value.len();
+    while let Some(next) = again(block, place) {
+        size += 2 + value_at(block, next).len();
         place = next;
     }
+    size
 }
 
 // The trimmed value of the line at byte at.
@@ -71,82 +67,65 @@ pub fn value_at<'a>(block: &'a [u8], at: usize) -> &'a [u8]
     requires { at ≤ length block.now }
     ensures { result.now ≡ front_at block.now at }
 {
-    let Place::Whole { colon, end } = line_at(block, at) else {
-        return &block[..0];
-    };
-    let value = trim(block, colon + 1, end);
-    let start = value.start;
-    let stop = value.end;
-    &block[start..stop]
+    match line_at(block, at) {
+        Some(line) => trim(&block[line.colon + 1..line.end]),
+        None => &block[..0],
+    }
 }
 
-#[derive(Clone, Copy)]
-pub enum Found {
-    // Where the line starts.
-    At(usize),
-    Missing,
-}
-
-// The first line after the one at byte at that bears its name.
-pub fn again(block: &[u8], at: usize) -> Found
+// Where the first line after the one at byte at starts that bears its name.
+pub fn again(block: &[u8], at: usize) -> Option<usize>
     requires { Stands block.now at }
     ensures { AgainIs block.now at result }
 {
-    let Place::Whole { colon, end } = line_at(block, at) else {
-        return Found::Missing;
-    };
-    find(block, end + 2, &block[at..colon])
+    let line = line_at(block, at)?;
+    find(block, line.end + 2, &block[at..line.colon])
 }
 
-// The first line from byte at on that bears the name.
-pub fn find(block: &[u8], at: usize, name: &[u8]) -> Found
+// Where the first line from byte at on starts that bears the name.
+pub fn find(block: &[u8], at: usize, name: &[u8]) -> Option<usize>
     requires { at ≤ length block.now }
     ensures { FoundIs block.now at name.now result }
 {
     let mut place = at;
     while place < block.len() {
-        let Place::Whole { colon, end } = line_at(block, place) else {
-            return Found::Missing;
-        };
-        if names::same_name(&block[place..colon], name) {
-            return Found::At(place);
+        let line = line_at(block, place)?;
+        if names::same_name(&block[place..line.colon], name) {
+            return Some(place);
         }
-        place = end + 2;
+        place = line.end + 2;
     }
-    Found::Missing
+    None
 }
 
+// The colon of a line stands at colon, and its CR LF at end.
 #[derive(Clone, Copy)]
-enum Place {
-    // The colon stands at colon, and CR LF at end.
-    Whole { colon: usize, end: usize },
-    Broken,
+struct Line {
+    colon: usize,
+    end: usize,
 }
 
 // The line that starts at byte at.
-fn line_at(block: &[u8], at: usize) -> Place
+fn line_at(block: &[u8], at: usize) -> Option<Line>
     requires { at ≤ length block.now }
-    ensures { PlaceIs block.now at result }
+    ensures { LineIs block.now at result }
 {
     let colon = token::token_end(block, at);
-    if !((at < colon) & (byte_at(block, colon) == 58)) {
-        return Place::Broken;
+    if !((at < colon) & (byte_at(block, colon) == b':')) {
+        return None;
     }
     let end = value_end(block, colon + 1);
-    if !((byte_at(block, end) == 13) & (byte_at(block, end + 1) == 10)) {
-        return Place::Broken;
+    if !((byte_at(block, end) == b'\r') & (byte_at(block, end + 1) == b'\n')) {
+        return None;
     }
-    Place::Whole { colon, end }
+    Some(Line { colon, end })
 }
 
 // The byte at i, or 0 past the end.
 fn byte_at(block: &[u8], i: usize) -> u8
     ensures { result ≡ get_or block.now i 0 }
 {
-    if i < block.len() {
-        return block[i];
-    }
-    0
+    block.get(i).copied().unwrap_or(0)
 }
 
 // Where the bytes of a value end that start at byte at.
@@ -154,14 +133,7 @@ fn value_end(block: &[u8], at: usize) -> usize
     requires { at ≤ length block.now }
     ensures { Spans value_byte block.now at result }
 {
-    let mut i = past_sixteens(block, at);
-    while i < block.len() {
-        if !value_byte(block[i]) {
-            return i;
-        }
-        i += 1;
-    }
-    i
+    cells::end(block, past_sixteens(block, at), value_byte)
 }
 
 // How far from byte at on sixteen bytes after sixteen are all of a value. The compiler looks at the sixteen at once.
@@ -171,7 +143,7 @@ fn past_sixteens(block: &[u8], at: usize) -> usize
 {
     let mut i = at;
     while 16 <= block.len() - i {
-        if !all_of_value(&block[i..i + 16]) {
+        if !cells::all(&block[i..i + 16], value_byte) {
             return i;
         }
         i += 16;
@@ -179,74 +151,25 @@ fn past_sixteens(block: &[u8], at: usize) -> usize
     i
 }
 
-fn all_of_value(run: &[u8]) -> bool
-    ensures { result ≡ all value_byte run.now }
-{
-    let mut good = true;
-    let mut i: usize = 0;
-    while i < run.len() {
-        good = good & value_byte(run[i]);
-        i += 1;
-    }
-    good
-}
-
 fn value_byte(b: u8) -> bool
     ensures { result ≡ value_byte b }
 {
-    (b == 9) | ((32 <= b) & (b != 127))
+    (b == b'\t') | ((32 <= b) & (b != 127))
 }
 
-#[derive(Clone, Copy)]
-struct Span {
-    start: usize,
-    end: usize,
-}
-
-// The part of the block from start up to end, without the blanks at its ends.
-fn trim(block: &[u8], start: usize, end: usize) -> Span
-    requires { (start ≤ end) × (end ≤ length block.now) }
-    ensures { TrimmedTo block.now start end result }
+// What stands between the blanks at the ends of a value.
+fn trim<'a>(value: &'a [u8]) -> &'a [u8]
+    ensures { result.now ≡ trimmed value.now }
 {
-    let first = front(&block[..end], start);
-    Span {
-        start: first,
-        end: back(block, first, end),
+    let rest = &value[cells::end(value, 0, is_blank)..];
+    match rest.iter().rposition(|b| !is_blank(*b)) {
+        Some(last) => &rest[..last + 1],
+        None => &rest[..0],
     }
-}
-
-// Where the blanks end that start at byte at.
-fn front(run: &[u8], at: usize) -> usize
-    requires { at ≤ length run.now }
-    ensures { Spans blank run.now at result }
-{
-    let mut i = at;
-    while i < run.len() {
-        if !is_blank(run[i]) {
-            return i;
-        }
-        i += 1;
-    }
-    i
-}
-
-// Where the part of the block ends without the blanks at its end.
-fn back(block: &[u8], start: usize, end: usize) -> usize
-    requires { (start ≤ end) × (end ≤ length block.now) }
-    ensures { BackAt block.now start end result }
-{
-    let mut i = end;
-    while start < i {
-        if !is_blank(block[i - 1]) {
-            return i;
-        }
-        i -= 1;
-    }
-    i
 }
 
 fn is_blank(b: u8) -> bool
     ensures { result ≡ blank b }
 {
-    (b == 32) | (b == 9)
+    (b == b' ') | (b == b'\t')
 }

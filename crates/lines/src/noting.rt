@@ -5,21 +5,19 @@ ghost use Rattle.names.specs.Extra.{good_extra};
 ghost use Rattle.names.specs.Covered.{covered_names};
 ghost use Rattle.names.specs.InnerWalk.{Known};
 ghost use Rattle.names.specs.InnerSheet.{Entered};
-ghost use Rattle.lines.specs.InnerNotes.{marked, marked_in, NotesTaken, Counted, RepeatsIs, NotedIs};
+ghost use Rattle.lines.specs.InnerNotes.{marked, NotesTaken, Counted, RepeatsIs, NotedIs};
 
-use super::{Place, line_at};
+use super::line_at;
 use names::sheet;
 
-// Whether both blocks are lines; where they are, whether a covered name that is no list field stands twice in one; and how many names are
-// covered.
+// Whether a covered name that is no list field stands twice in a block, and how many names are covered.
 #[derive(Clone, Copy)]
 pub struct Noted {
-    pub good: bool,
     pub twice: bool,
     pub covered: usize,
 }
 
-// The notes on the covered names in both blocks.
+// The notes on the covered names in both blocks, if these are lines.
 pub fn note(
     known: &[u8],
     mask: u64,
@@ -28,57 +26,49 @@ pub fn note(
     aside: &[u8],
     in_head: &mut [u16],
     in_aside: &mut [u16],
-) -> Noted
+) -> Option<Noted>
     requires { Known known.now × (good_extra extra.now ≡ true) × (length head.now ≤ 16384) × (length aside.now ≤ 16384) × (in_head.old ≡ replicate 64 0) × (in_aside.old ≡ replicate 64 0) }
     ensures { NotedIs (covered_names mask extra.now) head.now aside.now in_head.new in_aside.new result }
 {
     let mut sheet = [0u16; 192];
     let covered = sheet::fill(known, mask, extra, &mut sheet);
-    let head_good = note_block(known, extra, &sheet, head, in_head);
-    let aside_good = note_block(known, extra, &sheet, aside, in_aside);
-    let head_twice = repeats(known, extra, &sheet, in_head, covered);
-    let aside_twice = repeats(known, extra, &sheet, in_aside, covered);
-    Noted {
-        good: head_good & aside_good,
-        twice: head_twice | aside_twice,
-        covered,
+    if !(note_block(known, extra, &sheet, head, in_head)
+        && note_block(known, extra, &sheet, aside, in_aside))
+    {
+        return None;
     }
+    let twice = repeats(known, extra, &sheet, in_head, covered)
+        | repeats(known, extra, &sheet, in_aside, covered);
+    Some(Noted { twice, covered })
 }
 
 fn note_block(known: &[u8], extra: &[u8], sheet: &[u16], block: &[u8], notes: &mut [u16]) -> bool
     requires { Entered known.now extra.now sheet.now × (length block.now ≤ 16384) × (length notes.old ≡ 64) }
     ensures { NotesTaken known.now extra.now sheet.now block.now notes.old notes.new result }
 {
-    let mut at: usize = 0;
+    let mut at = 0;
     while at < block.len() {
-        let Place::Whole { colon, end } = line_at(block, at) else {
+        let Some(line) = line_at(block, at) else {
             return false;
         };
-        let number = sheet::number(known, extra, sheet, &block[at..colon]);
-        mark(notes, number, at);
-        at = end + 2;
+        if let Some(number) = sheet::number(known, extra, sheet, &block[at..line.colon]) {
+            notes[number] = marked(notes[number], at);
+        }
+        at = line.end + 2;
     }
     true
 }
 
-// The name with this number stands on the line at byte at too.
-fn mark(notes: &mut [u16], number: usize, at: usize)
-    requires { (number ≤ length notes.old) × (at < 16384) }
-    ensures { notes.new ≡ marked_in notes.old number at }
-{
-    if number != 0 {
-        notes[number - 1] = remark(notes[number - 1], at);
-    }
-}
-
-fn remark(note: u16, at: usize) -> u16
+// A note when the name stands on the line at byte at too.
+fn marked(note: u16, at: usize) -> u16
     requires { at < 16384 }
     ensures { result ≡ marked note at }
 {
-    if note == 0 {
-        return at as u16 + 1;
+    match note {
+        0 => at as u16 + 1,
+        1..=32767 => note + 32768,
+        _ => note,
     }
-    if 32768 <= note { note } else { note + 32768 }
 }
 
 // Whether one of the first names of a sheet that is no list field stands on several lines.
@@ -86,14 +76,10 @@ fn repeats(known: &[u8], extra: &[u8], sheet: &[u16], notes: &[u16], count: usiz
     requires { Counted known.now extra.now sheet.now count × (length notes.now ≡ 64) }
     ensures { RepeatsIs known.now extra.now sheet.now notes.now count result }
 {
-    let mut i: usize = 0;
-    while i < count {
-        if 32768 <= notes[i] {
-            if sheet::single(known, extra, sheet, i + 1) {
-                return true;
-            }
+    for i in 0..count {
+        if (32768 <= notes[i]) && sheet::single(known, extra, sheet, i) {
+            return true;
         }
-        i += 1;
     }
     false
 }

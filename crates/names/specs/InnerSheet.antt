@@ -1,7 +1,7 @@
 -- A sheet on which names are entered under keys, so that a name's number is found without going through all of them: how the code's contracts
--- say it. Names are numbered from 1 on in their order, and 0 is none.
+-- say it. Names are numbered from 0 on in their order; the sheet writes 1 more than a number, and 0 for none.
 -- Assumes nothing.
-use Rattle.std.specs.Prelude.{ℕ, zero, suc, ◌+◌, ◌*◌, ◌-◌, ◌%◌, ◌≤◌, ◌<◌, ◌≡◌, List, [], ◌∷◌, ◌++◌, true, false, cond, length, get_or, set, take, drop, eqb, ltb}
+use Rattle.std.specs.Prelude.{ℕ, zero, suc, ◌+◌, ◌*◌, ◌-◌, ◌%◌, ◌≤◌, ◌<◌, ◌≡◌, List, [], ◌∷◌, ◌++◌, true, false, cond, length, get_or, set, take, drop, eqb, ltb, Option, None, Some}
 use Rattle.cells.specs.Spans.{leading}
 use Rattle.names.specs.Names.{lower, same_name}
 use Rattle.names.specs.InnerWalk.{no_comma}
@@ -11,7 +11,7 @@ unfoldable pub key_of : List ℕ → ℕ
 key_of [] = 0
 key_of (b ∷ bs) = (suc (length bs) + 20 * lower b) % 64
 
--- the number of the last of the first i names that has the key
+-- 1 more than the number of the last of the first i names that has the key, or 0
 unfoldable pub latest : List (List ℕ) → ℕ → ℕ → ℕ
 latest ns k zero = 0
 latest ns k (suc i) = cond (eqb (key_of (get_or ns i [])) k) (suc i) (latest ns k i)
@@ -44,14 +44,18 @@ pub record Entered (known extra sheet : List ℕ) : Type 0 where
   pub names : List (List ℕ)
   pub are : Sheet known extra sheet names
 
--- r is the number of the name among some, or 0
-pub record NumberIs (ns : List (List ℕ)) (name : List ℕ) (r : ℕ) : Type 0 where
-  pub within : r ≤ length ns
-  pub bears : 1 ≤ r → same_name name (get_or ns (r - 1) []) ≡ true
-  pub none : r ≡ 0 → (i : ℕ) → i < length ns → same_name name (get_or ns i []) ≡ false
+-- the name has this number among some
+pub record BearsNumber (ns : List (List ℕ)) (name : List ℕ) (r : ℕ) : Type 0 where
+  pub within : r < length ns
+  pub bears : same_name name (get_or ns r []) ≡ true
+
+-- r is the number of the name among some, if it is one of them
+abbrev pub NumberIs : List (List ℕ) → List ℕ → Option ℕ → Type 0
+NumberIs ns name (Some r) = BearsNumber ns name r
+NumberIs ns name None = (i : ℕ) → i < length ns → same_name name (get_or ns i []) ≡ false
 
 -- and among those that stand on the sheet
-abbrev pub NumberOn : List ℕ → List ℕ → List ℕ → List ℕ → ℕ → Type 0
+abbrev pub NumberOn : List ℕ → List ℕ → List ℕ → List ℕ → Option ℕ → Type 0
 NumberOn known extra sheet name r = (ns : List (List ℕ)) → Sheet known extra sheet ns → NumberIs ns name r
 
 -- the names of a run start at base and on

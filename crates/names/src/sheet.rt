@@ -1,6 +1,6 @@
-// The covered names on a sheet, so that a line's name is found among them without going through all of them. Names are numbered from 1 on, and 0
-// is none. A sheet has for each of 64 keys the last name that has it; from 64 on, for each name, the one before it that has its key; and from 128
-// on where each name starts, an extra one 1024 further on.
+// The covered names on a sheet, so that a line's name is found among them without going through all of them. Names are numbered from 0 on. A
+// sheet has for each of 64 keys the last name that has it; from 64 on, for each name, the one before it that has its key, each as 1 more than its
+// number, or 0 for none; and from 128 on where each name starts, an extra one 1024 further on.
 ghost use Rattle.std.specs.Prelude.{◌≡◌, true, not, ◌+◌, ◌≤◌, ◌<◌, length, replicate, get_or};
 ghost use Rattle.names.specs.Names.{same_name};
 ghost use Rattle.names.specs.Extra.{names_in, good_extra};
@@ -20,27 +20,28 @@ pub fn fill(known: &[u8], mask: u64, extra: &[u8], sheet: &mut [u16]) -> usize
     enter(extra, extra::extra_bits(extra), 1024, sheet, count)
 }
 
-// The number of a name on a sheet, or 0.
-pub fn number(known: &[u8], extra: &[u8], sheet: &[u16], name: &[u8]) -> usize
+// The number of a name on a sheet.
+pub fn number(known: &[u8], extra: &[u8], sheet: &[u16], name: &[u8]) -> Option<usize>
     requires { Entered known.now extra.now sheet.now }
     ensures { NumberOn known.now extra.now sheet.now name.now result }
 {
-    let mut number = sheet[key(name)] as usize;
-    while number != 0 {
-        if bears(known, extra, sheet[127 + number] as usize, name) {
-            return number;
+    let mut entry = sheet[key(name)] as usize;
+    while entry != 0 {
+        let number = entry - 1;
+        if bears(known, extra, sheet[128 + number] as usize, name) {
+            return Some(number);
         }
-        number = sheet[63 + number] as usize;
+        entry = sheet[64 + number] as usize;
     }
-    0
+    None
 }
 
 // Whether the name with this number may stand on one line only: it is no list field.
 pub fn single(known: &[u8], extra: &[u8], sheet: &[u16], number: usize) -> bool
-    requires { (1 ≤ number) × (number ≤ 64) × (length sheet.now ≡ 192) × Start known.now extra.now (get_or sheet.now (127 + number) 0) }
-    ensures { result ≡ not (is_list (named known.now extra.now (get_or sheet.now (127 + number) 0))) }
+    requires { (number < 64) × (length sheet.now ≡ 192) × Start known.now extra.now (get_or sheet.now (128 + number) 0) }
+    ensures { result ≡ not (is_list (named known.now extra.now (get_or sheet.now (128 + number) 0))) }
 {
-    let start = sheet[127 + number] as usize;
+    let start = sheet[128 + number] as usize;
     if start < 1024 {
         return !lists(known, start);
     }

@@ -16,7 +16,6 @@ ghost use Rattle.signed.specs.SignedText.{carried, nonce_of, request_text};
 ghost use Rattle.signed.specs.InnerStreamed.{Room, TookParts, opening_parts};
 
 use hashes::Hash;
-use lines::Found;
 use sha_2::State;
 use window::Nonce;
 use window::time::Time;
@@ -76,20 +75,14 @@ fn absorb_mask(state: State, mask: u64) -> State
     requires { Room state (mask_bytes mask ∷ []) }
     ensures { TookParts state (mask_bytes mask ∷ []) result }
 {
-    let m = armor::mask_bytes(mask);
-    let bytes = m.bytes;
-    let len = m.len;
-    absorb(state, &bytes[..len])
+    absorb(state, armor::mask_bytes(mask).as_slice())
 }
 
 fn absorb_number(state: State, n: u32) -> State
     requires { Room state (number_bytes n ∷ []) }
     ensures { TookParts state (number_bytes n ∷ []) result }
 {
-    let m = armor::number_bytes(n);
-    let bytes = m.bytes;
-    let len = m.len;
-    absorb(state, &bytes[..len])
+    absorb(state, armor::number_bytes(n).as_slice())
 }
 
 // The nonce, if bit 0 of the mask orders it.
@@ -115,10 +108,8 @@ fn values<'a>(
     ensures { TookParts state (values_by aside.now head.now in_head.now in_aside.now) result }
 {
     let mut taken = state;
-    let mut i: usize = 0;
-    while i < in_head.len() {
-        taken = absorb_value(taken, head, aside, in_head[i], in_aside[i]);
-        i += 1;
+    for (in_head, in_aside) in in_head.iter().zip(in_aside) {
+        taken = absorb_value(taken, head, aside, *in_head, *in_aside);
     }
     taken
 }
@@ -140,8 +131,7 @@ fn absorb_value<'a>(
     if (in_aside == 0) & (32768 <= in_head) {
         return absorb_joined(state, head, lines::place_of(in_head));
     }
-    let value = lines::covered(head, aside, in_head, in_aside);
-    absorb(state, value)
+    absorb(state, lines::covered(head, aside, in_head, in_aside))
 }
 
 // The netstring of the value that the line at byte at and those after it that bear its name have together. It stands nowhere as a whole.
@@ -150,29 +140,22 @@ fn absorb_joined(state: State, block: &[u8], at: usize) -> State
     ensures { TookParts state (joined (own_at block.now at) ∷ []) result }
 {
     let open = netstring::opening(lines::joined_size(block, at));
-    let all = open.all;
-    let start = open.start;
-    let mut taken = state;
-    taken = taken.absorb(&all[start..]);
-    taken = absorb_lines(taken, block, at);
-    taken.absorb(b",")
+    let taken = state.absorb(open.as_slice());
+    absorb_lines(taken, block, at).absorb(b",")
 }
 
 fn absorb_lines(state: State, block: &[u8], at: usize) -> State
     requires { Stands block.now at × (state.length + length (joined (own_at block.now at)) < 2 ^ 61) }
     ensures { TookIn state (joined (own_at block.now at)) result }
 {
-    let mut s = state;
+    let mut s = state.absorb(lines::value_at(block, at));
     let mut place = at;
-    loop {
-        let value = lines::value_at(block, place);
-        s = s.absorb(value);
-        let Found::At(next) = lines::again(block, place) else {
-            return s;
-        };
+    while let Some(next) = lines::again(block, place) {
         s = s.absorb(b", ");
+        s = s.absorb(lines::value_at(block, next));
         place = next;
     }
+    s
 }
 
 fn ending(state: State, path: &[u8], body: &[u8]) -> State
@@ -189,10 +172,7 @@ fn absorb(state: State, part: &[u8]) -> State
     ensures { TookParts state (part.now ∷ []) result }
 {
     let open = netstring::opening(part.len());
-    let all = open.all;
-    let start = open.start;
-    let mut s = state;
-    s = s.absorb(&all[start..]);
+    let mut s = state.absorb(open.as_slice());
     s = s.absorb(part);
     s.absorb(b",")
 }
