@@ -2,6 +2,7 @@
 -- Assumes nothing.
 use mathlib.Core.Path.{◌≡◌, refl}
 use mathlib.Core.Bool.{Bool, true, false, cond}
+use Rattle.std.specs.Prelude.{Some, None}
 use Prim.Native.Nat.{ℕ, ◌^◌, ◌≤◌, ◌<◌}
 use native.Mathlib.Omega.{arith}
 use borrow.Author.Tests.{ltb-true, ne_eqb}
@@ -11,7 +12,6 @@ use Rattle.hashes.specs.Hashes.{good_allowed}
 use Rattle.names.specs.Extra.{good_extra}
 use Rattle.orders.specs.Orders.{Orders, orders_good, limits_of, checked_orders}
 use Rattle.orders.specs.declared.Limits.{Limits}
-use Rattle.orders.specs.declared.Checked.TheVariants.{Good, Bad}
 
 module _ (o : Orders) (h : orders_good o ≡ true) where
   parts : ((ltb o.numbers.mask (2 ^ 56) ≡ true) × (good_allowed o.numbers.hashes ≡ true)) × (good_extra o.extra ≡ true)
@@ -30,20 +30,20 @@ module _ (o : Orders) (h : orders_good o ≡ true) where
   good_extra_lem = parts.1
 
 -- what the answer of `check` says
-pub checked_good : (o : Orders) (l : Limits) → checked_orders o ≡ Good l → (orders_good o ≡ true) × (l ≡ limits_of o)
+pub checked_good : (o : Orders) (l : Limits) → checked_orders o ≡ Some l → (orders_good o ≡ true) × (l ≡ limits_of o)
 unfolding checked_orders
 checked_good o l h = go (orders_good o) refl h
   where
-    go : (b : Bool) → orders_good o ≡ b → cond b (Good (limits_of o)) Bad ≡ Good l → (orders_good o ≡ true) × (l ≡ limits_of o)
+    go : (b : Bool) → orders_good o ≡ b → cond b (Some (limits_of o)) None ≡ Some l → (orders_good o ≡ true) × (l ≡ limits_of o)
     go true e k = (e, cc)
-    go false e k = let z : ◌≡◌ {A = ℕ} 0 1 = cc in absurd (omega arith)
+    go false e k = cc
 
-pub checked_bad : (o : Orders) → checked_orders o ≡ Bad → orders_good o ≡ false
+pub checked_bad : (o : Orders) → checked_orders o ≡ None → orders_good o ≡ false
 unfolding checked_orders
 checked_bad o h = go (orders_good o) refl h
   where
-    go : (b : Bool) → orders_good o ≡ b → cond b (Good (limits_of o)) Bad ≡ Bad → orders_good o ≡ false
-    go true e k = let z : ◌≡◌ {A = ℕ} 0 1 = cc in absurd (omega arith)
+    go : (b : Bool) → orders_good o ≡ b → cond b (Some (limits_of o)) None ≡ None → orders_good o ≡ false
+    go true e k = cc
     go false e k = e
 
 -- the request life: 60 seconds where the orders leave it at 0, else what they name

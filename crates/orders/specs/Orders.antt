@@ -1,13 +1,11 @@
 -- Orders, the site's settings: document 01, 'Orders, records and sizes', and document 02, K1, for the default request life, and K2, for the
 -- allowed hashes.
 -- Assumes nothing.
-use Rattle.std.specs.Prelude.{ℕ, ◌^◌, List, Bool, cond, ◌&&◌, leb, ltb, eqb}
+use Rattle.std.specs.Prelude.{ℕ, ◌^◌, List, Option, Some, None, Bool, cond, ◌&&◌, leb, ltb, eqb}
 use Rattle.hashes.specs.Hashes.{good_allowed}
 use Rattle.names.specs.Extra.{good_extra}
 use Rattle.orders.specs.declared.Numbers.{Numbers}
 use Rattle.orders.specs.declared.Limits.{Limits}
-use Rattle.orders.specs.declared.Checked.{Checked}
-use Rattle.orders.specs.declared.Checked.TheVariants.{Good, Bad}
 
 pub record Orders : Type 0 where
   pub numbers : Numbers
@@ -40,5 +38,6 @@ limits_of o = record {
   session_life = or_default 1209600 o.numbers.session_life;
 }
 
-unfoldable pub checked_orders : Orders → Checked
-checked_orders o = cond (orders_good o) (Good (limits_of o)) Bad
+-- the limits where the orders are good
+unfoldable pub checked_orders : Orders → Option Limits
+checked_orders o = cond (orders_good o) (Some (limits_of o)) None

@@ -8,7 +8,7 @@ ghost use Rattle.orders.specs.Orders.{orders, or_default, checked_orders};
 use names::extra;
 
 // The orders, the extra names apart, as a host lends them: a limit of 0 stands for its default.
-#[derive(Clone, Copy)]
+#[derive(Clone, Copy, PartialEq, Eq)]
 pub struct Numbers {
     pub mask: u64,
     pub hashes: u64,
@@ -18,20 +18,15 @@ pub struct Numbers {
 }
 
 // The limits in seconds, with the defaults put in.
-#[derive(Clone, Copy)]
+#[derive(Clone, Copy, PartialEq, Eq)]
 pub struct Limits {
     pub request_life: u32,
     pub idle: u32,
     pub session_life: u32,
 }
 
-#[derive(Clone, Copy)]
-pub enum Checked {
-    Good(Limits),
-    Bad,
-}
-
-pub fn check(known: &[u8], numbers: Numbers, extra: &[u8]) -> Checked
+// The limits of good orders, with each default put in.
+pub fn check(known: &[u8], numbers: Numbers, extra: &[u8]) -> Option<Limits>
     requires { Known known.now }
     ensures { result ≡ checked_orders (orders numbers extra.now) }
 {
@@ -40,13 +35,13 @@ pub fn check(known: &[u8], numbers: Numbers, extra: &[u8]) -> Checked
         & extra::good_extra(known, extra)
         & (numbers.session_life <= 2592000)
     {
-        return Checked::Good(Limits {
+        return Some(Limits {
             request_life: or_default(60, numbers.request_life),
             idle: or_default(1800, numbers.idle),
             session_life: or_default(1209600, numbers.session_life),
         });
     }
-    Checked::Bad
+    None
 }
 
 fn or_default(usual: u32, limit: u32) -> u32
