@@ -26,10 +26,9 @@ fn digest(hash: Hash, text: &[u8], out: &mut [u8]) -> u32
     if LIMIT <= text.len() {
         return 1;
     }
-    let state = State::new(hash);
-    let taken = state.absorb(text);
-    let digest = taken.finish();
-    cells::put_front(out, &digest[..size]);
+    let mut state = State::new(hash);
+    state.absorb(text);
+    cells::put_front(out, &state.finish()[..size]);
     0
 }
 
@@ -61,10 +60,9 @@ fn code(hash: Hash, key: &[u8], text: &[u8], out: &mut [u8]) -> u32
     if LIMIT <= text.len() {
         return 1;
     }
-    let fresh = hmac::begin(hash, key);
-    let taken = fresh.absorb(text);
-    let code = hmac::finish(hash, key, taken);
-    cells::put_front(out, &code[..size]);
+    let mut state = hmac::begin(hash, key);
+    state.absorb(text);
+    cells::put_front(out, &hmac::finish(key, &state)[..size]);
     0
 }
 

@@ -141,97 +141,66 @@ impl State {
     }
 
     // Part ends before the block that was begun does.
-    fn keep(self, part: &[u8]) -> State
-        requires { (self.length % block_size self.hash + length part.now < block_size self.hash) × (self.length + length part.now < 2 ^ 61) }
-        ensures { TookIn self part.now result }
+    fn keep(&mut self, part: &[u8])
+        requires { (self.old.length % block_size self.old.hash + length part.now < block_size self.old.hash) × (self.old.length + length part.now < 2 ^ 61) }
+        ensures { TookIn self.old part.now self.new }
     {
-        let hash = self.hash;
-        let value = self.value;
-        let length = self.length;
-        let mut tail = self.tail;
-        cells::put_at(&mut tail, begun(hash, length), part);
-        State {
-            hash,
-            value,
-            tail,
-            length: length + part.len() as u64,
-        }
+        let begun = begun(self.hash, self.length);
+        cells::put_at(&mut self.tail, begun, part);
+        self.length += part.len() as u64;
     }
 
     // Part ends with the block that was begun.
-    fn complete(self, part: &[u8]) -> State
-        requires { (self.length % block_size self.hash + length part.now ≡ block_size self.hash) × (self.length + length part.now < 2 ^ 61) }
-        ensures { TookIn self part.now result }
+    fn complete(&mut self, part: &[u8])
+        requires { (self.old.length % block_size self.old.hash + length part.now ≡ block_size self.old.hash) × (self.old.length + length part.now < 2 ^ 61) }
+        ensures { TookIn self.old part.now self.new }
     {
-        let hash = self.hash;
-        let value = self.value;
-        let length = self.length;
-        let mut tail = self.tail;
-        cells::put_at(&mut tail, begun(hash, length), part);
-        let next = after_blocks(hash, value, &tail, 1);
-        State {
-            hash,
-            value: next,
-            tail,
-            length: length + part.len() as u64,
-        }
+        let begun = begun(self.hash, self.length);
+        cells::put_at(&mut self.tail, begun, part);
+        self.value = after_blocks(self.hash, self.value, &self.tail, 1);
+        self.length += part.len() as u64;
     }
 
     // No block is begun: part's whole blocks are hashed where they lie.
-    fn whole(self, part: &[u8]) -> State
-        requires { (self.length % block_size self.hash ≡ 0) × (self.length + length part.now < 2 ^ 61) }
-        ensures { TookIn self part.now result }
+    fn whole(&mut self, part: &[u8])
+        requires { (self.old.length % block_size self.old.hash ≡ 0) × (self.old.length + length part.now < 2 ^ 61) }
+        ensures { TookIn self.old part.now self.new }
     {
-        let hash = self.hash;
-        let value = self.value;
-        let length = self.length;
-        let mut tail = self.tail;
-        let n = blocks_in(hash, part.len());
-        let next = after_blocks(hash, value, part, n);
-        let at = block_size(hash) * n;
-        cells::put_at(&mut tail, 0, &part[at..]);
-        State {
-            hash,
-            value: next,
-            tail,
-            length: length + part.len() as u64,
-        }
+        let n = blocks_in(self.hash, part.len());
+        self.value = after_blocks(self.hash, self.value, part, n);
+        cells::put_at(&mut self.tail, 0, &part[block_size(self.hash) * n..]);
+        self.length += part.len() as u64;
     }
 
-    // The state that has taken in part too.
-    pub fn absorb(self, part: &[u8]) -> State
-        requires { self.length + length part.now < 2 ^ 61 }
-        ensures { TookIn self part.now result }
+    // Takes in part too.
+    pub fn absorb(&mut self, part: &[u8])
+        requires { self.old.length + length part.now < 2 ^ 61 }
+        ensures { TookIn self.old part.now self.new }
     {
-        let hash = self.hash;
-        let begun = begun(hash, self.length);
+        let begun = begun(self.hash, self.length);
         if begun == 0 {
             return self.whole(part);
         }
-        let missing = block_size(hash) - begun;
+        let missing = block_size(self.hash) - begun;
         if part.len() < missing {
             return self.keep(part);
         }
-        let s = self.complete(&part[..missing]);
-        s.whole(&part[missing..])
+        self.complete(&part[..missing]);
+        self.whole(&part[missing..]);
     }
 
     // The hash of the message that was taken in, at the front. The block that was begun and the padding lie side by side: no state takes in the padding.
-    pub fn finish(self) -> [u8; 64]
-        requires { self.length < 2 ^ 61 }
-        ensures { (h : Declared.Hash) (m : List ℕ) → Taken h self m → take (digest_size h) result ≡ sha2 h m }
+    pub fn finish(&self) -> [u8; 64]
+        requires { self.now.length < 2 ^ 61 }
+        ensures { (h : Declared.Hash) (m : List ℕ) → Taken h self.now m → take (digest_size h) result ≡ sha2 h m }
     {
-        let hash = self.hash;
-        let length = self.length;
-        let value = self.value;
-        let tail = self.tail;
-        let begun = begun(hash, length);
-        let end = begun + 1 + zeros(hash, length) + block_size(hash) / 8;
+        let begun = begun(self.hash, self.length);
+        let end = begun + 1 + zeros(self.hash, self.length) + block_size(self.hash) / 8;
         let mut last = [0u8; 256];
-        cells::put_front(&mut last, &tail[..begun]);
+        cells::put_front(&mut last, &self.tail[..begun]);
         last[begun] = 128;
-        cells::put64(&mut last, end - 8, 8 * length);
-        let closed = after_blocks(hash, value, &last, blocks_in(hash, end));
-        digest(hash, closed)
+        cells::put64(&mut last, end - 8, 8 * self.length);
+        let closed = after_blocks(self.hash, self.value, &last, blocks_in(self.hash, end));
+        digest(self.hash, closed)
     }
 }
