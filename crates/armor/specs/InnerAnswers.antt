@@ -1,42 +1,48 @@
 -- What reading a value comes to: document 01, The numbers a call returns.
 -- Assumes nothing.
-use Rattle.std.specs.Prelude.{◌≡◌, true, cond, List, ℕ, ◌≤◌, eqb, length, take}
+use Rattle.std.specs.Prelude.{◌≡◌, Bool, true, false, cond, List, ℕ, ◌≤◌, eqb, length, take, Result, Ok, Err, IfSome, is_some}
+use Rattle.std.specs.Prelude as P
 use Rattle.std.proofs.Math.Option.{Option, none, some}
 use Rattle.cells.specs.Runs.{cut, part}
+use Rattle.cells.specs.Run.{run_of}
 use Rattle.cells.specs.Numbers.{number}
 use Rattle.base_64.specs.Encoding.{encoded}
-use Rattle.armor.specs.declared.Answer.{Answer}
+use Rattle.armor.specs.declared.Unread.{Unread}
+use Rattle.armor.specs.declared.Span.{Span}
 use Rattle.armor.specs.declared.Request.{Request}
-use Rattle.armor.specs.declared.RequestRead.{RequestRead}
-use Rattle.armor.specs.declared.SetupRead.{SetupRead}
 use Rattle.armor.specs.declared.Reply.{Reply}
-use Rattle.armor.specs.declared.ReplyRead.{ReplyRead}
 use Rattle.armor.specs.Numerals.{mask_of}
 use Rattle.armor.specs.Keys.{key_t, key_lt, key_n, key_h, key_ah, key_r, key_s, key_c, key_iv, key_tag, key_eah, other_key}
 use Rattle.armor.specs.Value.{Field, grammar, carried}
 use Rattle.armor.specs.Fields.{times, the, request_fields, setup_fields, reply_holds}
 
 -- document 01's numbers
-abbrev pub answer_number : Answer → ℕ
-answer_number Answer.Good = 0
-answer_number Answer.Grammar = 4
-answer_number Answer.Fields = 5
+abbrev pub answer_number : Result Unit Unread → ℕ
+answer_number (Ok _) = 0
+answer_number (Err Unread.Grammar) = 4
+answer_number (Err Unread.Fields) = 5
 
-abbrev pub request_from : Option (List Field) → Answer
-request_from none = Answer.Grammar
-request_from (some fs) = cond (request_fields fs) Answer.Good Answer.Fields
+abbrev pub request_from : Option (List Field) → Result Unit Unread
+request_from none = Err Unread.Grammar
+request_from (some fs) = cond (request_fields fs) (Ok tt) (Err Unread.Fields)
 
 -- a request: 4 where the value breaks its grammar, 5 where its set of fields is wrong
-unfoldable pub request_answer : List ℕ → Answer
+unfoldable pub request_answer : List ℕ → Result Unit Unread
 request_answer v = request_from (grammar v)
 
-abbrev pub setup_from : Option (List Field) → SetupRead
-setup_from none = SetupRead.Grammar
-setup_from (some fs) = cond (setup_fields fs) (SetupRead.Mask (mask_of (the key_r fs))) SetupRead.Fields
+abbrev pub setup_from : Option (List Field) → Result ℕ Unread
+setup_from none = Err Unread.Grammar
+setup_from (some fs) = cond (setup_fields fs) (Ok (mask_of (the key_r fs))) (Err Unread.Fields)
 
 -- a setup: the client's mask, or the same two numbers
-unfoldable pub setup_answer : List ℕ → SetupRead
+unfoldable pub setup_answer : List ℕ → Result ℕ Unread
 setup_answer v = setup_from (grammar v)
+
+-- a text of a value that encodes a run
+pub record Encodes (v bs : List ℕ) (s : Span) : Type 0 where
+  pub in_order : s.start ≤ s.end
+  pub within : s.end ≤ length v
+  pub text : cut v s.start s.end ≡ encoded bs
 
 -- a request holds what its fields do, the bytes of four of them apart
 pub record Holds (v : List ℕ) (fs : List Field) (q : Request) : Type 0 where
@@ -49,10 +55,8 @@ pub record Holds (v : List ℕ) (fs : List Field) (q : Request) : Type 0 where
   pub nonce : q.n.0 ≡ number (the key_n fs)
   pub hash : q.h ≡ mask_of (the key_h fs)
   pub coverage : q.ah ≡ mask_of (the key_ah fs)
-  pub with_extra : q.with_eah ≡ eqb (times key_eah fs) 1
-  pub extra_in_order : q.eah_start ≤ q.eah_end
-  pub extra_within : q.eah_end ≤ length v
-  pub extra : cut v q.eah_start q.eah_end ≡ encoded (the key_eah fs)
+  pub with_extra : is_some q.eah ≡ eqb (times key_eah fs) 1
+  pub extra : IfSome q.eah (λ s. Encodes v (the key_eah fs) s)
 
 -- the bytes of those four lie in a run
 pub record Lies (fs : List Field) (q : Request) (run : List ℕ) : Type 0 where
@@ -61,25 +65,26 @@ pub record Lies (fs : List Field) (q : Request) (run : List ℕ) : Type 0 where
   pub vector : part run 182 12 ≡ the key_iv fs
   pub tag : part run 194 16 ≡ the key_tag fs
 
-pub record ReadsRequest (v run : List ℕ) (r : RequestRead) : Type 0 where
-  pub is : r.answer ≡ request_answer v
-  pub holds : r.answer ≡ Answer.Good → Holds v (carried v) r.request
-  pub lies : r.answer ≡ Answer.Good → Lies (carried v) r.request run
+-- a good request, and its bytes in the run
+pub record Carries (v run : List ℕ) (q : Request) : Type 0 where
+  pub is : request_answer v ≡ Ok tt
+  pub holds : Holds v (carried v) q
+  pub lies : Lies (carried v) q run
+
+abbrev pub ReadsRequest : List ℕ → List ℕ → Result Request Unread → Type 0
+ReadsRequest v run (Ok q) = Carries v run q
+ReadsRequest v run (Err e) = request_answer v ≡ Err e
 
 -- a setup's reply holds what its fields do
 pub record HoldsReply (fs : List Field) (r : Reply) : Type 0 where
-  pub token : take r.s_len r.s ≡ the key_s fs
-  pub token_size : r.s_len ≡ length (the key_s fs)
-  pub token_fits : r.s_len ≤ 118
+  pub token : run_of r.s ≡ the key_s fs
   pub vector : r.iv ≡ the key_iv fs
   pub tag : r.tag ≡ the key_tag fs
   pub key : r.key ≡ the other_key fs
   pub hash : r.h ≡ mask_of (the key_h fs)
   pub coverage : r.ah ≡ mask_of (the key_ah fs)
-  pub extra : take r.eah_len r.eah ≡ the key_eah fs
-  pub extra_size : r.eah_len ≡ length (the key_eah fs)
-  pub extra_fits : r.eah_len ≤ 128
+  pub extra : run_of r.eah ≡ the key_eah fs
 
-pub record ReadsReply (v : List ℕ) (r : ReplyRead) : Type 0 where
-  pub is : r.good ≡ reply_holds (carried v)
-  pub holds : r.good ≡ true → HoldsReply (carried v) r.reply
+abbrev pub ReadsReply : List ℕ → P.Option Reply → Type 0
+ReadsReply v P.None = reply_holds (carried v) ≡ false
+ReadsReply v (P.Some r) = (reply_holds (carried v) ≡ true) × HoldsReply (carried v) r

@@ -1,27 +1,45 @@
 -- Invariants of the code: what a scan of a value has seen.
 -- Assumes nothing.
-use Rattle.std.specs.Prelude.{◌≡◌, ◌⊎◌, Bool, true, false, cond, List, [], ℕ, ◌+◌, ◌<◌, ◌≤◌, min, length, get_or, drop, set, replicate}
+use Rattle.std.specs.Prelude.{◌≡◌, ◌⊎◌, Bool, true, false, if◌then◌else◌, List, [], ℕ, ◌+◌, ◌<◌, ◌≤◌, eqb, min, length, get_or, drop, set, replicate}
+use Rattle.std.specs.Prelude as P
 use Rattle.std.proofs.Math.Option.{Option, none, some}
 use Rattle.cells.specs.Runs.{cut}
-use Rattle.cells.specs.Numbers.{number}
 use Rattle.base_64.specs.Decoding.{bytes, decoded}
+use Rattle.armor.specs.declared.Span.{Span}
+use Rattle.armor.specs.declared.key.Key.{Key}
+use Rattle.armor.specs.declared.scanning.Tally.{Tally}
 use Rattle.armor.specs.declared.scanning.Seen.{Seen}
-use Rattle.armor.specs.declared.scanning.ScanRead.{ScanRead}
 use Rattle.armor.specs.declared.scanning.Piece.{Piece}
-use Rattle.armor.specs.declared.contents.Numbers.{Numbers}
 use Rattle.armor.specs.Pieces.{colon, semicolon, up_to}
-use Rattle.armor.specs.Keys.{key_number, key_t, key_lt, key_n, key_h, key_ah, key_s, key_c, key_iv, key_tag, key_eah, other_key}
-use Rattle.armor.specs.Numerals.{mask_of}
+use Rattle.armor.specs.Keys.{key_number, key_t, key_lt, key_n, key_h, key_ah, key_r, key_s, key_c, key_iv, key_tag, key_eah, other_key}
 use Rattle.armor.specs.Value.{Field, piece_good, grammar, carried}
 use Rattle.armor.specs.Fields.{contents, the}
 
--- what the code answers of a piece: the key's number and where the text starts
-unfoldable pub piece_answer : List ℕ → Piece
-piece_answer piece = cond (piece_good piece) (Piece.Field (key_number (up_to colon piece)) (length (up_to colon piece) + 1)) Piece.Bad
+-- the place of a key of the code
+abbrev pub place : Key → ℕ
+place Key.T = key_t
+place Key.Lt = key_lt
+place Key.N = key_n
+place Key.H = key_h
+place Key.Ah = key_ah
+place Key.R = key_r
+place Key.S = key_s
+place Key.C = key_c
+place Key.Iv = key_iv
+place Key.Tag = key_tag
+place Key.Eah = key_eah
+place Key.Other = other_key
 
-pub record PieceIs (piece : List ℕ) (r : Piece) : Type 0 where
-  pub is : r ≡ piece_answer piece
-  pub within : (key start : ℕ) → r ≡ Piece.Field key start → (key < 12) × (start ≤ length piece)
+-- what the code tells of a good piece
+pub record ReadAs (piece : List ℕ) (r : Piece) : Type 0 where
+  pub good : piece_good piece ≡ true
+  pub key : place r.key ≡ key_number (up_to colon piece)
+  pub start : r.start ≡ length (up_to colon piece) + 1
+  pub within : r.start ≤ length piece
+
+abbrev pub PieceIs : List ℕ → P.Option Piece → Type 0
+PieceIs piece P.None = piece_good piece ≡ false
+PieceIs piece (P.Some r) = ReadAs piece r
 
 -- the piece that starts at byte at ends before byte r
 pub record Ends (v : List ℕ) (at r : ℕ) : Type 0 where
@@ -29,19 +47,30 @@ pub record Ends (v : List ℕ) (at r : ℕ) : Type 0 where
   pub within : r ≤ length v
 
 -- what has been noted of contents: how many there are, up to two, and where the last one's text is; nowhere where there is none
-pub record Kept (v : List ℕ) (count start end : ℕ) (held : List (List ℕ)) : Type 0 where
-  pub counted : count ≡ min 2 (length held)
-  pub in_order : start ≤ end
-  pub within : end ≤ length v
-  pub decodes : length held ≤ 1 → decoded (cut v start end) ≡ bytes (get_or held 0 [])
+pub record Kept (v : List ℕ) (t : Tally) (held : List (List ℕ)) : Type 0 where
+  pub counted : t.count ≡ min 2 (length held)
+  pub in_order : t.text.start ≤ t.text.end
+  pub within : t.text.end ≤ length v
+  pub decodes : length held ≤ 1 → decoded (cut v t.text.start t.text.end) ≡ bytes (get_or held 0 [])
+
+abbrev pub no_tally : Tally
+no_tally = record { count = 0; text = record { start = 0; end = 0 } }
+
+-- what was noted of a key: how often it was seen, up to two, and where its text stands if that was once
+abbrev pub tally_in : Seen → ℕ → Tally
+tally_in seen k = get_or seen.tallies k no_tally
+
+abbrev pub count_in : Seen → ℕ → ℕ
+count_in seen k = (tally_in seen k).count
+
+abbrev pub text_in : Seen → ℕ → P.Option Span
+text_in seen k = if eqb (count_in seen k) 1 then P.Some (tally_in seen k).text else P.None
 
 -- what has been noted of fields
 pub record Notes (v : List ℕ) (seen : Seen) (fs : List Field) : Type 0 where
-  pub counts : length seen.count ≡ 12
-  pub starts : length seen.start ≡ 12
-  pub ends : length seen.end ≡ 12
+  pub long : length seen.tallies ≡ 12
   pub total : seen.total ≡ min 2 (length fs)
-  pub kept : (k : ℕ) → k < 12 → Kept v (get_or seen.count k 0) (get_or seen.start k 0) (get_or seen.end k 0) (contents k fs)
+  pub kept : (k : ℕ) → k < 12 → Kept v (tally_in seen k) (contents k fs)
 
 -- notes of a value that keeps its grammar
 pub record Sound (v : List ℕ) (seen : Seen) : Type 0 where
@@ -51,9 +80,9 @@ pub record Sound (v : List ℕ) (seen : Seen) : Type 0 where
 -- a key that is carried once or not: what its text encodes is what the key holds
 pub record Noted (v : List ℕ) (seen : Seen) (k : ℕ) : Type 0 where
   pub small : k < 12
-  pub in_order : get_or seen.start k 0 ≤ get_or seen.end k 0
-  pub within : get_or seen.end k 0 ≤ length v
-  pub decodes : decoded (cut v (get_or seen.start k 0) (get_or seen.end k 0)) ≡ bytes (the k (carried v))
+  pub in_order : (tally_in seen k).text.start ≤ (tally_in seen k).text.end
+  pub within : (tally_in seen k).text.end ≤ length v
+  pub decodes : decoded (cut v (tally_in seen k).text.start (tally_in seen k).text.end) ≡ bytes (the k (carried v))
 
 -- how long what the keys of a request hold is
 pub record Sizes (fs : List Field) : Type 0 where
@@ -88,33 +117,15 @@ pub record ReadyReply (v : List ℕ) (seen : Seen) : Type 0 where
   pub noted : (k : ℕ) → k < 12 → Noted v seen k
   pub sizes : ReplySizes (carried v)
 
--- how often a key was seen, up to two
-abbrev pub count_in : Seen → ℕ → ℕ
-count_in seen k = get_or seen.count k 0
-
--- the numbers and masks of a request
-pub record HoldsNumbers (fs : List Field) (q : Numbers) : Type 0 where
-  pub time : q.t.0 ≡ number (the key_t fs)
-  pub last_time : q.lt.0 ≡ number (the key_lt fs)
-  pub nonce : q.n.0 ≡ number (the key_n fs)
-  pub hash : q.h ≡ mask_of (the key_h fs)
-  pub coverage : q.ah ≡ mask_of (the key_ah fs)
-
-abbrev pub is_some : Option (List Field) → Bool
-is_some none = false
-is_some (some fs) = true
-
-pub record Scanned (v : List ℕ) (r : ScanRead) : Type 0 where
-  pub good : r.good ≡ is_some (grammar v)
-  pub sound : r.good ≡ true → Sound v r.seen
+abbrev pub Scanned : List ℕ → P.Option Seen → Type 0
+Scanned v P.None = grammar v ≡ none
+Scanned v (P.Some seen) = Sound v seen
 
 abbrev pub none_seen : Seen
-none_seen = record { count = replicate 12 0; start = replicate 12 0; end = replicate 12 0; total = 0 }
+none_seen = record { tallies = replicate 12 no_tally; total = 0 }
 
-abbrev pub noted_in : Seen → ℕ → ℕ → ℕ → Seen
-noted_in seen key start end = record {
-  count = set seen.count key (min 2 (get_or seen.count key 0 + 1));
-  start = set seen.start key start;
-  end = set seen.end key end;
+abbrev pub noted_in : Seen → ℕ → Span → Seen
+noted_in seen key text = record {
+  tallies = set seen.tallies key (record { count = min 2 (count_in seen key + 1); text = text });
   total = min 2 (seen.total + 1);
 }

@@ -1,20 +1,10 @@
 // Numbers and masks as bytes.
-ghost use Rattle.std.specs.Prelude.{◌≡◌, ◌+◌, ◌≤◌, length, take};
-ghost use Rattle.cells.specs.Runs.{spliced};
+ghost use Rattle.std.specs.Prelude.{◌≡◌, ◌+◌, ◌≤◌, length};
+ghost use Rattle.cells.specs.Run.{run_of};
 ghost use Rattle.cells.specs.Numbers.{number};
 ghost use Rattle.armor.specs.Numerals.{plain, number_bytes, is_numeral, mask_bytes};
 
-#[derive(Clone, Copy)]
-pub struct NumberBytes {
-    pub bytes: [u8; 4],
-    pub len: usize,
-}
-
-#[derive(Clone, Copy)]
-pub struct MaskBytes {
-    pub bytes: [u8; 9],
-    pub len: usize,
-}
+use cells::Run;
 
 // How many bytes a number has.
 fn size(n: u64) -> usize
@@ -44,48 +34,32 @@ fn size(n: u64) -> usize
     8
 }
 
-// The bytes of a number, from byte at of out on.
-fn put_number(out: &mut [u8], at: usize, n: u64) -> usize
-    requires { at + length (number_bytes n) ≤ length out.old }
-    ensures { (result ≡ length (number_bytes n)) × (out.new ≡ spliced out.old at (number_bytes n)) }
-{
-    let len = size(n);
-    let mut eight = [0u8; 8];
-    cells::put64(&mut eight, 0, n);
-    cells::put_at(out, at, &eight[8 - len..8]);
-    len
-}
-
 // A number as its bytes.
-pub fn number_bytes(n: u32) -> NumberBytes
-    ensures { (result.len ≡ length (number_bytes n)) × (take result.len result.bytes ≡ number_bytes n) }
+pub fn number_bytes(n: u32) -> Run<4>
+    ensures { run_of result ≡ number_bytes n }
 {
-    let mut bytes = [0u8; 4];
-    let len = put_number(&mut bytes, 0, n as u64);
-    NumberBytes { bytes, len }
+    let wide = u64::from(n);
+    let mut eight = [0u8; 8];
+    cells::put64(&mut eight, 0, wide);
+    Run::of(&eight[8 - size(wide)..])
 }
 
 // A mask as its bytes.
-pub fn mask_bytes(m: u64) -> MaskBytes
-    ensures { (result.len ≡ length (mask_bytes m)) × (take result.len result.bytes ≡ mask_bytes m) }
+pub fn mask_bytes(m: u64) -> Run<9>
+    ensures { run_of result ≡ mask_bytes m }
 {
-    let mut bytes = [0u8; 9];
-    let len = put_number(&mut bytes, 1, m);
-    bytes[0] = len as u8;
-    MaskBytes {
-        bytes,
-        len: len + 1,
-    }
+    let len = size(m);
+    let mut nine = [0u8; 9];
+    cells::put64(&mut nine, 1, m);
+    nine[8 - len] = len as u8;
+    Run::of(&nine[8 - len..])
 }
 
 // Whether a run has no leading zero byte, or is one byte.
 fn is_plain(bytes: &[u8]) -> bool
     ensures { result ≡ plain bytes.now }
 {
-    if bytes.len() < 2 {
-        return true;
-    }
-    bytes[0] != 0
+    bytes.len() < 2 || bytes[0] != 0
 }
 
 // Whether a run is the bytes of a number, of which there are 1 to most.
@@ -112,10 +86,4 @@ pub fn number32(bytes: &[u8]) -> u32
     ensures { result ≡ number bytes.now }
 {
     number_of(bytes) as u32
-}
-
-pub fn wide(b: u8) -> u64
-    ensures { result ≡ b }
-{
-    b as u64
 }

@@ -1,33 +1,62 @@
 // The grammar of a value, piece by piece.
 ghost use Rattle.std.specs.Prelude.{◌≡◌, ◌+◌, ◌≤◌, ◌<◌, min, length};
-ghost use Rattle.armor.specs.Pieces.{up_to};
-ghost use Rattle.armor.specs.InnerScan.{Ends, PieceIs, none_seen, noted_in, Scanned};
+ghost use Rattle.armor.specs.InnerScan.{place, Ends, PieceIs, tally_in, count_in, none_seen, noted_in, Scanned};
 
-use super::key;
+use super::Span;
+use super::key::{self, Key};
 
-// Where the first b stands, or how long the text is.
-fn find(text: &[u8], b: u8) -> usize
-    ensures { result ≡ length (up_to b text.now) }
-{
-    let mut i = 0;
-    while i < text.len() {
-        if text[i] == b {
-            return i;
-        }
-        i += 1;
-    }
-    i
+// What a scan has seen of a key: how often, up to two, and where the text of its last field stands.
+#[derive(Clone, Copy)]
+pub struct Tally {
+    pub count: u8,
+    pub text: Span,
 }
 
-// What a scan of a value has seen of each key: how often, up to two, and where the text of its last field starts and ends.
+// What a scan of a value has seen, of each key by its place, and how many fields, up to two.
 #[derive(Clone, Copy)]
 pub struct Seen {
-    pub count: [u8; 12],
-    pub start: [usize; 12],
-    pub end: [usize; 12],
+    pub tallies: [Tally; 12],
     pub total: u8,
 }
 
+impl Seen {
+    fn none() -> Seen
+        ensures { result ≡ none_seen }
+    {
+        Seen {
+            tallies: [Tally {
+                count: 0,
+                text: Span { start: 0, end: 0 },
+            }; 12],
+            total: 0,
+        }
+    }
+
+    pub fn tally(&self, key: Key) -> Tally
+        ensures { result ≡ tally_in self.now (place key) }
+    {
+        self.tallies[key as usize]
+    }
+
+    pub fn count(&self, key: Key) -> u8
+        ensures { result ≡ count_in self.now (place key) }
+    {
+        self.tally(key).count
+    }
+
+    // One field more.
+    fn note(&mut self, key: Key, text: Span)
+        ensures { self.new ≡ noted_in self.old (place key) text }
+    {
+        self.tallies[key as usize] = Tally {
+            count: more(self.count(key)),
+            text,
+        };
+        self.total = more(self.total);
+    }
+}
+
+// One more, up to two.
 fn more(count: u8) -> u8
     ensures { result ≡ min 2 (count + 1) }
 {
@@ -37,92 +66,54 @@ fn more(count: u8) -> u8
     2
 }
 
-// One field more.
-fn noted(seen: Seen, key: usize, start: usize, end: usize) -> Seen
-    requires { key < 12 }
-    ensures { result ≡ noted_in seen key start end }
-{
-    let mut next = seen;
-    next.count[key] = more(seen.count[key]);
-    next.start[key] = start;
-    next.end[key] = end;
-    next.total = more(seen.total);
-    next
-}
-
-fn none_seen() -> Seen
-    ensures { result ≡ none_seen }
-{
-    Seen {
-        count: [0u8; 12],
-        start: [0usize; 12],
-        end: [0usize; 12],
-        total: 0,
-    }
-}
-
+// The key of a piece, and where its text starts.
 #[derive(Clone, Copy)]
-pub struct ScanRead {
-    pub good: bool,
-    pub seen: Seen,
+struct Piece {
+    key: Key,
+    start: usize,
 }
 
-#[derive(Clone, Copy)]
-enum Piece {
-    Field { key: usize, start: usize },
-    Bad,
-}
-
-// The place after byte at, or the end.
-fn past(at: usize, len: usize) -> usize
-    requires { at ≤ len }
-    ensures { result ≡ min (at + 1) len }
-{
-    if at < len {
-        return at + 1;
-    }
-    len
-}
-
-// The key of a piece and where its text starts.
-fn read_piece(text: &[u8]) -> Piece
+fn read_piece(text: &[u8]) -> Option<Piece>
     ensures { PieceIs text.now result }
 {
-    let colon = find(text, b':');
-    let start = past(colon, text.len());
-    let key = key::key_number(&text[..colon]);
-    let good = (1 <= colon) & key::is_good(&text[start..], key);
-    if good {
-        return Piece::Field { key, start };
+    let colon = cells::end(text, 0, |b| b != b':');
+    let start = text.len().min(colon + 1);
+    let key = key::named(&text[..colon]);
+    if (colon == 0) | !key::is_good(&text[start..], key) {
+        return None;
     }
-    Piece::Bad
+    Some(Piece { key, start })
 }
 
 // Where the piece that starts at byte at ends.
 fn piece_end(value: &[u8], at: usize) -> usize
-    requires { (at < length value.now) × (length value.now ≤ 4096) }
+    requires { at < length value.now }
     ensures { Ends value.now at result }
 {
-    at + find(&value[at..], b';')
+    cells::end(value, at, |b| b != b';')
 }
 
-// Whether a value keeps its grammar, and what its fields are.
-pub fn scan_value(value: &[u8]) -> ScanRead
+// What the fields of a value are, if it keeps its grammar.
+pub fn scan_value(value: &[u8]) -> Option<Seen>
     requires { length value.now ≤ 4096 }
     ensures { Scanned value.now result }
 {
-    let mut seen = none_seen();
-    if value.len() == 0 {
-        return ScanRead { good: false, seen };
+    if value.is_empty() {
+        return None;
     }
+    let mut seen = Seen::none();
     let mut at = 0;
     while at < value.len() {
         let end = piece_end(value, at);
-        let Piece::Field { key, start } = read_piece(&value[at..end]) else {
-            return ScanRead { good: false, seen };
-        };
-        seen = noted(seen, key, at + start, end);
+        let piece = read_piece(&value[at..end])?;
+        seen.note(
+            piece.key,
+            Span {
+                start: at + piece.start,
+                end,
+            },
+        );
         at = end + 1;
     }
-    ScanRead { good: true, seen }
+    Some(seen)
 }

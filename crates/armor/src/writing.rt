@@ -31,10 +31,7 @@ pub fn put_mask(out: &mut [u8], at: usize, name: &[u8], mask: u64) -> usize
     requires { at + length name.now + 14 ≤ length out.old }
     ensures { (result ≤ at + length name.now + 14) × Laid out.old out.new at result (following (field name.now (mask_bytes mask) ∷ [])) }
 {
-    let m = numeral::mask_bytes(mask);
-    let bytes = m.bytes;
-    let len = m.len;
-    put_next(out, at, name, &bytes[..len])
+    put_next(out, at, name, numeral::mask_bytes(mask).as_slice())
 }
 
 // A number after other fields.
@@ -42,8 +39,5 @@ pub fn put_number(out: &mut [u8], at: usize, name: &[u8], n: u32) -> usize
     requires { at + length name.now + 10 ≤ length out.old }
     ensures { (result ≤ at + length name.now + 10) × Laid out.old out.new at result (following (field name.now (number_bytes n) ∷ [])) }
 {
-    let m = numeral::number_bytes(n);
-    let bytes = m.bytes;
-    let len = m.len;
-    put_next(out, at, name, &bytes[..len])
+    put_next(out, at, name, numeral::number_bytes(n).as_slice())
 }

@@ -1,7 +1,6 @@
 -- Aids of the contracts of this crate's own steps. No public contract cites them.
 -- Assumes nothing.
-use Rattle.std.specs.Prelude.{◌≡◌, Bool, cond, not, ◌&&◌, List, [], ℕ, ◌+◌, ◌-◌, ◌*◌, ◌/◌, ◌%◌, ◌^◌, ◌<◌, eqb, ltb, length, get_or}
-use Rattle.base_64.specs.declared.Measured.{Measured}
+use Rattle.std.specs.Prelude.{◌≡◌, Option, Some, None, Bool, cond, not, ◌&&◌, List, [], ℕ, ◌+◌, ◌-◌, ◌*◌, ◌/◌, ◌%◌, ◌^◌, ◌<◌, eqb, ltb, length, get_or}
 use Rattle.base_64.specs.Alphabet.{character, pad, six_bits}
 use Rattle.base_64.specs.Decoding.{Decoding, nothing, bytes}
 
@@ -15,9 +14,9 @@ content nothing = []
 content (bytes bs) = bs
 
 -- n bytes, and then those of the rest
-abbrev pub plus : ℕ → Measured → Measured
-plus n Measured.Bad = Measured.Bad
-plus n (Measured.Bytes m) = Measured.Bytes (n + m)
+abbrev pub plus : ℕ → Option ℕ → Option ℕ
+plus n None = None
+plus n (Some m) = Some (n + m)
 
 -- whether four values are those of a full group
 abbrev pub full_of : ℕ → ℕ → ℕ → ℕ → Bool

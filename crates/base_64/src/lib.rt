@@ -13,17 +13,9 @@ use tables::{alphabet, character, reverse, six_bits};
 
 mod tables;
 
-// How many bytes a text encodes.
-#[derive(Clone, Copy)]
-pub enum Measured {
-    Bytes(usize),
-    Bad,
-}
-
-// What decoding came to: so many bytes at the front of the buffer; no encoding; or one of more bytes than the buffer holds.
-#[derive(Clone, Copy)]
-pub enum Decoded {
-    Bytes(usize),
+// Why a text was not decoded: it encodes nothing, or more bytes than the buffer holds.
+#[derive(Clone, Copy, PartialEq, Eq)]
+pub enum Undecoded {
     Bad,
     TooLong,
 }
@@ -75,7 +67,7 @@ fn group_size(table: &[u8; 256], text: &[u8]) -> usize
     0
 }
 
-fn size(table: &[u8; 256], text: &[u8]) -> Measured
+fn size(table: &[u8; 256], text: &[u8]) -> Option<usize>
     requires { Lists six_bits 256 table.now }
     ensures { result ≡ measured text.now }
 {
@@ -84,19 +76,19 @@ fn size(table: &[u8; 256], text: &[u8]) -> Measured
     while at + 4 <= text.len() {
         let k = group_size(table, &text[at..]);
         if k == 0 {
-            return Measured::Bad;
+            return None;
         }
         n += k;
         at += 4;
     }
     if at != text.len() {
-        return Measured::Bad;
+        return None;
     }
-    Measured::Bytes(n)
+    Some(n)
 }
 
 // How many bytes a text encodes, if it encodes any. The empty text encodes the empty run.
-pub fn measure(text: &[u8]) -> Measured
+pub fn measure(text: &[u8]) -> Option<usize>
     ensures { result ≡ measured text.now }
 {
     let table = reverse();
@@ -126,7 +118,7 @@ fn byte(table: &[u8; 256], text: &[u8], i: usize) -> u8
 
 // The bytes of a text that encodes n of them.
 fn fill(table: &[u8; 256], text: &[u8], n: usize, out: &mut [u8])
-    requires { Lists six_bits 256 table.now × (measured text.now ≡ Measured.Bytes n) × (n ≤ length out.old) }
+    requires { Lists six_bits 256 table.now × (measured text.now ≡ Some n) × (n ≤ length out.old) }
     ensures { out.new ≡ fronted (content (decoded text.now)) out.old }
 {
     let mut i = 0;
@@ -137,18 +129,16 @@ fn fill(table: &[u8; 256], text: &[u8], n: usize, out: &mut [u8])
 }
 
 // The bytes that a text encodes, at the front of the buffer; a buffer that they do not fit in, or a text that encodes none, keeps every byte.
-pub fn decode(text: &[u8], out: &mut [u8]) -> Decoded
+pub fn decode(text: &[u8], out: &mut [u8]) -> Result<usize, Undecoded>
     ensures { outcome result out.new ≡ decoded_into text.now out.old }
 {
     let table = reverse();
-    let Measured::Bytes(n) = size(&table, text) else {
-        return Decoded::Bad;
-    };
+    let n = size(&table, text).ok_or(Undecoded::Bad)?;
     if out.len() < n {
-        return Decoded::TooLong;
+        return Err(Undecoded::TooLong);
     }
     fill(&table, text, n, out);
-    Decoded::Bytes(n)
+    Ok(n)
 }
 
 // The text of a byte run, at the front of the buffer, and its length.

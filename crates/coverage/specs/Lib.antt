@@ -1,2 +1,3 @@
 -- Check 8 of document 01.
 pub mod Coverage
+pub mod InnerTold

@@ -1,32 +1,38 @@
 // Whether a request covers what the orders say.
 #![tactic(auto)]
 
-ghost use Rattle.std.specs.Prelude.{◌≡◌, true, ◌≤◌, length};
+ghost use Rattle.std.specs.Prelude.{◌≡◌, true, ◌≤◌, IfSome, length};
 ghost use Rattle.cells.specs.Runs.{same};
 ghost use Rattle.base_64.specs.Encoding.{encoded};
 ghost use Rattle.armor.specs.Value.{carried};
 ghost use Rattle.armor.specs.Fields.{request_fields};
 ghost use Rattle.armor.specs.InnerAnswers.{Holds};
 ghost use Rattle.coverage.specs.Coverage.{as_ordered};
+ghost use Rattle.coverage.specs.InnerTold.{told};
 
-use armor::Request;
+use armor::{Request, Span};
 use hashes::Hash;
 
 // Whether h of a request is one that the orders allow, c as long as its digests, and ah and eah those that the orders say, byte for byte.
-pub fn as_ordered(value: &[u8], request: Request, hashes: u64, mask: u64, extra: &[u8]) -> bool
-    requires { (request_fields (carried value.now) ≡ true) × Holds value.now (carried value.now) request × (length extra.now ≤ 128) }
+pub fn as_ordered(value: &[u8], request: &Request, hashes: u64, mask: u64, extra: &[u8]) -> bool
+    requires { (request_fields (carried value.now) ≡ true) × Holds value.now (carried value.now) request.now × (length extra.now ≤ 128) }
     ensures { result ≡ as_ordered hashes mask extra.now (carried value.now) }
 {
     let size = Hash::named(request.h).size();
     let hash_good = hashes::allowed_one(hashes, request.h) & (request.c_len == size);
     let mask_good = request.ah == mask;
-    let with_eah = request.with_eah;
-    if extra.len() == 0 {
-        return hash_good & (mask_good & !with_eah);
+    hash_good & mask_good & extra_good(value, request.eah, extra)
+}
+
+// Whether the text of eah, where it is carried, is that of the extra names, and it is carried exactly if there are any.
+fn extra_good(value: &[u8], eah: Option<Span>, extra: &[u8]) -> bool
+    requires { IfSome eah (λ s. (s.start ≤ s.end) × (s.end ≤ length value.now)) × (length extra.now ≤ 128) }
+    ensures { result ≡ told value.now eah extra.now }
+{
+    match eah {
+        None => extra.is_empty(),
+        Some(span) => !extra.is_empty() && is_text_of(&value[span.start..span.end], extra),
     }
-    let start = request.eah_start;
-    let end = request.eah_end;
-    hash_good & (mask_good & (with_eah & is_text_of(&value[start..end], extra)))
 }
 
 // Whether a text is the base64 of at most 128 bytes.

@@ -1,11 +1,11 @@
 -- What reading a setup's reply comes to.
 -- Assumes nothing.
-use Rattle.std.specs.Prelude.{◌≡◌, true, List, ℕ}
-use Rattle.armor.specs.declared.ReplyRead.{ReplyRead}
+use Rattle.std.specs.Prelude.{◌≡◌, true, false, List, ℕ, Option, Some, None}
+use Rattle.armor.specs.declared.Reply.{Reply}
 use Rattle.armor.specs.Value.{carried}
 use Rattle.armor.specs.InnerAnswers.{HoldsReply}
 use Rattle.reply.specs.LaidOut.{laid_out}
 
-pub record ReadsLaidOut (text : List ℕ) (r : ReplyRead) : Type 0 where
-  pub is : r.good ≡ laid_out text
-  pub holds : r.good ≡ true → HoldsReply (carried text) r.reply
+abbrev pub ReadsLaidOut : List ℕ → Option Reply → Type 0
+ReadsLaidOut text None = laid_out text ≡ false
+ReadsLaidOut text (Some r) = (laid_out text ≡ true) × HoldsReply (carried text) r

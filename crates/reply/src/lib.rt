@@ -38,8 +38,7 @@ pub fn invalidate(out: &mut [u8], hash: Hash, key: &[u8]) -> usize
     let fresh = hmac::begin(hash, key);
     let taken = fresh.absorb(b"Session Expired");
     let code = hmac::finish(hash, key, taken);
-    let n = hash.size();
-    armor::put_field(out, 0, b"i", &code[..n])
+    armor::put_field(out, 0, b"i", &code[..hash.size()])
 }
 
 // s, iv, tag and kh at the front of out, and the place after them.

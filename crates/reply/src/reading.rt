@@ -6,51 +6,39 @@ ghost use Rattle.armor.specs.InnerAnswers.{HoldsReply};
 ghost use Rattle.reply.specs.LaidOut.{reply_with};
 ghost use Rattle.reply.specs.InnerRead.{ReadsLaidOut};
 
-use armor::{Reply, ReplyRead};
+use armor::Reply;
 use hashes::Hash;
 
 // What a reply carries, if it is laid out as a setup writes it. Not inlined, as is_written is not, so that gate_fits signs without their frames.
 #[inline(never)]
-pub fn read(text: &[u8]) -> ReplyRead
+pub fn read(text: &[u8]) -> Option<Reply>
     requires { length text.now ≤ 4096 }
     ensures { ReadsLaidOut text.now result }
 {
-    let heard = armor::read_reply(text);
-    if !heard.good {
-        return heard;
+    let reply = armor::read_reply(text)?;
+    if !is_written(text, &reply) {
+        return None;
     }
-    let reply = heard.reply;
-    ReplyRead {
-        good: is_written(text, reply),
-        reply,
-    }
+    Some(reply)
 }
 
 // Whether a text is what a setup would write of what it carries: their order, one `;` between them and none at the end, and kh's name are
 // seen from that at once.
 #[inline(never)]
-fn is_written(text: &[u8], reply: Reply) -> bool
-    requires { HoldsReply (carried text.now) reply }
+fn is_written(text: &[u8], reply: &Reply) -> bool
+    requires { HoldsReply (carried text.now) reply.now }
     ensures { result ≡ same text.now (reply_with (carried text.now)) }
 {
-    let s = reply.s;
-    let s_len = reply.s_len;
-    let iv = reply.iv;
-    let tag = reply.tag;
-    let key = reply.key;
-    let eah = reply.eah;
-    let eah_len = reply.eah_len;
-    let hash = Hash::named(reply.h);
     let mut out = [0u8; 1024];
     let len = super::setup(
         &mut out,
-        &s[..s_len],
-        &iv,
-        &tag,
-        &key,
-        hash,
+        reply.s.as_slice(),
+        &reply.iv,
+        &reply.tag,
+        &reply.key,
+        Hash::named(reply.h),
         reply.ah,
-        &eah[..eah_len],
+        reply.eah.as_slice(),
     );
     cells::same(text, &out[..len])
 }
