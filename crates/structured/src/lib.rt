@@ -13,47 +13,29 @@ pub mod reading;
 pub fn is_key(run: &[u8]) -> bool
     ensures { result ≡ is_key run.now }
 {
-    if run.len() == 0 {
-        return false;
+    match run.split_first() {
+        Some((first, rest)) => key_start(*first) & cells::all(rest, key_byte),
+        None => false,
     }
-    key_start(run[0]) & all_of_key(&run[1..])
-}
-
-fn all_of_key(run: &[u8]) -> bool
-    ensures { result ≡ all key_byte run.now }
-{
-    let mut good = true;
-    let mut i: usize = 0;
-    while i < run.len() {
-        good = good & key_byte(run[i]);
-        i += 1;
-    }
-    good
 }
 
 fn key_byte(b: u8) -> bool
     ensures { result ≡ key_byte b }
 {
-    key_start(b) | ((48 <= b) & (b <= 57)) | ((b == 95) | ((b == 45) | (b == 46)))
+    key_start(b) | ((b'0' <= b) & (b <= b'9')) | ((b == b'_') | ((b == b'-') | (b == b'.')))
 }
 
 fn key_start(b: u8) -> bool
     ensures { result ≡ key_start b }
 {
-    ((97 <= b) & (b <= 122)) | (b == 42)
+    ((b'a' <= b) & (b <= b'z')) | (b == b'*')
 }
 
 // Whether each byte of a run is from low to high.
 pub fn all_between(low: u8, high: u8, run: &[u8]) -> bool
     ensures { result ≡ all (between low high) run.now }
 {
-    let mut good = true;
-    let mut i: usize = 0;
-    while i < run.len() {
-        good = good & ((low <= run[i]) & (run[i] <= high));
-        i += 1;
-    }
-    good
+    cells::all(run, |b| (low <= b) & (b <= high))
 }
 
 // The string of a text, from byte at of out on, and the place after it.
@@ -71,10 +53,8 @@ fn put_escaped(out: &mut [u8], at: usize, text: &[u8]) -> usize
     ensures { Laid out.old out.new at result (escaped text.now) }
 {
     let mut end = at;
-    let mut i: usize = 0;
-    while i < text.len() {
-        end = put_byte(out, end, text[i]);
-        i += 1;
+    for b in text {
+        end = put_byte(out, end, *b);
     }
     end
 }
@@ -83,8 +63,8 @@ fn put_byte(out: &mut [u8], at: usize, b: u8) -> usize
     requires { at + length (escaped (b ∷ [])) ≤ length out.old }
     ensures { Laid out.old out.new at result (escaped (b ∷ [])) }
 {
-    if (b == 34) | (b == 92) {
-        return cells::put_at(out, at, &[92, b]);
+    if (b == b'"') | (b == b'\\') {
+        return cells::put_at(out, at, &[b'\\', b]);
     }
     cells::put_at(out, at, &[b])
 }

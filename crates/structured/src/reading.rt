@@ -9,15 +9,14 @@ pub fn unescape(text: &[u8], out: &mut [u8]) -> usize
     requires { length text.now ≤ length out.old }
     ensures { Laid out.old out.new 0 result (unescaped text.now) }
 {
-    let mut end: usize = 0;
+    let mut end = 0;
     let mut after = false;
-    let mut i: usize = 0;
-    while i < text.len() {
-        after = (text[i] == 92) & !after;
+    for b in text {
+        after = (*b == b'\\') & !after;
         if !after {
-            end = cells::put_at(out, end, &text[i..i + 1]);
+            out[end] = *b;
+            end += 1;
         }
-        i += 1;
     }
     end
 }
@@ -27,14 +26,12 @@ pub fn unlist(text: &[u8], out: &mut [u8]) -> usize
     requires { length text.now ≤ length out.old }
     ensures { Laid out.old out.new 0 result (unlisted text.now) }
 {
-    let mut end: usize = 0;
-    let mut i: usize = 0;
-    while i < text.len() {
-        if text[i] != 34 {
-            out[end] = if text[i] == 32 { 44 } else { text[i] };
+    let mut end = 0;
+    for b in text {
+        if *b != b'"' {
+            out[end] = if *b == b' ' { b',' } else { *b };
             end += 1;
         }
-        i += 1;
     }
     end
 }
@@ -49,15 +46,11 @@ pub struct Integer {
 pub fn read_integer(run: &[u8]) -> Integer
     ensures { IntegerIs run.now result }
 {
-    let mut value: u64 = 0;
-    let mut digits: usize = 0;
-    while (digits < run.len()) & (digits < 15) {
-        let b = run[digits];
-        if !((48 <= b) & (b <= 57)) {
-            return Integer { digits, value };
-        }
-        value = value * 10 + (b - 48) as u64;
-        digits += 1;
+    let first = &run[..run.len().min(15)];
+    let digits = cells::end(first, 0, |b| (b'0' <= b) & (b <= b'9'));
+    let mut value = 0;
+    for b in &first[..digits] {
+        value = value * 10 + (*b - b'0') as u64;
     }
     Integer { digits, value }
 }
@@ -66,32 +59,22 @@ pub fn read_integer(run: &[u8]) -> Integer
 pub fn end_before(b: u8, run: &[u8]) -> usize
     ensures { Spans (other b) run.now 0 result }
 {
-    let mut i: usize = 0;
-    while i < run.len() {
-        if run[i] == b {
-            return i;
-        }
-        i += 1;
-    }
-    i
+    cells::end(run, 0, |c| c != b)
 }
 
 // The run without its first n bytes.
 pub fn past(run: &[u8], n: usize) -> &[u8]
     ensures { result.now ≡ drop n run.now }
 {
-    if run.len() < n {
-        return &run[..0];
-    }
-    &run[n..]
+    run.get(n..).unwrap_or(&[])
 }
 
 // The run without its last byte.
 pub fn but_last(run: &[u8]) -> &[u8]
     ensures { result.now ≡ but_last run.now }
 {
-    if run.len() == 0 {
-        return run;
+    match run.split_last() {
+        Some((_, front)) => front,
+        None => run,
     }
-    &run[..run.len() - 1]
 }
