@@ -3,15 +3,15 @@
 use mathlib.Core.Path.{◌≡◌, sym, ap, ◌∙◌}
 use mathlib.Core.List.{List, [], ◌∷◌, ◌++◌}
 use mathlib.Core.Bool.{Bool, true, false, not, cond, ◌&&◌, and-true}
-use Prim.Native.Nat.{ℕ, suc, ◌+◌, ◌-◌, ◌*◌, ◌^◌, ◌≤◌, ◌<◌}
+use Prim.Native.Nat.{ℕ, zero, suc, ◌+◌, ◌-◌, ◌*◌, ◌^◌, ◌≤◌, ◌<◌}
 use native.Mathlib.Nat.{pow-le-pow_right, zero-add}
 use native.Mathlib.Numerals.{add-one}
 use native.Mathlib.Omega.{arith}
 use borrow.Author.Tests.{not-true, leb-true, ltb-true, ltb-false}
 use lib.Dec.{eqb, leb, ltb, lit≤}
 use lib.ListN.{length, get_or, take, drop, length-take, drop_of_length-le}
-use lib.Seq.{take-suc, drop-cons}
-use Rattle.cells.specs.Spans.{Spans}
+use lib.Seq.{take_all, take-take, take-suc, drop-cons}
+use Rattle.cells.specs.Spans.{all, Spans}
 use Rattle.cells.specs.Decimal.{value_after}
 use Rattle.names.specs.Extra.{comma}
 use Rattle.structured.specs.Texts.{SP, quote, backslash}
@@ -19,6 +19,14 @@ use Rattle.structured.specs.Reading.{unescaped_after, unescaped, unlisted, digit
 use Rattle.structured.specs.declared.reading.Integer.{Integer}
 use Rattle.cells.proofs.Tests.{tested, both}
 use Rattle.cells.proofs.Digits.{value_append}
+use Rattle.cells.proofs.Spans.{span_all}
+
+-- of bytes that all pass each does
+all_at : (p : ℕ → Bool) (xs : List ℕ) → all p xs ≡ true → (k : ℕ) → k < length xs → p (get_or xs k 0) ≡ true
+unfolding all
+all_at p [] h k l = absurd (omega arith)
+all_at p (x ∷ xs) h zero l = (both (p x) (all p xs) h).0
+all_at p (x ∷ xs) h (suc k) l = all_at p xs (both (p x) (all p xs) h).1 k (omega arith)
 
 -- no more bytes than there were
 unescaped_after_lem : (after : Bool) (xs : List ℕ) → length (unescaped_after after xs) ≤ length xs
@@ -61,18 +69,13 @@ module _ (b : ℕ) (bs : List ℕ) where
   stays e = rw e
 
 module _ (xs : List ℕ) (i : ℕ) (h : i < length xs) where
-  one_cut : take (i + 1 - i) (drop i xs) ≡ get_or xs i 0 ∷ []
-  one_cut =
-      let size : i + 1 - i ≡ 1 = omega arith in
-      rw (size, drop-cons xs i 0 h)
-
   pub unescaped_skip : (after : Bool) → (eqb (get_or xs i 0) backslash && not after) ≡ true
       → unescaped_after after (drop i xs) ≡ unescaped_after (eqb (get_or xs i 0) backslash && not after) (drop (i + 1) xs)
   unescaped_skip after e = rw (add-one, drop-cons xs i 0 h) (skipped (get_or xs i 0) (drop (suc i) xs) after e)
 
   pub unescaped_keep : (after : Bool) → (eqb (get_or xs i 0) backslash && not after) ≡ false
-      → unescaped_after after (drop i xs) ≡ take (i + 1 - i) (drop i xs) ++ unescaped_after (eqb (get_or xs i 0) backslash && not after) (drop (i + 1) xs)
-  unescaped_keep after e = rw (one_cut, add-one, drop-cons xs i 0 h) (kept (get_or xs i 0) (drop (suc i) xs) after e)
+      → unescaped_after after (drop i xs) ≡ (get_or xs i 0 ∷ []) ++ unescaped_after (eqb (get_or xs i 0) backslash && not after) (drop (i + 1) xs)
+  unescaped_keep after e = rw (add-one, drop-cons xs i 0 h) (kept (get_or xs i 0) (drop (suc i) xs) after e)
 
   pub unlisted_skip : eqb (get_or xs i 0) quote ≡ true → unlisted (drop i xs) ≡ unlisted (drop (i + 1) xs)
   unlisted_skip e = rw (add-one, drop-cons xs i 0 h) (dropped (get_or xs i 0) (drop (suc i) xs) e)
@@ -94,16 +97,15 @@ pub unlisted_past : (xs : List ℕ) (i : ℕ) → length xs ≤ i → unlisted (
 unfolding unlisted
 unlisted_past xs i h = rw (drop_of_length-le xs {i = i} h)
 
--- an integer's digits stand within the run and are 15 at most
-pub counted : (n k : ℕ) → (ltb k n && ltb k 15) ≡ true → (k < n) × (k < 15)
-counted n k h =
-    let parts = both (ltb k n) (ltb k 15) h in
-    (ltb-true k n parts.0, ltb-true k 15 parts.1)
+-- each of the digits at the front of a run is one
+pub digit_at : (xs : List ℕ) (n : ℕ) → Spans digit xs 0 n → (k : ℕ) → k < length (take n xs) → digit (get_or (take n xs) k 0) ≡ true
+digit_at xs n s k h =
+    let whole : n - 0 ≡ n = omega arith in
+    all_at digit (take n xs) (rw whole at (span_all digit xs 0 n s)) k h
 
-pub counted_out : (run : List ℕ) (k : ℕ) → (ltb k (length run) && ltb k 15) ≡ false → length (take 15 run) ≤ k
-counted_out run k h =
-    rw length-take
-    (tested (ltb k (length run)) (λ e. omega (arith, ltb-false k 15 (rw e at h))) (λ e. omega (arith, ltb-false k (length run) e)))
+-- and they are 15 at most
+pub few : (run first : List ℕ) (n : ℕ) → first ≡ take 15 run → length (take n first) ≤ 15
+few run first n e = rw e (omega (arith, length-take n (take 15 run), length-take 15 run))
 
 pub digit_range : (b : ℕ) → digit b ≡ true → (48 ≤ b) × (b ≤ 57)
 digit_range b e =
@@ -117,7 +119,14 @@ value_small k v h g = omega (arith, pow-le-pow_right {n = 10} (omega arith) h)
 pub value_bound : (k v b : ℕ) → v + 1 ≤ 10 ^ k → digit b ≡ true → v * 10 + (b - 48) + 1 ≤ 10 ^ (k + 1)
 value_bound k v b g e = rw (add-one k) (omega (arith, digit_range b e))
 
-pub integer_is : (run : List ℕ) (r : Integer) → Spans digit (take 15 run) 0 r.digits → r.value ≡ value_after 0 (take r.digits run) → IntegerIs run r
-integer_is run r s e =
+-- the digits are those at the front of the first 15 bytes
+pub integer_is : (run : List ℕ) (r : Integer) (i : ℕ) → Spans digit (take 15 run) 0 r.digits → r.value ≡ value_after 0 (take i (take r.digits (take 15 run)))
+    → length (take r.digits (take 15 run)) ≤ i → IntegerIs run r
+integer_is run r i s e h =
     let size = s.is ∙ zero-add (digits_in run) in
-    record { digits = size; value = e ∙ ap (λ (k : ℕ). value_after 0 (take k run)) size }
+    let few : r.digits ≤ 15 = omega (arith, s.within, length-take 15 run) in
+    record {
+      digits = size;
+      value = e ∙ ap (value_after 0) (take_all i (take r.digits (take 15 run)) h ∙ take-take r.digits 15 run few)
+          ∙ ap (λ (k : ℕ). value_after 0 (take k run)) size;
+    }

@@ -1,5 +1,5 @@
 // What the texts of strings, lists and integers tell, whatever stands there.
-ghost use Rattle.std.specs.Prelude.{◌≡◌, ◌≤◌, length, drop};
+ghost use Rattle.std.specs.Prelude.{◌≡◌, ◌≤◌, length, take, drop};
 ghost use Rattle.cells.specs.Spans.{Spans};
 ghost use Rattle.cells.specs.InnerLaid.{Laid};
 ghost use Rattle.structured.specs.Reading.{unescaped, unlisted, IntegerIs, other, but_last};
@@ -46,7 +46,7 @@ pub struct Integer {
 pub fn read_integer(run: &[u8]) -> Integer
     ensures { IntegerIs run.now result }
 {
-    let first = &run[..run.len().min(15)];
+    let first = front(run, 15);
     let digits = cells::end(first, 0, |b| (b'0' <= b) & (b <= b'9'));
     let mut value = 0;
     for b in &first[..digits] {
@@ -67,6 +67,13 @@ pub fn past(run: &[u8], n: usize) -> &[u8]
     ensures { result.now ≡ drop n run.now }
 {
     run.get(n..).unwrap_or(&[])
+}
+
+// The first n bytes of a run, or all.
+pub fn front(run: &[u8], n: usize) -> &[u8]
+    ensures { result.now ≡ take n run.now }
+{
+    run.get(..n).unwrap_or(run)
 }
 
 // The run without its last byte.
