@@ -3,8 +3,7 @@
 use Rattle.std.specs.Prelude.{Bool, true, false, cond, List, [], ◌∷◌, ℕ}
 use Rattle.std.proofs.Math.Option.{Option, none, some}
 use Rattle.armor.specs.Value.{Field}
-use Rattle.table.specs.declared.place.Place.{Place}
-use Rattle.table.specs.declared.place.Place.TheVariants.{At, Nowhere}
+use Rattle.std.specs.Prelude as P
 
 -- a number, and whether what it is given for holds
 pub record Check : Type 0 where
@@ -23,6 +22,7 @@ abbrev pub missing : Option (List Field) → Bool
 missing none = true
 missing (some fs) = false
 
-abbrev pub nowhere : Place → Bool
-nowhere (At place) = false
-nowhere Nowhere = true
+-- there is no place
+abbrev pub nowhere : P.Option ℕ → Bool
+nowhere (P.Some place) = false
+nowhere P.None = true

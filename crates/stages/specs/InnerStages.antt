@@ -1,7 +1,7 @@
 -- What the code's stages answer for a request, by the parts of its checks. A stage is lent only what it looks at; what it answers holds
 -- whatever the rest of the request is.
 -- Assumes nothing.
-use Rattle.std.specs.Prelude.{◌≡◌, Bool, true, false, ◌||◌, List, ◌++◌, ℕ, ◌≤◌, eqb, length, take}
+use Rattle.std.specs.Prelude.{◌≡◌, Bool, false, not, cond, ◌||◌, List, [], ◌∷◌, ◌++◌, Option, Some, None, Result, Ok, IfOk, ℕ, ◌≤◌, eqb, take}
 use Rattle.cells.specs.Runs.{same}
 use Rattle.hashes.specs.declared.Hash.{Hash}
 use Rattle.armor.specs.Value.{carried}
@@ -12,54 +12,60 @@ use Rattle.lines.specs.InnerNotes.{NotesOn}
 use Rattle.orders.specs.Orders.{Orders, orders}
 use Rattle.orders.specs.declared.Numbers.{Numbers}
 use Rattle.orders.specs.declared.Limits.{Limits}
-use Rattle.token.specs.Token.{Token}
+use Rattle.token.specs.Token.{Token, has_token}
 use Rattle.token.specs.InnerHeld.{IsToken}
-use Rattle.token.specs.declared.Unsealed.{Unsealed}
+use Rattle.token.specs.declared.Token.{Token as Held}
 use Rattle.table.specs.declared.session.Record.{Record}
-use Rattle.table.specs.declared.place.Place.{Place}
-use Rattle.stages.specs.declared.reading.Compared.{Compared}
 use Rattle.stages.specs.declared.reading.Reading.{Reading}
-use Rattle.stages.specs.declared.vouching.Opened.{Opened}
-use Rattle.stages.specs.declared.admitting.Admitted.{Admitted}
+use Rattle.stages.specs.declared.refusal.Refusal.{Refusal}
 use Rattle.stages.specs.declared.settling.Decision.{Decision}
+use Rattle.stages.specs.Refusals.{number_in}
 use Rattle.stages.specs.Request.{Request, request_of}
-use Rattle.stages.specs.Checks.{first, nowhere}
+use Rattle.stages.specs.Checks.{Check, check, first, nowhere}
 use Rattle.table.specs.Session.{place_of, held_at}
-use Rattle.stages.specs.Parts.{iv_of, hash_of, nonce_of, time_of, last_time_of, signature_of, code_under, token_of, limits, ordered, next_of, covering_part, reading_part, token_part, vouching_part, admitting_part, invalidates}
+use Rattle.stages.specs.Parts.{iv_of, hash_of, nonce_of, time_of, last_time_of, signature_of, opened_of, code_under, token_of, limits, ordered, next_of, covering_part, reading_part, vouching_part, admitting_part, invalidates}
 
 -- notes on the covered names, as many as there are names
 pub record CoveredNotes (o : Orders) (head aside in_head in_aside : List ℕ) (count : ℕ) : Type 0 where
   pub fits : count ≤ 64
   pub notes : NotesOn (covered_names o.numbers.mask o.extra) head aside (take count in_head) (take count in_aside)
 
--- 6 to 8: the number, and where it is 0 the notes
-pub record Covers (q : Request) (in_head in_aside : List ℕ) (r : Compared) : Type 0 where
-  pub is : r.number ≡ first (covering_part q)
-  pub noted : r.number ≡ 0 → CoveredNotes q.orders q.head q.aside in_head in_aside r.covered
+-- 6 to 8: the number, and where none holds the notes
+pub record Covers (q : Request) (in_head in_aside : List ℕ) (r : Result ℕ Refusal) : Type 0 where
+  pub is : number_in r ≡ first (covering_part q)
+  pub noted : IfOk r (λ covered. CoveredNotes q.orders q.head q.aside in_head in_aside covered)
 
-abbrev pub CoversIs : Orders → List ℕ → List ℕ → List ℕ → List ℕ → List ℕ → List ℕ → Compared → Type 0
+abbrev pub CoversIs : Orders → List ℕ → List ℕ → List ℕ → List ℕ → List ℕ → List ℕ → Result ℕ Refusal → Type 0
 CoversIs o value method head aside in_head in_aside r =
     (clock : ℕ) (server_key path body reply : List ℕ) → Covers (request_of o clock server_key value method head aside path body reply) in_head in_aside r
 
--- 4 to 8: the number, and where it is 0 what the value carries and the notes
-pub record Reads (q : Request) (run in_head in_aside : List ℕ) (r : Reading) : Type 0 where
-  pub is : r.number ≡ first (reading_part q)
-  pub holds : r.number ≡ 0 → Holds q.value (carried q.value) r.request
-  pub lies : r.number ≡ 0 → Lies (carried q.value) r.request run
-  pub noted : r.number ≡ 0 → CoveredNotes q.orders q.head q.aside in_head in_aside r.covered
+-- what the value carries and the notes
+pub record HasRead (q : Request) (run in_head in_aside : List ℕ) (r : Reading) : Type 0 where
+  pub holds : Holds q.value (carried q.value) r.request
+  pub lies : Lies (carried q.value) r.request run
+  pub noted : CoveredNotes q.orders q.head q.aside in_head in_aside r.covered
 
-abbrev pub ReadIs : Orders → List ℕ → List ℕ → List ℕ → List ℕ → List ℕ → List ℕ → List ℕ → Reading → Type 0
+-- 4 to 8: the number, and where none holds what was read
+pub record Reads (q : Request) (run in_head in_aside : List ℕ) (r : Result Reading Refusal) : Type 0 where
+  pub is : number_in r ≡ first (reading_part q)
+  pub read : IfOk r (λ reading. HasRead q run in_head in_aside reading)
+
+abbrev pub ReadIs : Orders → List ℕ → List ℕ → List ℕ → List ℕ → List ℕ → List ℕ → List ℕ → Result Reading Refusal → Type 0
 ReadIs o value method head aside run in_head in_aside r =
     (clock : ℕ) (server_key path body reply : List ℕ) → Reads (request_of o clock server_key value method head aside path body reply) run in_head in_aside r
 
--- 9 and 10: the number, and the token unless it is 9
-pub record Opens (q : Request) (r : Opened) : Type 0 where
-  pub is : r.number ≡ first (token_part q)
-  pub holds : (r.number ≡ 9 → ⊥) → IsToken (token_of q) r.token
+-- the first of the token's checks
+abbrev pub opening_part : Request → List Check
+opening_part q = check 9 (not (has_token (opened_of q))) ∷ []
 
-abbrev pub UnsealIs : ℕ → List ℕ → ArmorRequest → List ℕ → Opened → Type 0
-UnsealIs clock server_key request run r =
-    (o : Orders) (value method head aside path body reply : List ℕ)
+-- 9: the number, and where it does not hold the token
+pub record Opens (q : Request) (r : Result Held Refusal) : Type 0 where
+  pub is : number_in r ≡ first (opening_part q)
+  pub holds : IfOk r (λ token. IsToken (token_of q) token)
+
+abbrev pub UnsealIs : List ℕ → ArmorRequest → List ℕ → Result Held Refusal → Type 0
+UnsealIs server_key request run r =
+    (o : Orders) (clock : ℕ) (value method head aside path body reply : List ℕ)
     → let q = request_of o clock server_key value method head aside path body reply in
     Holds value (carried value) request → Lies (carried value) request run → Opens q r
 
@@ -70,20 +76,24 @@ SignIs o key request run hash method head aside path body r =
     → let q = request_of o clock server_key value method head aside path body reply in
     Holds value (carried value) request → Lies (carried value) request run → hash_of q ≡ hash → r ≡ same (signature_of q) (code_under key q)
 
--- 9 to 11, of a token that was opened
-abbrev pub VouchIs : Orders → Opened → ArmorRequest → List ℕ → List ℕ → List ℕ → List ℕ → List ℕ → List ℕ → ℕ → Type 0
-VouchIs o opened request run method head aside path body r =
-    (clock : ℕ) (server_key value reply : List ℕ)
+-- 9 to 11, of a token that opened
+abbrev pub VouchIs : Orders → ℕ → Held → ArmorRequest → List ℕ → List ℕ → List ℕ → List ℕ → List ℕ → List ℕ → Result Unit Refusal → Type 0
+VouchIs o clock token request run method head aside path body r =
+    (server_key value reply : List ℕ)
     → let q = request_of o clock server_key value method head aside path body reply in
-    Holds value (carried value) request → Lies (carried value) request run → Opens q opened → r ≡ first (vouching_part q)
+    Holds value (carried value) request → Lies (carried value) request run → Opens q (Ok token) → number_in r ≡ first (vouching_part q)
 
--- from 12 on: the number, and where it is 0 and nonces are ordered the next record
-pub record Admits (q : Request) (table : List ℕ) (r : Admitted) : Type 0 where
-  pub is : r.number ≡ first (admitting_part q table)
-  pub next : r.number ≡ 0 → ordered q ≡ true → r.next ≡ next_of q table
+-- the record that acceptance stores, where nonces are ordered
+abbrev pub stored_of : Request → List ℕ → Option Record
+stored_of q table = cond (ordered q) (Some (next_of q table)) None
+
+-- from 12 on: the number, and where none holds the record to store
+pub record Admits (q : Request) (table : List ℕ) (r : Result (Option Record) Refusal) : Type 0 where
+  pub is : number_in r ≡ first (admitting_part q table)
+  pub next : IfOk r (λ next. next ≡ stored_of q table)
 
 -- a request's session stands at this place of a table, or nowhere, and its record holds this
-pub record StandsAt (q : Request) (table : List ℕ) (place : Place) (held : Record) : Type 0 where
+pub record StandsAt (q : Request) (table : List ℕ) (place : Option ℕ) (held : Record) : Type 0 where
   pub at : place_of table (iv_of q) ≡ place
   pub holds : nowhere place ≡ false → held_at table place ≡ held
 
@@ -97,7 +107,7 @@ pub record Asks (q : Request) (now' t' lt' : ℕ) (limits' : Limits) (hash' : Ha
   pub nonces : ordered q ≡ nonces'
   pub n : nonce_of q ≡ n'
 
-abbrev pub AdmitIs : Place → Record → ℕ → ℕ → ℕ → Limits → Hash → Bool → ℕ → Admitted → Type 0
+abbrev pub AdmitIs : Option ℕ → Record → ℕ → ℕ → ℕ → Limits → Hash → Bool → ℕ → Result (Option Record) Refusal → Type 0
 AdmitIs place held clock t lt within hash nonces n r =
     (q : Request) (table : List ℕ) → StandsAt q table place held → Asks q clock t lt within hash nonces n → Admits q table r
 
@@ -105,38 +115,22 @@ AdmitIs place held clock t lt within hash nonces n r =
 abbrev pub tells : ℕ → Bool
 tells n = eqb n 0 || invalidates n
 
-abbrev pub decision_of : ℕ → Place → Unsealed → Hash → Bool → Record → Decision
-decision_of number place token hash nonces next = record {
-  number = number;
-  place = place;
-  key = token.key;
-  id = token.id;
-  id_len = token.id_len;
-  hash = hash;
-  nonces = nonces;
-  next = next;
-}
-
 -- the token and the hash that a decision is about
-pub record About (token : Token) (hash' : Hash) (d : Decision) : Type 0 where
-  pub key : d.key ≡ token.key
-  pub id : take d.id_len d.id ≡ token.id
-  pub id_size : d.id_len ≡ length token.id
-  pub id_fits : d.id_len ≤ 64
+pub record About (token' : Token) (hash' : Hash) (d : Decision) : Type 0 where
+  pub token : IsToken token' d.token
   pub hash : d.hash ≡ hash'
 
--- from 9 on: the number, and where its effect needs them the token, the place and the next record
+-- from 9 on: the number, the token, the hash and the place, and where none holds the record to store
 pub record Settles (q : Request) (table : List ℕ) (d : Decision) : Type 0 where
-  pub is : d.number ≡ first (vouching_part q ++ admitting_part q table)
-  pub knows : tells d.number ≡ true → About (token_of q) (hash_of q) d
+  pub is : number_in d.outcome ≡ first (vouching_part q ++ admitting_part q table)
+  pub knows : About (token_of q) (hash_of q) d
   pub at : d.place ≡ place_of table (iv_of q)
-  pub orders : d.number ≡ 0 → d.nonces ≡ ordered q
-  pub next : d.number ≡ 0 → ordered q ≡ true → d.next ≡ next_of q table
+  pub next : IfOk d.outcome (λ next. next ≡ stored_of q table)
 
--- of any request that was vouched for by this number and has this token
-abbrev pub SettleIs : Numbers → ℕ → ℕ → Unsealed → ArmorRequest → Limits → Place → Record → Decision → Type 0
+-- of any request that was vouched for by this answer and has this token
+abbrev pub SettleIs : Numbers → ℕ → Result Unit Refusal → Held → ArmorRequest → Limits → Option ℕ → Record → Decision → Type 0
 SettleIs numbers clock vouched token request within place held d =
     (extra server_key value method head aside path body reply table : List ℕ)
     → let q = request_of (orders numbers extra) clock server_key value method head aside path body reply in
-    Holds value (carried value) request → vouched ≡ first (vouching_part q) → ((vouched ≡ 9 → ⊥) → IsToken (token_of q) token)
+    Holds value (carried value) request → number_in vouched ≡ first (vouching_part q) → IsToken (token_of q) token
     → within ≡ limits q → StandsAt q table place held → Settles q table d
