@@ -8,10 +8,9 @@ use native.Mathlib.Nat.{div-one}
 use native.Mathlib.Omega.{arith}
 use borrow.Author.Tests.{eqb-true, eq-eqb, ne_eqb}
 use lib.Dec.{eqb}
+use Rattle.std.specs.Prelude.{Option, Some, None}
 use Rattle.window.specs.Window.{bit}
 use Rattle.table.specs.declared.session.Record.{Record}
-use Rattle.table.specs.declared.place.Place.{Place}
-use Rattle.table.specs.declared.place.Place.TheVariants.{At, Nowhere}
 use Rattle.table.specs.Table.{first_from}
 use Rattle.hashes.specs.Hashes.{names_one}
 use Rattle.table.specs.WellFormed.{some, sound}
@@ -21,9 +20,9 @@ pub lowest : (bits : ℕ) → bit bits 0 ≡ eqb (bits % 2) 1
 unfolding bit
 lowest bits = ap (λ (n : ℕ). eqb (n % 2) 1) (div-one bits)
 
-abbrev pub is_nowhere : Place → Bool
-is_nowhere (At place) = false
-is_nowhere Nowhere = true
+abbrev pub is_nowhere : Option ℕ → Bool
+is_nowhere (Some place) = false
+is_nowhere None = true
 
 -- a scan finds none exactly if no record passes
 pub scan_some : (test : Record → Bool) (place : ℕ) (rs : List Record) → is_nowhere (first_from test place rs) ≡ not (some test rs)
@@ -31,7 +30,7 @@ scan_some test place [] = refl
 scan_some test place (r ∷ rs) = by (test r) (scan_some test (suc place) rs)
   where
     by : (t : Bool) → is_nowhere (first_from test (suc place) rs) ≡ not (some test rs)
-        → is_nowhere (cond t (At place) (first_from test (suc place) rs)) ≡ not (t || some test rs)
+        → is_nowhere (cond t (Some place) (first_from test (suc place) rs)) ≡ not (t || some test rs)
     by true e = refl
     by false e = e
 

@@ -8,9 +8,8 @@ use Prim.Native.Nat.{ℕ, zero, suc, ◌+◌, ◌-◌, ◌≤◌, ◌<◌}
 use native.Mathlib.Nat.{zero-add, add-zero}
 use native.Mathlib.Omega.{arith}
 use lib.ListN.{length, get_or, set}
+use Rattle.std.specs.Prelude.{Option, Some, None}
 use Rattle.table.specs.declared.session.Record.{Record}
-use Rattle.table.specs.declared.place.Place.{Place}
-use Rattle.table.specs.declared.place.Place.TheVariants.{At, Nowhere}
 use Rattle.table.specs.Record.{freed}
 use Rattle.table.specs.Table.{first_from, is_free, holds, lapsed, found, or_else, taken}
 use Rattle.table.specs.WellFormed.{some, WellFormed}
@@ -23,8 +22,8 @@ pub record First (test : Record → Bool) (table : List Record) (i : ℕ) : Type
   pub before : (j : ℕ) → j < i → test (get_or table j freed) ≡ false
 
 -- no place where it holds
-abbrev pub None : (Record → Bool) → List Record → Type 0
-None test table = (j : ℕ) → j < length table → test (get_or table j freed) ≡ false
+abbrev pub Nowhere : (Record → Bool) → List Record → Type 0
+Nowhere test table = (j : ℕ) → j < length table → test (get_or table j freed) ≡ false
 
 module _ (test : Record → Bool) where
   shifted : (r : Record) (rs : List Record) (i : ℕ) → test r ≡ false → First test rs i → First test (r ∷ rs) (suc i)
@@ -35,12 +34,12 @@ module _ (test : Record → Bool) where
       earlier (suc j) l = f.before j (omega arith)
 
   -- a scan's answer tells which
-  pub scan_first : (place i : ℕ) (rs : List Record) → first_from test place rs ≡ At i → First test rs (i - place) × (place ≤ i)
+  pub scan_first : (place i : ℕ) (rs : List Record) → first_from test place rs ≡ Some i → First test rs (i - place) × (place ≤ i)
   scan_first place i [] e = let z : ◌≡◌ {A = ℕ} 0 1 = cc in absurd (omega arith)
   scan_first place i (r ∷ rs) e = by (test r) refl (scan_first (suc place) i rs) e
     where
-      by : (t : Bool) → test r ≡ t → (first_from test (suc place) rs ≡ At i → First test rs (i - suc place) × (suc place ≤ i))
-          → cond t (At place) (first_from test (suc place) rs) ≡ At i → First test (r ∷ rs) (i - place) × (place ≤ i)
+      by : (t : Bool) → test r ≡ t → (first_from test (suc place) rs ≡ Some i → First test rs (i - suc place) × (suc place ≤ i))
+          → cond t (Some place) (first_from test (suc place) rs) ≡ Some i → First test (r ∷ rs) (i - place) × (place ≤ i)
       by true p h f =
           let here : place ≡ i = cc in
           let z : i - place ≡ 0 = omega arith in
@@ -50,26 +49,26 @@ module _ (test : Record → Bool) where
           let z : i - place ≡ suc (i - suc place) = omega (arith, later.1) in
           (rw z (shifted r rs (i - suc place) p later.0), omega (arith, later.1))
 
-  pub first_scan : (place i : ℕ) (rs : List Record) → First test rs i → first_from test place rs ≡ At (place + i)
+  pub first_scan : (place i : ℕ) (rs : List Record) → First test rs i → first_from test place rs ≡ Some (place + i)
   first_scan place i [] f = absurd (omega (arith, f.within))
-  first_scan place zero (r ∷ rs) f = rw f.passes (ap At (sym (add-zero place)))
+  first_scan place zero (r ∷ rs) f = rw f.passes (ap Some (sym (add-zero place)))
   first_scan place (suc i) (r ∷ rs) f =
       rw (f.before 0 (omega arith))
       (first_scan (suc place) i rs
       (record { within = omega (arith, f.within); passes = f.passes; before = λ j l. f.before (suc j) (omega arith) })
-      ∙ ap At (omega arith))
+      ∙ ap Some (omega arith))
 
-  pub scan_none : (place : ℕ) (rs : List Record) → first_from test place rs ≡ Nowhere → None test rs
+  pub scan_none : (place : ℕ) (rs : List Record) → first_from test place rs ≡ None → Nowhere test rs
   scan_none place [] e = λ j l. absurd (omega arith)
   scan_none place (r ∷ rs) e = by (test r) refl (scan_none (suc place) rs) e
     where
-      by : (t : Bool) → test r ≡ t → (first_from test (suc place) rs ≡ Nowhere → None test rs)
-          → cond t (At place) (first_from test (suc place) rs) ≡ Nowhere → None test (r ∷ rs)
+      by : (t : Bool) → test r ≡ t → (first_from test (suc place) rs ≡ None → Nowhere test rs)
+          → cond t (Some place) (first_from test (suc place) rs) ≡ None → Nowhere test (r ∷ rs)
       by true p h f j l = let z : ◌≡◌ {A = ℕ} 0 1 = cc in absurd (omega arith)
       by false p h f zero l = p
       by false p h f (suc j) l = h f j (omega arith)
 
-  pub none_scan : (place : ℕ) (rs : List Record) → None test rs → first_from test place rs ≡ Nowhere
+  pub none_scan : (place : ℕ) (rs : List Record) → Nowhere test rs → first_from test place rs ≡ None
   none_scan place [] n = refl
   none_scan place (r ∷ rs) n = rw (n 0 (omega arith)) (none_scan (suc place) rs (λ j l. n (suc j) (omega arith)))
 
@@ -79,7 +78,7 @@ module _ (test : Record → Bool) where
   some_passes zero (r ∷ rs) h e = rw e
   some_passes (suc i) (r ∷ rs) h e = rw (some_passes i rs (omega arith) e) (or-true (test r))
 
-  pub none_passes : (rs : List Record) → None test rs → some test rs ≡ false
+  pub none_passes : (rs : List Record) → Nowhere test rs → some test rs ≡ false
   none_passes [] n = refl
   none_passes (r ∷ rs) n = rw (n 0 (omega arith)) (none_passes rs (λ j l. n (suc j) (omega arith)))
 
@@ -88,10 +87,10 @@ module _ (test : Record → Bool) where
       → first_from test place (set rs i r) ≡ first_from test place rs
   scan_set place i r [] e = refl
   scan_set place zero r (x ∷ rs) e = rw e
-  scan_set place (suc i) r (x ∷ rs) e = ap (cond (test x) (At place)) (scan_set (suc place) i r rs e)
+  scan_set place (suc i) r (x ∷ rs) e = ap (cond (test x) (Some place)) (scan_set (suc place) i r rs e)
 
 -- the place that is found is within the table, and its record is used and has the IV
-pub found_at : (table : List Record) (iv : List ℕ) (i : ℕ) → found table iv ≡ At i
+pub found_at : (table : List Record) (iv : List ℕ) (i : ℕ) → found table iv ≡ Some i
     → (i < length table) × (holds iv (get_or table i freed) ≡ true)
 unfolding found
 found_at table iv i e =
@@ -100,20 +99,20 @@ found_at table iv i e =
     (rw z at f.within, rw z at f.passes)
 
 -- none is found: no used record has the IV
-pub found_nowhere : (table : List Record) (iv : List ℕ) → found table iv ≡ Nowhere → None (holds iv) table
+pub found_nowhere : (table : List Record) (iv : List ℕ) → found table iv ≡ None → Nowhere (holds iv) table
 unfolding found
 found_nowhere table iv e = scan_none (holds iv) 0 table e
 
-pub nowhere_found : (table : List Record) (iv : List ℕ) → None (holds iv) table → found table iv ≡ Nowhere
+pub nowhere_found : (table : List Record) (iv : List ℕ) → Nowhere (holds iv) table → found table iv ≡ None
 unfolding found
 nowhere_found table iv n = none_scan (holds iv) 0 table n
 
 -- in a well-formed table a used record is found under its IV
 pub at_found : (table : List Record) (iv : List ℕ) (i : ℕ) → WellFormed table → i < length table → holds iv (get_or table i freed) ≡ true
-    → found table iv ≡ At i
+    → found table iv ≡ Some i
 unfolding found
 at_found table iv i w h e =
-    first_scan (holds iv) 0 i table (record { within = h; passes = e; before = earlier }) ∙ ap At (zero-add i)
+    first_scan (holds iv) 0 i table (record { within = h; passes = e; before = earlier }) ∙ ap Some (zero-add i)
   where
     earlier : (j : ℕ) → j < i → holds iv (get_or table j freed) ≡ false
     earlier j l =
@@ -125,19 +124,19 @@ at_found table iv i w h e =
         absurd (omega arith))
 
 -- the record that a setup takes is free, or there is no free one and its expiry is at or before now
-pub taken_at : (table : List Record) (clock i : ℕ) → taken table clock ≡ At i
-    → (i < length table) × ((is_free (get_or table i freed) ≡ true) ⊎ (None is_free table × (lapsed clock (get_or table i freed) ≡ true)))
+pub taken_at : (table : List Record) (clock i : ℕ) → taken table clock ≡ Some i
+    → (i < length table) × ((is_free (get_or table i freed) ≡ true) ⊎ (Nowhere is_free table × (lapsed clock (get_or table i freed) ≡ true)))
 unfolding taken
 taken_at table clock i e = by (first_from is_free 0 table) refl e
   where
     z : i - 0 ≡ i
     z = omega arith
 
-    by : (p : Place) → first_from is_free 0 table ≡ p → or_else p (first_from (lapsed clock) 0 table) ≡ At i
-        → (i < length table) × ((is_free (get_or table i freed) ≡ true) ⊎ (None is_free table × (lapsed clock (get_or table i freed) ≡ true)))
-    by (At j) q f =
+    by : (p : Option ℕ) → first_from is_free 0 table ≡ p → or_else p (first_from (lapsed clock) 0 table) ≡ Some i
+        → (i < length table) × ((is_free (get_or table i freed) ≡ true) ⊎ (Nowhere is_free table × (lapsed clock (get_or table i freed) ≡ true)))
+    by (Some j) q f =
         let first = (scan_first is_free 0 i table (q ∙ f)).0 in
         (rw z at first.within, inl (rw z at first.passes))
-    by Nowhere q f =
+    by None q f =
         let first = (scan_first (lapsed clock) 0 i table f).0 in
         (rw z at first.within, inr (scan_none is_free 0 table q, rw z at first.passes))

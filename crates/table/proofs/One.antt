@@ -7,10 +7,10 @@ use Prim.Native.Nat.{ℕ, ◌*◌, ◌/◌}
 use native.Mathlib.Omega.{arith}
 use lib.ListN.{length}
 use lib.Seq.{take_all}
+use Rattle.std.specs.Prelude.{Some, None}
 use Rattle.cells.specs.Runs.{spliced}
 use Rattle.cells.proofs.Runs.{spliced_front, fronted_whole}
 use Rattle.table.specs.declared.session.Record.{Record}
-use Rattle.table.specs.declared.place.Place.TheVariants.{At, Nowhere}
 use Rattle.table.specs.Record.{size, record_bytes, record_of, Fits}
 use Rattle.table.specs.Table.{places, record_at, chunks, records, is_used, holds, found}
 use Rattle.table.specs.WellFormed.{sound, fitting, well_formed}
@@ -40,7 +40,7 @@ module _ (r : Record) (f : Fits r) where
   unfolding well_formed fitting
   one_rule = rw records_single (alone (sound r) (is_used r))
 
-  pub one_found : (iv : List ℕ) → found (records (record_bytes r)) iv ≡ cond (holds iv r) (At 0) Nowhere
+  pub one_found : (iv : List ℕ) → found (records (record_bytes r)) iv ≡ cond (holds iv r) (Some 0) None
   unfolding found
   one_found iv = rw records_single
 

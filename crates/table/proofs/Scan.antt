@@ -7,8 +7,8 @@ use Prim.Native.Nat.{ℕ, ◌+◌, ◌≤◌, ◌<◌}
 use native.Mathlib.Numerals.{add-one}
 use native.Mathlib.Omega.{arith}
 use lib.ListN.{drop, drop_of_length-le}
+use Rattle.std.specs.Prelude.{Some, None}
 use Rattle.table.specs.declared.session.Record.{Record}
-use Rattle.table.specs.declared.place.Place.TheVariants.{At, Nowhere}
 use Rattle.table.specs.Table.{places, record_at, records, first_from, Placed}
 use Rattle.table.proofs.Records.{length_records, records_from}
 
@@ -36,7 +36,7 @@ module _ {A : Type 0} {f : ℕ → List Record → A} {bytes : List ℕ} {start 
 
 module _ (test : Record → Bool) {bytes : List ℕ} {start n i : ℕ} (s : Along (first_from test) bytes start n i) where
   -- the test holds at a place: that is the one
-  pub scan_stops : i < n → test (record_at bytes i) ≡ true → Placed (first_from test start (drop start (records bytes))) (places bytes) (At i)
+  pub scan_stops : i < n → test (record_at bytes i) ≡ true → Placed (first_from test start (drop start (records bytes))) (places bytes) (Some i)
   scan_stops h e = record { is = sym (along_here s h ∙ rw e); within = omega (arith, s.count) }
 
   -- it does not: the scan goes on
@@ -44,5 +44,5 @@ module _ (test : Record → Bool) {bytes : List ℕ} {start n i : ℕ} (s : Alon
   scan_goes h e = along_goes s h (rw (add-one, e))
 
   -- past the last place there is none
-  pub scan_ends : n ≤ i → Placed (first_from test start (drop start (records bytes))) (places bytes) Nowhere
+  pub scan_ends : n ≤ i → Placed (first_from test start (drop start (records bytes))) (places bytes) None
   scan_ends h = record { is = sym (along_ends s h); within = tt }

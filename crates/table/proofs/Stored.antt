@@ -8,8 +8,8 @@ use Prim.Native.Nat.{ℕ, ◌<◌}
 use native.Mathlib.Decide.{ℕ_discrete}
 use lib.ListN.{length, get_or, set, length-set}
 use lib.Seq.{get_or-set_same, get_or-set_other}
+use Rattle.std.specs.Prelude.{None}
 use Rattle.table.specs.declared.session.Record.{Record}
-use Rattle.table.specs.declared.place.Place.TheVariants.{Nowhere}
 use Rattle.table.specs.Record.{freed}
 use Rattle.table.specs.Table.{holds, found}
 use Rattle.table.specs.WellFormed.{Sound, WellFormed}
@@ -66,7 +66,7 @@ module _ (table : List Record) (i : ℕ) (r : Record) (h : i < length table) whe
   found_kept iv e = scan_set (holds iv) 0 i r table e
 
 -- the IV of a new record was not found
-pub alone_new : (table : List Record) (i : ℕ) (r : Record) → found table r.iv ≡ Nowhere → Alone table i r
+pub alone_new : (table : List Record) (i : ℕ) (r : Record) → found table r.iv ≡ None → Alone table i r
 alone_new table i r e u j l n v p =
     true≢false (sym (used_holds r.iv (get_or table j freed) v p) ∙ found_nowhere table r.iv e j l)
 

@@ -68,7 +68,7 @@ fn has_lapsed(table: &[u8], place: usize, clock: Time) -> bool
     requires { place < places table.now }
     ensures { result ≡ lapsed clock.0 (record_at table.now place) }
 {
-    cells::load32(table, SIZE * place + 13) <= clock.0
+    Time(cells::load32(table, SIZE * place + 13)) <= clock
 }
 
 // The place that a setup takes: the lowest free one, else the lowest whose expiry is at or before now.

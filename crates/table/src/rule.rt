@@ -1,7 +1,7 @@
 // Whether the table is well formed.
 ghost use Rattle.std.specs.Prelude.{◌≡◌, not, ◌+◌, ◌≤◌, ◌<◌, drop};
 ghost use Rattle.table.specs.Table.{places, record_at, records, holds};
-ghost use Rattle.table.specs.WellFormed.{traceless, blank, window_sound, sound, some, fitting, well_formed};
+ghost use Rattle.table.specs.WellFormed.{traceless, window_sound, sound, some, fitting, well_formed};
 
 use super::session::{Record, SIZE};
 use super::{place, session};
@@ -11,17 +11,6 @@ fn no_trace(session: Record) -> bool
     ensures { result ≡ traceless session }
 {
     (session.highest.0 == 0) & (session.bits == 0)
-}
-
-// Whether a record holds zeros, its first mark apart.
-fn holds_zeros(session: Record) -> bool
-    ensures { result ≡ blank session }
-{
-    let iv = session.iv;
-    let zeros = [0u8; 12];
-    (session.expiry.0 == 0)
-        & ((session.any == 0)
-            & ((session.hash == 0) & (no_trace(session) & cells::same(&iv, &zeros))))
 }
 
 // Whether mark, nonce and bits fit each other.
@@ -38,7 +27,7 @@ pub fn record_sound(session: Record) -> bool
     ensures { result ≡ sound session }
 {
     if session.used == 0 {
-        return holds_zeros(session);
+        return session == session::freed();
     }
     (session.used == 1) & (hashes::names_one(session.hash as u64) & window_sound(session))
 }

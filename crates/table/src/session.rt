@@ -10,7 +10,7 @@ use window::{Nonce, Window};
 
 // The marks and the mask of the hash are bytes, since a host may lend any.
 #[repr(C)]
-#[derive(Clone, Copy)]
+#[derive(Clone, Copy, PartialEq, Eq)]
 pub struct Record {
     pub used: u8,
     pub iv: [u8; 12],

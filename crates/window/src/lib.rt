@@ -8,7 +8,7 @@ pub mod time;
 
 // A host lends a record that holds one.
 #[repr(C)]
-#[derive(Clone, Copy)]
+#[derive(Clone, Copy, PartialEq, Eq, PartialOrd, Ord)]
 pub struct Nonce(pub u32);
 
 #[derive(Clone, Copy)]
@@ -20,7 +20,7 @@ pub struct Window {
     pub bits: u64,
 }
 
-#[derive(Clone, Copy)]
+#[derive(Clone, Copy, PartialEq, Eq)]
 pub enum Verdict {
     Accepted,
     TooOld,
@@ -48,41 +48,36 @@ impl Window {
     pub fn step(self, nonce: Nonce) -> Stepped
         ensures { result ≡ step_of self nonce.0 }
     {
-        let any = self.any;
-        let highest = self.highest;
-        if !any {
+        if !self.any {
             return accepted(nonce, 1);
         }
-        if highest.0 < nonce.0 {
-            return self.above(nonce, nonce.0 - highest.0);
+        if self.highest < nonce {
+            return self.above(nonce, nonce.0 - self.highest.0);
         }
-        self.below(highest.0 - nonce.0)
+        self.below(self.highest.0 - nonce.0)
     }
 
     // The nonce lies `up` above the highest.
     fn above(self, nonce: Nonce, up: u32) -> Stepped
         ensures { result ≡ above self nonce.0 up }
     {
-        let bits = self.bits;
         if 64 <= up {
             return accepted(nonce, 1);
         }
-        accepted(nonce, bits << up | 1)
+        accepted(nonce, self.bits << up | 1)
     }
 
     // The nonce lies `down` below the highest.
     fn below(self, down: u32) -> Stepped
         ensures { result ≡ below self down }
     {
-        let bits = self.bits;
-        let highest = self.highest;
         if 64 <= down {
             return refused(self, Verdict::TooOld);
         }
-        if (bits >> down) % 2 == 1 {
+        if (self.bits >> down) % 2 == 1 {
             return refused(self, Verdict::Seen);
         }
-        accepted(highest, bits | 1 << down)
+        accepted(self.highest, self.bits | 1 << down)
     }
 }
 
@@ -92,8 +87,8 @@ fn accepted(highest: Nonce, bits: u64) -> Stepped
     Stepped {
         window: Window {
             any: true,
-            highest: highest,
-            bits: bits,
+            highest,
+            bits,
         },
         verdict: Verdict::Accepted,
     }
@@ -102,8 +97,5 @@ fn accepted(highest: Nonce, bits: u64) -> Stepped
 fn refused(window: Window, verdict: Verdict) -> Stepped
     ensures { result ≡ refused window verdict }
 {
-    Stepped {
-        window: window,
-        verdict: verdict,
-    }
+    Stepped { window, verdict }
 }

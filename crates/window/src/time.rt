@@ -7,22 +7,21 @@ const MOST_AHEAD: u32 = 30;
 
 // Seconds, as a request or the host tells them; a record that a host lends holds one.
 #[repr(C)]
-#[derive(Clone, Copy)]
+#[derive(Clone, Copy, PartialEq, Eq, PartialOrd, Ord)]
 pub struct Time(pub u32);
 
 // From `earlier` to `later`, below zero where the clock that told `earlier` runs ahead.
 pub fn age(later: Time, earlier: Time) -> i64
     ensures { result ≡ difference later.0 earlier.0 }
 {
-    (later.0 as i64) - (earlier.0 as i64)
+    i64::from(later.0) - i64::from(earlier.0)
 }
 
 // Whether more than `limit` seconds lie between the two.
 fn apart(later: Time, earlier: Time, limit: u32) -> bool
     ensures { result ≡ exceeds later.0 earlier.0 limit }
 {
-    let most = limit as i64;
-    most < age(later, earlier)
+    i64::from(limit) < age(later, earlier)
 }
 
 // Whether a request that was made at `t` is older than its life.
