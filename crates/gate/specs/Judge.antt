@@ -1,10 +1,9 @@
 -- Judging a request: document 01, 'The numbers a call returns', and document 02, K2, for the invalidation's hash, and K7, for the index.
 -- Assumes nothing.
-use Rattle.std.specs.Prelude.{Bool, cond, List, ◌++◌, ℕ, eqb}
+use Rattle.std.specs.Prelude.{Bool, cond, List, ◌++◌, ℕ, eqb, Option}
 use Rattle.hashes.specs.declared.Hash.{Hash}
 use Rattle.reply.specs.Replies.{invalidation}
 use Rattle.table.specs.declared.session.Record.{Record}
-use Rattle.table.specs.declared.place.Place.{Place}
 use Rattle.table.specs.Record.{freed}
 use Rattle.stages.specs.Request.{Request}
 use Rattle.stages.specs.Checks.{Check, first}
@@ -24,7 +23,7 @@ request_checks q s = entry_part q s ++ (reading_part q ++ (vouching_part q ++ ad
 
 -- the state after a number: at 0 the session's record takes the nonce where nonces are ordered, and the index stays; at 10 and 13 the record is
 -- freed if there is one, and the index is the one that fits then
-unfoldable pub state_after : ℕ → Bool → Place → Record → State → State
+unfoldable pub state_after : ℕ → Bool → Option ℕ → Record → State → State
 state_after n nonces place next s =
     cond (eqb n 0) (cond nonces (holding (with_record s.table place next) s.index) s)
     (cond (invalidates n) (indexed (with_record s.table place freed)) s)

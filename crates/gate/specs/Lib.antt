@@ -8,6 +8,7 @@ pub mod Judge
 pub mod End
 pub mod Remake
 pub mod Trial
+pub mod InnerSizes
 pub mod InnerDecisions
 pub mod InnerStarts
 pub mod InnerTrials

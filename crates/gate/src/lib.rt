@@ -7,6 +7,7 @@ ghost use Rattle.std.specs.Prelude.{◌≡◌, []};
 ghost use Rattle.table.specs.Record.{record_bytes};
 ghost use Rattle.orders.specs.Orders.{orders_of};
 ghost use Rattle.stages.specs.Request.{request_of};
+ghost use Rattle.stages.specs.Refusals.{number_in};
 ghost use Rattle.gate.specs.State.{holding, indexed, outcome};
 ghost use Rattle.gate.specs.Calls.{setup_of};
 ghost use Rattle.gate.specs.Setup.{set_up};
@@ -16,17 +17,17 @@ ghost use Rattle.gate.specs.Remake.{remade};
 ghost use Rattle.gate.specs.Trial.{trial_of, tried};
 
 use index::{change, lookup};
-use orders::{Checked, Numbers};
-use reply::reading;
-use setup::Start;
-use table::place::Place;
+use orders::Numbers;
+use stages::refusal::Refusal;
 use table::rule;
 use table::session::Record;
 use window::time::Time;
 
+mod asked;
 mod entry;
 mod judge;
-pub mod one;
+mod lent;
+mod one;
 mod setup;
 mod sizes;
 mod trying;
@@ -59,7 +60,7 @@ pub fn gate_setup(
         idle,
         session_life,
     };
-    let start = setup::decide(
+    match setup::decide(
         &known,
         numbers,
         extra,
@@ -72,23 +73,9 @@ pub fn gate_setup(
         table,
         index,
         reply,
-    );
-    match start {
-        Start::At(place, hash, expiry) => setup::apply(
-            mask,
-            extra,
-            server_key,
-            session_key,
-            iv,
-            session_id,
-            place,
-            hash,
-            expiry,
-            table,
-            index,
-            reply,
-        ),
-        Start::Refused(number) => number,
+    ) {
+        Ok(start) => setup::apply(&start, mask, extra, table, index, reply),
+        Err(refusal) => refusal.number(),
     }
 }
 
@@ -122,7 +109,7 @@ pub fn gate_judge<'a>(
         idle,
         session_life,
     };
-    let decision = judge::decide(
+    match judge::decide(
         &known,
         numbers,
         extra,
@@ -137,9 +124,13 @@ pub fn gate_judge<'a>(
         table,
         index,
         reply,
-    );
-    judge::apply(decision, table, index);
-    judge::answer(decision, reply)
+    ) {
+        Ok(decision) => {
+            judge::apply(&decision, table, index);
+            judge::answer(&decision, reply)
+        }
+        Err(refusal) => refusal.number(),
+    }
 }
 
 // Judges a request over one session's record, which the host lends: the new record stands there afterwards.
@@ -163,15 +154,19 @@ pub fn gate_judge_one<'a>(
 ) -> u32
     ensures { outcome result reply.new (indexed (record_bytes «record».new)) ≡ judged (request_of (orders_of mask hashes extra.now request_life idle session_life) clock server_key.now value.now method.now head.now aside.now path.now body.now reply.old) (indexed (record_bytes «record».old)) }
 {
-    let held = *record;
-    let judged = one::judge(
+    let known = names::known();
+    let numbers = Numbers {
         mask,
         hashes,
-        extra,
         request_life,
         idle,
         session_life,
-        clock,
+    };
+    match one::decide(
+        &known,
+        numbers,
+        extra,
+        Time(clock),
         server_key,
         value,
         method,
@@ -179,45 +174,60 @@ pub fn gate_judge_one<'a>(
         aside,
         path,
         body,
-        held,
+        *record,
         reply,
-    );
-    *record = judged.next;
-    judged.answer
+    ) {
+        Ok(decision) => {
+            *record = one::after(&decision, *record);
+            judge::answer(&decision, reply)
+        }
+        Err(refusal) => refusal.number(),
+    }
 }
 
 // Ends the session that has this IV.
 pub fn gate_end(iv: &[u8], table: &mut [u8], index: &mut [u8]) -> u32
     ensures { outcome result [] (holding table.new index.new) ≡ ended iv.now (holding table.old index.old) }
 {
-    let fits = sizes::end_fits(iv, table, index);
-    if !fits {
-        return 1;
+    number(end(iv, table, index))
+}
+
+// Checks 1, 3, 22 and 12, and the record freed where none of them holds.
+fn end(iv: &[u8], table: &mut [u8], index: &mut [u8]) -> Result<(), Refusal>
+    ensures { outcome (number_in result) [] (holding table.new index.new) ≡ ended iv.now (holding table.old index.old) }
+{
+    let iv = <&[u8; 12]>::try_from(iv).map_err(|_| Refusal::WrongSize)?;
+    if !sizes::state_fits(table, index) {
+        return Err(Refusal::WrongSize);
     }
-    let number = entry::state_number(fits, table, index);
-    if number != 0 {
-        return number;
-    }
+    entry::state(table, index)?;
     let place = lookup::find(table, index, iv);
-    let Place::At(_) = place else {
-        return 12;
-    };
+    if place.is_none() {
+        return Err(Refusal::NoSession);
+    }
     change::free(table, index, place);
-    0
+    Ok(())
 }
 
 // Makes the index that fits a table, whatever stands in it.
 pub fn gate_index(table: &[u8], index: &mut [u8]) -> u32
     ensures { outcome result [] (holding table.now index.new) ≡ remade (holding table.now index.old) }
 {
+    number(remake(table, index))
+}
+
+// Checks 1 and 3, and the index made anew where neither holds.
+fn remake(table: &[u8], index: &mut [u8]) -> Result<(), Refusal>
+    ensures { outcome (number_in result) [] (holding table.now index.new) ≡ remade (holding table.now index.old) }
+{
     if !sizes::state_fits(table, index) {
-        return 1;
+        return Err(Refusal::WrongSize);
     }
     if !rule::well_formed(table) {
-        return 3;
+        return Err(Refusal::BadTable);
     }
     change::make(table, index);
-    0
+    Ok(())
 }
 
 // Tries a client: whether its request fits the reply to its setup, and otherwise the first rule that it breaks.
@@ -232,37 +242,23 @@ pub fn gate_fits<'a>(
 ) -> u32
     ensures { result ≡ tried (trial_of setup_reply.now value.now method.now head.now aside.now path.now body.now) }
 {
-    if !sizes::trial_fits(setup_reply, value, method, head, aside, path, body) {
-        return 1;
-    }
-    let heard = reading::read(setup_reply);
-    if !heard.good {
-        return 23;
-    }
-    let reply = heard.reply;
-    let eah = reply.eah;
-    let eah_len = reply.eah_len;
-    let numbers = Numbers {
-        mask: reply.ah,
-        hashes: reply.h,
-        request_life: 0,
-        idle: 0,
-        session_life: 0,
-    };
-    let known = names::known();
-    let Checked::Good(_) = orders::check(&known, numbers, &eah[..eah_len]) else {
-        return 23;
-    };
-    trying::against(
-        &known,
-        numbers,
-        &eah[..eah_len],
-        reply,
+    number(trying::fits(
+        setup_reply,
         value,
         method,
         head,
         aside,
         path,
         body,
-    )
+    ))
+}
+
+// The number of a call that writes no reply: 0 where nothing refuses it.
+fn number(done: Result<(), Refusal>) -> u32
+    ensures { result ≡ number_in done }
+{
+    match done {
+        Ok(()) => 0,
+        Err(refusal) => refusal.number(),
+    }
 }

@@ -1,6 +1,5 @@
 // Setting up a session: a decision that writes nothing, and its effect.
 ghost use Rattle.std.specs.Prelude.{◌≡◌, ◌+◌, ◌<◌, ◌≤◌, ◌^◌, length};
-ghost use Rattle.table.specs.declared.place.Place.TheVariants as P;
 ghost use Rattle.table.specs.Session.{place_of};
 ghost use Rattle.table.specs.Table.{places};
 ghost use Rattle.index.specs.Index.{Indexed};
@@ -10,134 +9,127 @@ ghost use Rattle.gate.specs.State.{holding, outcome};
 ghost use Rattle.gate.specs.Calls.{setup_of};
 ghost use Rattle.gate.specs.InnerStarts.{StartIs, UntilIs, OfferIs, RoomIs, start_at};
 
+use super::lent::Lent;
 use super::{entry, sizes};
-use armor::SetupRead;
 use hashes::Hash;
 use index::{change, lookup};
 use orders::Numbers;
-use table::place::Place;
+use stages::refusal::Refusal;
 use table::{place, session};
 use window::time::Time;
 
-// The place that the new session takes, its hash and its expiry; or the number of the refusal.
+// A session that is to begin: what its host lent, its place, its hash and its expiry.
 #[derive(Clone, Copy)]
-pub enum Start {
-    At(usize, Hash, Time),
-    Refused(u32),
+pub struct Start<'a> {
+    pub lent: Lent<'a>,
+    pub place: usize,
+    pub hash: Hash,
+    pub expiry: Time,
 }
 
-pub fn decide(
+pub fn decide<'a>(
     known: &[u8],
     numbers: Numbers,
     extra: &[u8],
     clock: Time,
-    server_key: &[u8],
-    session_key: &[u8],
-    iv: &[u8],
-    session_id: &[u8],
-    value: &[u8],
+    server_key: &'a [u8],
+    session_key: &'a [u8],
+    iv: &'a [u8],
+    session_id: &'a [u8],
+    value: &'a [u8],
     table: &[u8],
     index: &[u8],
     reply: &[u8],
-) -> Start
+) -> Result<Start<'a>, Refusal>
     requires { Known known.now }
     ensures { StartIs (setup_of (orders numbers extra.now) clock.0 server_key.now session_key.now iv.now session_id.now value.now reply.now) (holding table.now index.now) result }
 {
-    let fits = sizes::setup_fits(
-        server_key,
-        session_key,
-        iv,
-        session_id,
-        value,
-        table,
-        index,
-        reply,
-    );
-    let number = entry::state_number(fits, table, index);
-    let entry = entry::enter(known, fits, number, numbers, extra);
-    if entry.number != 0 {
-        return Start::Refused(entry.number);
+    let lent = sizes::setup(server_key, session_key, iv, session_id, value, reply)
+        .ok_or(Refusal::WrongSize)?;
+    if !sizes::state_fits(table, index) {
+        return Err(Refusal::WrongSize);
     }
-    let limits = entry.limits;
-    match offered(value, numbers.hashes, clock, limits.session_life) {
-        Offer::Refused(number) => Start::Refused(number),
-        Offer::Until(hash, expiry) => room(table, index, iv, clock, hash, expiry),
-    }
+    let limits = orders::check(known, numbers, extra).ok_or(Refusal::BadOrders)?;
+    entry::state(table, index)?;
+    let offer = offered(lent.value, numbers.hashes, clock, limits.session_life)?;
+    let place = room(table, index, lent.iv, clock)?;
+    Ok(Start {
+        lent,
+        place,
+        hash: offer.hash,
+        expiry: offer.expiry,
+    })
 }
 
+// The hash that client and orders come to, and until when the session would last.
 #[derive(Clone, Copy)]
-enum Offer {
-    Until(Hash, Time),
-    Refused(u32),
+struct Offer {
+    hash: Hash,
+    expiry: Time,
 }
 
-// The hash that client and orders come to, and until when the session would last: checks 4, 5, 19 and 20.
-fn offered(value: &[u8], hashes: u64, clock: Time, life: u32) -> Offer
+// Checks 4, 5, 19 and 20.
+fn offered(value: &[u8], hashes: u64, clock: Time, life: u32) -> Result<Offer, Refusal>
     requires { length value.now ≤ 4096 }
     ensures { OfferIs value.now hashes (clock.0 + life) result }
 {
-    let read = armor::read_setup(value);
-    match read {
-        SetupRead::Grammar => Offer::Refused(4),
-        SetupRead::Fields => Offer::Refused(5),
-        SetupRead::Mask(mask) => until(mask, hashes, clock, life),
-    }
+    let mask = armor::read_setup(value)?;
+    until(mask, hashes, clock, life)
 }
 
-fn until(mask: u64, hashes: u64, clock: Time, life: u32) -> Offer
+fn until(mask: u64, hashes: u64, clock: Time, life: u32) -> Result<Offer, Refusal>
     ensures { UntilIs mask hashes (clock.0 + life) result }
 {
-    if !hashes::in_common(mask, hashes) {
-        return Offer::Refused(19);
-    }
-    if 4294967295 - clock.0 < life {
-        return Offer::Refused(20);
-    }
-    Offer::Until(Hash::chosen(mask, hashes), Time(clock.0 + life))
+    let hash = Hash::common(mask, hashes).ok_or(Refusal::NoCommonHash)?;
+    let end = clock.0.checked_add(life).ok_or(Refusal::ExpiryTooLate)?;
+    Ok(Offer {
+        hash,
+        expiry: Time(end),
+    })
 }
 
 // The place for the new session: checks 17 and 18.
-fn room(table: &[u8], index: &[u8], iv: &[u8], clock: Time, hash: Hash, expiry: Time) -> Start
-    requires { (length iv.now ≡ 12) × Indexed table.now index.now }
-    ensures { RoomIs table.now iv.now clock.0 hash expiry.0 result }
+fn room(table: &[u8], index: &[u8], iv: &[u8; 12], clock: Time) -> Result<usize, Refusal>
+    requires { Indexed table.now index.now }
+    ensures { RoomIs table.now iv.now clock.0 result }
 {
-    if let Place::At(_) = lookup::find(table, index, iv) {
-        return Start::Refused(17);
+    if lookup::find(table, index, iv).is_some() {
+        return Err(Refusal::IvInUse);
     }
-    match place::to_take(table, clock) {
-        Place::At(place) => Start::At(place, hash, expiry),
-        Place::Nowhere => Start::Refused(18),
-    }
+    place::to_take(table, clock).ok_or(Refusal::TableFull)
 }
 
 // The effect of a setup that nothing refuses.
 pub fn apply(
+    start: &Start,
     mask: u64,
     extra: &[u8],
-    server_key: &[u8],
-    session_key: &[u8],
-    iv: &[u8],
-    session_id: &[u8],
-    place: usize,
-    hash: Hash,
-    expiry: Time,
     table: &mut [u8],
     index: &mut [u8],
     reply: &mut [u8],
 ) -> u32
-    requires { (mask < 2 ^ 56) × (length extra.now ≤ 128) × (length server_key.now ≡ 32) × (length session_key.now ≡ 32) × (length iv.now ≡ 12) × (1 ≤ length session_id.now) × (length session_id.now ≤ 64) × (place < places table.old) × (1024 ≤ length reply.old) × Indexed table.old index.old × (place_of table.old iv.now ≡ P.Nowhere) }
-    ensures { outcome result reply.new (holding table.new index.new) ≡ start_at mask extra.now server_key.now session_key.now iv.now session_id.now place hash expiry.0 table.old reply.old }
+    requires { (mask < 2 ^ 56) × (length extra.now ≤ 128) × (start.now.place < places table.old) × (1024 ≤ length reply.old) × Indexed table.old index.old × (place_of table.old start.now.lent.iv.now ≡ None) }
+    ensures { outcome result reply.new (holding table.new index.new) ≡ start_at mask extra.now start.now table.old reply.old }
 {
-    let sealed = token::seal(server_key, iv, session_key, session_id, expiry);
-    let s = sealed.s;
-    let s_len = sealed.s_len;
-    let tag = sealed.tag;
-    let len = reply::setup(reply, &s[..s_len], iv, &tag, session_key, hash, mask, extra);
-    change::take(
-        table,
-        index,
-        place,
-        session::begin(iv, expiry, hash.mask() as u8),
+    let lent = &start.lent;
+    let sealed = token::seal(
+        lent.server_key,
+        lent.iv,
+        lent.session_key,
+        lent.session_id,
+        start.expiry,
     );
+    let len = reply::setup(
+        reply,
+        sealed.s.as_slice(),
+        lent.iv,
+        &sealed.tag,
+        lent.session_key,
+        start.hash,
+        mask,
+        extra,
+    );
+    let session = session::begin(lent.iv, start.expiry, start.hash.mask() as u8);
+    change::take(table, index, start.place, session);
     256 * (len as u32)
 }

@@ -1,10 +1,11 @@
 // Whether what is lent has the sizes that document 01 names: check 1.
 ghost use Rattle.std.specs.Prelude.{◌≡◌};
 ghost use Rattle.gate.specs.State.{holding};
-ghost use Rattle.gate.specs.Sizes.{long_from, table_fits, state_fits, end_fits};
-ghost use Rattle.gate.specs.InnerDecisions.{SetupFits, RequestFits, LentFits, BroughtFits};
-ghost use Rattle.gate.specs.Trial.{trial_of, trial_fits};
+ghost use Rattle.gate.specs.Sizes.{long_from, table_fits, state_fits};
+ghost use Rattle.gate.specs.InnerSizes.{SetupFits, RequestFits, AskedFits, TrialFits};
 
+use super::asked::Asked;
+use super::lent::Lent;
 use table::session::SIZE;
 
 // Records in a table, bytes in what a request brings, and bytes in a reply buffer.
@@ -27,109 +28,115 @@ const MOST_SETUP_REPLY: usize = 459;
 fn long_from(low: usize, high: usize, run: &[u8]) -> bool
     ensures { result ≡ long_from low high run.now }
 {
-    (low <= run.len()) & (run.len() <= high)
+    (low..=high).contains(&run.len())
 }
 
+#[tactic(auto, unfolding(crate::specs::Sizes::table_fits))]
 fn table_fits(table: &[u8]) -> bool
     ensures { result ≡ table_fits table.now }
 {
-    (table.len() % SIZE == 0) & long_from(SIZE, MOST_RECORDS * SIZE, table)
+    table.len() % SIZE == 0 && long_from(SIZE, MOST_RECORDS * SIZE, table)
 }
 
+#[tactic(auto, unfolding(crate::specs::Sizes::state_fits))]
 pub fn state_fits(table: &[u8], index: &[u8]) -> bool
     ensures { result ≡ state_fits (holding table.now index.now) }
 {
-    table_fits(table) & (index.len() == 2 * (table.len() / SIZE))
+    table_fits(table) && index.len() == 2 * (table.len() / SIZE)
 }
 
-pub fn setup_fits(
-    server_key: &[u8],
-    session_key: &[u8],
-    iv: &[u8],
-    session_id: &[u8],
-    value: &[u8],
-    table: &[u8],
-    index: &[u8],
+// What sets up a session.
+#[tactic(auto, unfolding(crate::specs::Sizes::setup_fits))]
+pub fn setup<'a>(
+    server_key: &'a [u8],
+    session_key: &'a [u8],
+    iv: &'a [u8],
+    session_id: &'a [u8],
+    value: &'a [u8],
     reply: &[u8],
-) -> bool
-    ensures { SetupFits server_key.now session_key.now iv.now session_id.now value.now table.now index.now reply.now result }
+) -> Option<Lent<'a>>
+    ensures { SetupFits server_key.now session_key.now iv.now session_id.now value.now reply.now result }
 {
-    (server_key.len() == 32)
-        & ((session_key.len() == 32)
-            & ((iv.len() == 12)
-                & (long_from(1, 64, session_id)
-                    & ((value.len() <= MOST_VALUE)
-                        & (state_fits(table, index) & (LEAST_REPLY <= reply.len()))))))
+    let server_key = server_key.try_into().ok()?;
+    let session_key = session_key.try_into().ok()?;
+    let iv = iv.try_into().ok()?;
+    if long_from(1, 64, session_id) && value.len() <= MOST_VALUE && LEAST_REPLY <= reply.len() {
+        return Some(Lent {
+            server_key,
+            session_key,
+            iv,
+            session_id,
+            value,
+        });
+    }
+    None
 }
 
-pub fn request_fits(
-    server_key: &[u8],
-    value: &[u8],
-    method: &[u8],
-    head: &[u8],
-    aside: &[u8],
-    path: &[u8],
-    body: &[u8],
-    table: &[u8],
-    index: &[u8],
+// What judges a request: the server's key, and what the request brings.
+#[tactic(auto, unfolding(crate::specs::Sizes::lent_fits))]
+pub fn request<'a>(
+    server_key: &'a [u8],
+    value: &'a [u8],
+    method: &'a [u8],
+    head: &'a [u8],
+    aside: &'a [u8],
+    path: &'a [u8],
+    body: &'a [u8],
     reply: &[u8],
-) -> bool
-    ensures { RequestFits server_key.now value.now method.now head.now aside.now path.now body.now table.now index.now reply.now result }
+) -> Option<(&'a [u8; 32], Asked<'a>)>
+    ensures { RequestFits server_key.now value.now method.now head.now aside.now path.now body.now reply.now result }
 {
-    lent_fits(server_key, value, method, head, aside, path, body, reply) & state_fits(table, index)
+    let server_key = server_key.try_into().ok()?;
+    let asked = asked(value, method, head, aside, path, body)?;
+    (LEAST_REPLY <= reply.len()).then_some((server_key, asked))
 }
 
-// All but table and index.
-pub fn lent_fits(
-    server_key: &[u8],
-    value: &[u8],
-    method: &[u8],
-    head: &[u8],
-    aside: &[u8],
-    path: &[u8],
-    body: &[u8],
-    reply: &[u8],
-) -> bool
-    ensures { LentFits server_key.now value.now method.now head.now aside.now path.now body.now reply.now result }
+// What tries a client.
+#[tactic(auto, unfolding(crate::specs::Trial::trial_fits, crate::specs::Trial::request_in))]
+pub fn trial<'a>(
+    setup_reply: &[u8],
+    value: &'a [u8],
+    method: &'a [u8],
+    head: &'a [u8],
+    aside: &'a [u8],
+    path: &'a [u8],
+    body: &'a [u8],
+) -> Option<Asked<'a>>
+    ensures { TrialFits setup_reply.now value.now method.now head.now aside.now path.now body.now result }
 {
-    (server_key.len() == 32)
-        & (brought_fits(value, method, head, aside, path, body) & (LEAST_REPLY <= reply.len()))
+    if MOST_SETUP_REPLY < setup_reply.len() {
+        return None;
+    }
+    asked(value, method, head, aside, path, body)
 }
 
 // What a request brings.
-fn brought_fits(
-    value: &[u8],
-    method: &[u8],
-    head: &[u8],
-    aside: &[u8],
-    path: &[u8],
-    body: &[u8],
-) -> bool
-    ensures { BroughtFits value.now method.now head.now aside.now path.now body.now result }
+#[tactic(auto, unfolding(crate::specs::Sizes::brought_fits))]
+fn asked<'a>(
+    value: &'a [u8],
+    method: &'a [u8],
+    head: &'a [u8],
+    aside: &'a [u8],
+    path: &'a [u8],
+    body: &'a [u8],
+) -> Option<Asked<'a>>
+    ensures { AskedFits value.now method.now head.now aside.now path.now body.now result }
 {
-    (value.len() <= MOST_VALUE)
-        & (long_from(1, MOST_METHOD, method)
-            & ((head.len() <= MOST_LINES)
-                & ((aside.len() <= MOST_LINES)
-                    & (long_from(1, MOST_PATH, path) & (body.len() <= MOST_BODY)))))
-}
-
-pub fn trial_fits(
-    setup_reply: &[u8],
-    value: &[u8],
-    method: &[u8],
-    head: &[u8],
-    aside: &[u8],
-    path: &[u8],
-    body: &[u8],
-) -> bool
-    ensures { result ≡ trial_fits (trial_of setup_reply.now value.now method.now head.now aside.now path.now body.now) }
-{
-    (setup_reply.len() <= MOST_SETUP_REPLY) & brought_fits(value, method, head, aside, path, body)
-}
-
-pub fn end_fits(iv: &[u8], table: &[u8], index: &[u8]) -> bool
-    ensures { result ≡ end_fits iv.now (holding table.now index.now) }
-{
-    (iv.len() == 12) & state_fits(table, index)
+    if value.len() <= MOST_VALUE
+        && long_from(1, MOST_METHOD, method)
+        && head.len() <= MOST_LINES
+        && aside.len() <= MOST_LINES
+        && long_from(1, MOST_PATH, path)
+        && body.len() <= MOST_BODY
+    {
+        return Some(Asked {
+            value,
+            method,
+            head,
+            aside,
+            path,
+            body,
+        });
+    }
+    None
 }

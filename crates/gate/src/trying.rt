@@ -3,30 +3,58 @@ ghost use Rattle.std.specs.Prelude.{◌≡◌, true, ◌≤◌, length};
 ghost use Rattle.names.specs.Extra.{good_extra};
 ghost use Rattle.names.specs.InnerWalk.{Known};
 ghost use Rattle.orders.specs.Orders.{orders};
+ghost use Rattle.stages.specs.Refusals.{number_in};
+ghost use Rattle.gate.specs.Trial.{trial_of, tried};
 ghost use Rattle.gate.specs.InnerTrials.{SameTokenIs, AgainstIs};
 
+use super::asked::Asked;
+use super::sizes;
 use armor::{Reply, Request};
 use hashes::Hash;
 use orders::Numbers;
+use stages::refusal::Refusal;
 use stages::{reading, vouching};
 
-// Checks 4 to 8 and 11, by the orders and the key of a reply.
-pub fn against<'a>(
-    known: &[u8],
-    numbers: Numbers,
-    extra: &[u8],
-    reply: Reply,
+// Whether a client's request fits the reply to its setup: checks 1, 23, 4 to 8 and 11.
+pub fn fits<'a>(
+    setup_reply: &[u8],
     value: &[u8],
     method: &[u8],
     head: &'a [u8],
     aside: &'a [u8],
     path: &[u8],
     body: &[u8],
-) -> u32
-    requires { Known known.now × (good_extra extra.now ≡ true) × (reply.s_len ≤ 118) × (length value.now ≤ 4096) × (length method.now ≤ 16) × (length head.now ≤ 16384) × (length aside.now ≤ 16384) × (length path.now ≤ 2048) × (length body.now ≤ 65536) }
-    ensures { AgainstIs (orders numbers extra.now) reply value.now method.now head.now aside.now path.now body.now result }
+) -> Result<(), Refusal>
+    ensures { number_in result ≡ tried (trial_of setup_reply.now value.now method.now head.now aside.now path.now body.now) }
 {
-    // As in judge::decide.
+    let asked = sizes::trial(setup_reply, value, method, head, aside, path, body)
+        .ok_or(Refusal::WrongSize)?;
+    let reply = reply::reading::read(setup_reply).ok_or(Refusal::BadReply)?;
+    let extra = reply.eah.as_slice();
+    let numbers = Numbers {
+        mask: reply.ah,
+        hashes: reply.h,
+        request_life: 0,
+        idle: 0,
+        session_life: 0,
+    };
+    let known = names::known();
+    orders::check(&known, numbers, extra).ok_or(Refusal::BadReply)?;
+    against(&known, numbers, extra, &reply, &asked)
+}
+
+// Checks 4 to 8 and 11, by the orders and the key of a reply.
+fn against(
+    known: &[u8],
+    numbers: Numbers,
+    extra: &[u8],
+    reply: &Reply,
+    asked: &Asked,
+) -> Result<(), Refusal>
+    requires { Known known.now × (good_extra extra.now ≡ true) }
+    ensures { AgainstIs (orders numbers extra.now) reply.now asked.now result }
+{
+    // As in judge::judged.
     let mut fields = [0u8; 210];
     let mut in_head = [0u16; 64];
     let mut in_aside = [0u16; 64];
@@ -34,55 +62,43 @@ pub fn against<'a>(
         known,
         numbers,
         extra,
-        value,
-        method,
-        head,
-        aside,
+        asked.value,
+        asked.method,
+        asked.head,
+        asked.aside,
         &mut fields,
         &mut in_head,
         &mut in_aside,
-    );
-    if read.number != 0 {
-        return read.number;
+    )?;
+    if !same_token(&read.request, &fields, reply) {
+        return Err(Refusal::NotAsOrdered);
     }
-    let request = read.request;
-    let covered = read.covered;
-    if !same_token(request, &fields, reply) {
-        return 8;
-    }
-    let key = reply.key;
-    let hash = Hash::named(request.h);
     if !vouching::signs(
         numbers,
         extra,
-        &key,
-        request,
+        &reply.key,
+        &read.request,
         &fields,
-        hash,
-        method,
-        head,
-        aside,
-        &in_head[..covered],
-        &in_aside[..covered],
-        path,
-        body,
+        Hash::named(read.request.h),
+        asked.method,
+        asked.head,
+        asked.aside,
+        &in_head[..read.covered],
+        &in_aside[..read.covered],
+        asked.path,
+        asked.body,
     ) {
-        return 11;
+        return Err(Refusal::WrongSignature);
     }
-    0
+    Ok(())
 }
 
 // Whether a request's s, iv and tag are the reply's.
-fn same_token(request: Request, fields: &[u8], reply: Reply) -> bool
-    requires { (request.s_len ≤ 118) × (length fields.now ≡ 210) × (reply.s_len ≤ 118) }
-    ensures { SameTokenIs request fields.now reply result }
+fn same_token(request: &Request, fields: &[u8], reply: &Reply) -> bool
+    requires { (request.now.s_len ≤ 118) × (length fields.now ≡ 210) }
+    ensures { SameTokenIs request.now fields.now reply.now result }
 {
-    let s_len = request.s_len;
-    let s = reply.s;
-    let len = reply.s_len;
-    let iv = reply.iv;
-    let tag = reply.tag;
     // Where they lie in the run: armor::Request.
-    cells::same(&fields[..s_len], &s[..len])
-        & (cells::same(&fields[182..194], &iv) & cells::same(&fields[194..210], &tag))
+    cells::same(&fields[..request.s_len], reply.s.as_slice())
+        & (cells::same(&fields[182..194], &reply.iv) & cells::same(&fields[194..210], &reply.tag))
 }

@@ -1,0 +1,14 @@
+// What a host lends to set up a session, each part of the right size.
+ghost use Rattle.std.specs.Prelude.{◌≤◌, length};
+
+#[derive(Clone, Copy)]
+pub struct Lent<'a> {
+    pub server_key: &'a [u8; 32],
+    pub session_key: &'a [u8; 32],
+    pub iv: &'a [u8; 12],
+    pub session_id: &'a [u8],
+    pub value: &'a [u8],
+    ghost some_id: { 1 ≤ length session_id.now },
+    ghost id_fits: { length session_id.now ≤ 64 },
+    ghost value_fits: { length value.now ≤ 4096 },
+}
