@@ -10,7 +10,7 @@ use lib.Dec.{eqb}
 use lib.ListN.{length}
 use borrow.Author.Tests.{ltb-true, eqb-true}
 use Rattle.cells.specs.Runs.{Bytes}
-use Rattle.base_64.specs.declared.Measured.{Measured}
+use Rattle.std.specs.Prelude.{Some}
 use Rattle.base_64.specs.Alphabet.{character, six_bits, pad}
 use Rattle.base_64.specs.Encoding.{group, first, second, third, fourth, encoded}
 use Rattle.base_64.specs.Decoding.{Decoding, nothing, bytes, pick, both, before, last, coded, joined, full, three, two, one, ending, decoded}
@@ -127,13 +127,13 @@ decoded_exactly text bs h = (λ e. (subst (Right text) e (right text)).0, λ e. 
 pub decoded_bytes : (text bs : List ℕ) → decoded text ≡ bytes bs → Bytes bs
 decoded_bytes text bs e = (subst (Right text) e (right text)).1
 
-sized : (text : List ℕ) (d : Decoding) (n : ℕ) → Right text d → size_of d ≡ Measured.Bytes n
+sized : (text : List ℕ) (d : Decoding) (n : ℕ) → Right text d → size_of d ≡ Some n
     → (text ≡ encoded (content d)) × Bytes (content d) × (length (content d) ≡ n)
 sized text nothing n r e = let z : ◌≡◌ {A = ℕ} 0 1 = cc in absurd (omega arith)
 sized text (bytes bs) n r e = (r.0, r.1, cc)
 
 -- the run of a text that encodes n bytes
-pub known : (text : List ℕ) (n : ℕ) → measured text ≡ Measured.Bytes n
+pub known : (text : List ℕ) (n : ℕ) → measured text ≡ Some n
     → (text ≡ encoded (content (decoded text))) × Bytes (content (decoded text)) × (length (content (decoded text)) ≡ n)
 unfolding measured
 known text n e = sized text (decoded text) n (right text) e

@@ -1,23 +1,24 @@
 -- What is laid into a buffer: the bytes of a text, and the groups of a run.
 -- Assumes nothing.
-use mathlib.Core.Path.{◌≡◌, refl, ap, ◌∙◌}
-use mathlib.Core.List.{List, [], ◌∷◌, ◌++◌, append_assoc}
-use Prim.Native.Nat.{ℕ, zero, suc, ◌+◌, ◌-◌, ◌/◌, ◌%◌, ◌<◌, ◌≤◌}
-use native.Mathlib.Nat.{zero-add, not-suc-le-zero}
+use mathlib.Core.Path.{◌≡◌, refl, sym, ap, ◌∙◌}
+use mathlib.Core.List.{List, [], ◌∷◌}
+use Prim.Native.Nat.{ℕ, zero, suc, ◌+◌, ◌/◌, ◌%◌, ◌<◌}
+use native.Mathlib.Nat.{not-suc-le-zero}
 use native.Mathlib.Omega.{arith}
 use lib.Dec.{leb, leb-suc-suc}
-use lib.ListN.{length, get_or, take, drop}
-use lib.Seq.{paste, length-take-le, take_at, drop_at, take-add, drop-drop}
+use lib.ListN.{length, get_or}
 use borrow.Author.Tests.{lt-ltb}
 use Rattle.cells.specs.Runs.{Bytes, fronted}
-use Rattle.base_64.specs.declared.Measured.{Measured}
-use Rattle.base_64.specs.declared.Decoded.{Decoded}
+use Rattle.std.specs.Prelude.{Option, Some, None, Ok, Err}
+use Rattle.base_64.specs.declared.Undecoded.TheVariants.{Bad, TooLong}
 use Rattle.base_64.specs.Alphabet.{character}
 use Rattle.base_64.specs.Encoding.{encoded}
 use Rattle.base_64.specs.Decoding.{Decoding, nothing, bytes, decoded}
 use Rattle.base_64.specs.InnerAnswers.{size_of, measured, Outcome, outcome, pick_outcome, into, decoded_into}
 use Rattle.base_64.specs.InnerSteps.{content, byte_of, character_of, byte_at}
 use Rattle.base_64.proofs.Alphabet.{six}
+use Rattle.base_64.proofs.Encoded.{length_encoded}
+use Rattle.base_64.proofs.Exactly.{known}
 use Rattle.base_64.proofs.Groups.{in_two, in_bytes}
 
 -- the bytes of a run, from its text
@@ -38,14 +39,14 @@ byte_encoded (a ∷ b ∷ c ∷ rest) (suc (suc (suc i))) h l =
     let g : suc (suc (suc i)) % 3 ≡ i % 3 = omega arith in
     rw (e, f, g) (byte_encoded rest i (λ k. h (suc (suc (suc k)))) (omega arith))
 
--- a group more of a text that is laid from the front on, as the part that was lent leaves it
-pub laid_more : (d s l left : List ℕ) (i e k : ℕ) → l ≡ paste d 0 s i → left ≡ take k (drop i s) → i + k ≡ e → i ≤ length s
-    → take i l ++ (left ++ drop (e - i) (drop i l)) ≡ paste d 0 s e
-laid_more d s l left i e k p q h hs =
-    let seam : length (take i s) ≡ i = length-take-le i s hs in
-    let size : e - i ≡ k = omega arith in
-    rw (p, q, size, zero-add i, take_at (take i s) (drop i d) i seam, drop_at (take i s) (drop i d) i seam)
-    (rw (drop-drop k i d, ← (append_assoc (take i s) _ _), ← (take-add i k s), h, zero-add e))
+-- the same of a text that encodes n bytes, which is long enough to be read there
+pub byte_known : (text : List ℕ) (n i : ℕ) → measured text ≡ Some n → i < n
+    → (byte_of text i ≡ get_or (content (decoded text)) i 0) × (i + i / 3 + 1 < length text)
+byte_known text n i e h =
+    let k = known text n e in (
+      ap (λ (l : List ℕ). byte_of l i) k.0 ∙ byte_encoded (content (decoded text)) i k.1 (omega (arith, k.2)),
+      omega (arith, ap length k.0, length_encoded (content (decoded text)), k.2),
+    )
 
 -- the characters of a text, from its run
 pub character_encoded : (bs : List ℕ) (i : ℕ) → Bytes bs → i < length (encoded bs) → character_of bs i ≡ get_or (encoded bs) i 0
@@ -76,15 +77,14 @@ character_encoded (a ∷ b ∷ c ∷ rest) (suc (suc (suc (suc i)))) h l =
     rw (e, f, g, leb-suc-suc, leb-suc-suc, leb-suc-suc) (character_encoded rest i (λ k. h (suc (suc (suc k)))) (omega arith))
 
 -- what decoding answers, by the size
-abbrev pub answer : Measured → List ℕ → List ℕ → Outcome
-answer Measured.Bad bs out = outcome Decoded.Bad out
-answer (Measured.Bytes n) bs out =
-    pick_outcome (leb n (length out)) (outcome (Decoded.Bytes n) (fronted bs out)) (outcome Decoded.TooLong out)
+abbrev pub answer : Option ℕ → List ℕ → List ℕ → Outcome
+answer None bs out = outcome (Err Bad) out
+answer (Some n) bs out = pick_outcome (leb n (length out)) (outcome (Ok n) (fronted bs out)) (outcome (Err TooLong) out)
 
 by_size : (d : Decoding) (out : List ℕ) → into d out ≡ answer (size_of d) (content d) out
 by_size nothing out = refl
 by_size (bytes bs) out = refl
 
-pub answered : (text out : List ℕ) (m : Measured) → measured text ≡ m → decoded_into text out ≡ answer m (content (decoded text)) out
+pub answered : (text out : List ℕ) (m : Option ℕ) → m ≡ measured text → answer m (content (decoded text)) out ≡ decoded_into text out
 unfolding measured decoded_into
-answered text out m e = by_size (decoded text) out ∙ ap (λ (s : Measured). answer s (content (decoded text)) out) e
+answered text out m e = ap (λ (s : Option ℕ). answer s (content (decoded text)) out) e ∙ sym (by_size (decoded text) out)

@@ -22,21 +22,22 @@ plus n (Some m) = Some (n + m)
 abbrev pub full_of : ℕ → ℕ → ℕ → ℕ → Bool
 full_of w x y z = ltb w 64 && (ltb x 64 && (ltb y 64 && ltb z 64))
 
--- whether a text is a last group, with the first values w, x and y: one of one byte, and one of two
+-- whether a last group has one byte, by its first values w and x, and two, by w, x and y
 abbrev pub one_of : List ℕ → ℕ → ℕ → Bool
-one_of text w x =
-    eqb (length text) 4 && (eqb (get_or text 3 0) pad && (eqb (get_or text 2 0) pad && (ltb w 64 && (ltb x 64 && eqb (x % 16) 0))))
+one_of group w x = eqb (get_or group 3 0) pad && (eqb (get_or group 2 0) pad && (ltb w 64 && (ltb x 64 && eqb (x % 16) 0)))
 
 abbrev pub two_of : List ℕ → ℕ → ℕ → ℕ → Bool
-two_of text w x y =
-    eqb (length text) 4 && (eqb (get_or text 3 0) pad && (not (eqb (get_or text 2 0) pad) && (ltb w 64 && (ltb x 64 && (ltb y 64 && eqb (y % 4) 0)))))
+two_of group w x y =
+    eqb (get_or group 3 0) pad && (not (eqb (get_or group 2 0) pad) && (ltb w 64 && (ltb x 64 && (ltb y 64 && eqb (y % 4) 0))))
 
--- how many bytes the first group of a text has, by its values, and 0 where it is none
-abbrev pub size_of_group : List ℕ → ℕ → ℕ → ℕ → ℕ → ℕ
-size_of_group text w x y z = cond (full_of w x y z) 3 (cond (one_of text w x) 1 (cond (two_of text w x y) 2 0))
+-- how many bytes a group has, by its values, if it is one that stands last, or before others
+abbrev pub size_of_group : List ℕ → Bool → ℕ → ℕ → ℕ → ℕ → Option ℕ
+size_of_group group last w x y z =
+    cond (full_of w x y z) (Some 3) (cond (last && one_of group w x) (Some 1) (cond (last && two_of group w x y) (Some 2) None))
 
-abbrev pub size_first : List ℕ → ℕ
-size_first text = size_of_group text (six_bits (get_or text 0 0)) (six_bits (get_or text 1 0)) (six_bits (get_or text 2 0)) (six_bits (get_or text 3 0))
+abbrev pub size_first : List ℕ → Bool → Option ℕ
+size_first group last =
+    size_of_group group last (six_bits (get_or group 0 0)) (six_bits (get_or group 1 0)) (six_bits (get_or group 2 0)) (six_bits (get_or group 3 0))
 
 -- byte k of a group, from the two values that hold it; and byte i of what a text encodes
 abbrev pub eight_of : ℕ → ℕ → ℕ → ℕ

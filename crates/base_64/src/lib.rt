@@ -27,61 +27,52 @@ fn full(w: u8, x: u8, y: u8, z: u8) -> bool
     (w < 64) & ((x < 64) & ((y < 64) & (z < 64)))
 }
 
-// Whether a text is a last group with one byte, whose second character has four spare bits.
-fn one(text: &[u8], w: u8, x: u8) -> bool
-    requires { 4 ≤ length text.now }
-    ensures { result ≡ one_of text.now w x }
+// Whether a last group has one byte, whose second character has four spare bits.
+fn one(group: &[u8; 4], w: u8, x: u8) -> bool
+    ensures { result ≡ one_of group.now w x }
 {
-    (text.len() == 4)
-        & ((text[3] == b'=') & ((text[2] == b'=') & ((w < 64) & ((x < 64) & (x % 16 == 0)))))
+    (group[3] == b'=') & ((group[2] == b'=') & ((w < 64) & ((x < 64) & (x % 16 == 0))))
 }
 
-// Whether a text is a last group with two bytes, whose third character has two spare bits.
-fn two(text: &[u8], w: u8, x: u8, y: u8) -> bool
-    requires { 4 ≤ length text.now }
-    ensures { result ≡ two_of text.now w x y }
+// Whether a last group has two bytes, whose third character has two spare bits.
+fn two(group: &[u8; 4], w: u8, x: u8, y: u8) -> bool
+    ensures { result ≡ two_of group.now w x y }
 {
-    (text.len() == 4)
-        & ((text[3] == b'=')
-            & ((text[2] != b'=') & ((w < 64) & ((x < 64) & ((y < 64) & (y % 4 == 0))))))
+    (group[3] == b'=') & ((group[2] != b'=') & ((w < 64) & ((x < 64) & ((y < 64) & (y % 4 == 0)))))
 }
 
-// How many bytes the first group of a text has, which are fewer than three only where nothing follows it; 0 where it is none.
-fn group_size(table: &[u8; 256], text: &[u8]) -> usize
-    requires { Lists six_bits 256 table.now × (4 ≤ length text.now) }
-    ensures { (result ≡ size_first text.now) × (result ≤ 3) }
+// How many bytes a group has, which are fewer than three only in the last one.
+fn group_size(table: &[u8; 256], group: &[u8; 4], last: bool) -> Option<usize>
+    requires { Lists six_bits 256 table.now }
+    ensures { result ≡ size_first group.now last }
 {
-    let w = six_bits(table, text, 0);
-    let x = six_bits(table, text, 1);
-    let y = six_bits(table, text, 2);
-    let z = six_bits(table, text, 3);
+    let w = six_bits(table, group[0]);
+    let x = six_bits(table, group[1]);
+    let y = six_bits(table, group[2]);
+    let z = six_bits(table, group[3]);
     if full(w, x, y, z) {
-        return 3;
+        return Some(3);
     }
-    if one(text, w, x) {
-        return 1;
+    if last & one(group, w, x) {
+        return Some(1);
     }
-    if two(text, w, x, y) {
-        return 2;
+    if last & two(group, w, x, y) {
+        return Some(2);
     }
-    0
+    None
 }
 
 fn size(table: &[u8; 256], text: &[u8]) -> Option<usize>
     requires { Lists six_bits 256 table.now }
     ensures { result ≡ measured text.now }
 {
-    let mut at = 0;
+    let mut left = text;
     let mut n = 0;
-    while at + 4 <= text.len() {
-        let k = group_size(table, &text[at..]);
-        if k == 0 {
-            return None;
-        }
-        n += k;
-        at += 4;
+    while let Some((group, rest)) = left.split_first_chunk::<4>() {
+        n += group_size(table, group, rest.is_empty())?;
+        left = rest;
     }
-    if at != text.len() {
+    if !left.is_empty() {
         return None;
     }
     Some(n)
@@ -110,21 +101,19 @@ fn byte(table: &[u8; 256], text: &[u8], i: usize) -> u8
 {
     let at = i + i / 3;
     eight(
-        six_bits(table, text, at),
-        six_bits(table, text, at + 1),
+        six_bits(table, text[at]),
+        six_bits(table, text[at + 1]),
         i % 3,
     )
 }
 
-// The bytes of a text that encodes n of them.
-fn fill(table: &[u8; 256], text: &[u8], n: usize, out: &mut [u8])
-    requires { Lists six_bits 256 table.now × (measured text.now ≡ Some n) × (n ≤ length out.old) }
-    ensures { out.new ≡ fronted (content (decoded text.now)) out.old }
+// The bytes of a text that encodes as many as the buffer holds.
+fn fill(table: &[u8; 256], text: &[u8], out: &mut [u8])
+    requires { Lists six_bits 256 table.now × (measured text.now ≡ Some (length out.old)) }
+    ensures { out.new ≡ content (decoded text.now) }
 {
-    let mut i = 0;
-    while i < n {
-        out[i] = byte(table, text, i);
-        i += 1;
+    for (i, b) in out.iter_mut().enumerate() {
+        *b = byte(table, text, i);
     }
 }
 
@@ -137,7 +126,7 @@ pub fn decode(text: &[u8], out: &mut [u8]) -> Result<usize, Undecoded>
     if out.len() < n {
         return Err(Undecoded::TooLong);
     }
-    fill(&table, text, n, out);
+    fill(&table, text, &mut out[..n]);
     Ok(n)
 }
 
@@ -146,12 +135,18 @@ pub fn encode(bytes: &[u8], out: &mut [u8]) -> usize
     requires { 4 * ((length bytes.now + 2) / 3) ≤ length out.old }
     ensures { (result ≡ length (encoded bytes.now)) × (out.new ≡ fronted (encoded bytes.now) out.old) }
 {
-    let table = alphabet();
     let n = (bytes.len() + 2) / 3 * 4;
-    let mut i = 0;
-    while i < n {
-        out[i] = character(&table, bytes, i);
-        i += 1;
-    }
+    spell(bytes, &mut out[..n]);
     n
+}
+
+// The text of a byte run, in a buffer of its length.
+fn spell(bytes: &[u8], out: &mut [u8])
+    requires { length out.old ≡ length (encoded bytes.now) }
+    ensures { out.new ≡ encoded bytes.now }
+{
+    let table = alphabet();
+    for (i, b) in out.iter_mut().enumerate() {
+        *b = character(&table, bytes, i);
+    }
 }

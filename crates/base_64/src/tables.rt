@@ -39,22 +39,12 @@ pub fn reverse() -> [u8; 256]
     REVERSE
 }
 
-// The six-bit value of byte i of a text, and 64 where that is no character.
-pub fn six_bits(table: &[u8; 256], text: &[u8], i: usize) -> u8
-    requires { Lists six_bits 256 table.now × (i < length text.now) }
-    ensures { result ≡ six_bits (get_or text.now i 0) }
+// The six-bit value of a character, and 64 for a byte that is none.
+pub fn six_bits(table: &[u8; 256], c: u8) -> u8
+    requires { Lists six_bits 256 table.now }
+    ensures { result ≡ six_bits c }
 {
-    table[text[i] as usize]
-}
-
-// The byte of a run at an index, and 0 past its end.
-fn byte_at(bytes: &[u8], i: usize) -> u8
-    ensures { result ≡ get_or bytes.now i 0 }
-{
-    if i < bytes.len() {
-        return bytes[i];
-    }
-    0
+    table[usize::from(c)]
 }
 
 // Six bits of two bytes in a row: those of character k of a group.
@@ -71,8 +61,9 @@ pub fn character(table: &[u8; 64], bytes: &[u8], i: usize) -> u8
     ensures { result ≡ character_of bytes.now i }
 {
     let at = i / 4 * 3 + 3 * (i % 4) / 4;
-    if at >= bytes.len() {
+    let Some(first) = bytes.get(at) else {
         return b'=';
-    }
-    table[six(byte_at(bytes, at), byte_at(bytes, at + 1), i % 4) as usize]
+    };
+    let second = bytes.get(at + 1).copied().unwrap_or(0);
+    table[six(*first, second, i % 4) as usize]
 }
