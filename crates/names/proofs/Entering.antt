@@ -1,22 +1,26 @@
 -- One name more on a sheet, and so the names of a run, one after the other.
 -- Assumes nothing.
-use mathlib.Core.Path.{◌≡◌, sym, ap, ◌∙◌}
+use mathlib.Core.Path.{◌≡◌, refl, sym, ap, ◌∙◌}
 use mathlib.Core.List.{List, [], ◌∷◌, ◌++◌, append-nil}
-use mathlib.Core.Bool.{cond}
-use Prim.Native.Nat.{ℕ, suc, ◌+◌, ◌≤◌, ◌<◌}
+use mathlib.Core.Bool.{Bool, true, false, cond}
+use Prim.Native.Nat.{ℕ, suc, ◌+◌, ◌-◌, ◌≤◌, ◌<◌}
 use native.Mathlib.Numerals.{add-one}
+use native.Mathlib.Decide.{dec_lt}
 use native.Mathlib.Omega.{arith}
 use borrow.Author.Count.{below_more}
 use borrow.Author.Tests.{eqb-true, eqb-false}
 use lib.Dec.{eqb}
-use lib.ListN.{length, get_or, set, length-set, length-append, get_or-append}
+use lib.ListN.{length, get_or, set, drop, length-set, length-append, length-drop, get_or-append}
 use lib.Seq.{get_or-append_seam, get_or-set_same, get_or-set_other, append_snoc}
-use Rattle.cells.specs.Spans.{Spans}
+use Rattle.cells.specs.Spans.{leading, Spans}
 use Rattle.cells.specs.Runs.{cut}
 use Rattle.cells.proofs.Tests.{tested}
-use Rattle.names.specs.InnerWalk.{no_comma}
+use Rattle.names.specs.Extra.{extra_names}
+use Rattle.names.specs.InnerWalk.{no_comma, names_from}
 use Rattle.names.specs.InnerSheet.{key_of, latest, named, Start, Sheet, Enters, with_name}
+use Rattle.cells.proofs.Cuts.{length_cut}
 use Rattle.names.proofs.Starts.{name_cut}
+use Rattle.names.proofs.Walk.{names_start, names_first, names_past, extra_none, extra_some}
 use Rattle.names.proofs.Latest.{latest_append}
 
 -- the sheet after the first store, and after the second
@@ -109,14 +113,72 @@ module _ (known extra sheet : List ℕ) (ns : List (List ℕ)) (n : List ℕ) (s
             (λ j h. rw (before j h, old_name j h) (on.names j h)) (rw (there, new_name) is);
       }
 
+-- names of a run, of which the first starts at start, base and on; past the run's end there are none
+pub record ComeTo (run : List ℕ) (left : List (List ℕ)) (base start : ℕ) : Type 0 where
+  pub from : base ≤ start
+  pub within : start ≤ base + length run + 1
+  pub inside : 1 ≤ length left → start ≤ base + length run
+  pub are : 1 ≤ length left → left ≡ names_from run (start - base)
+
+pub come_first : (run : List ℕ) (base : ℕ) → ComeTo run (extra_names run) base base
+come_first run base =
+    let at : base - base ≡ 0 = omega arith in
+    record {
+      from = omega arith;
+      within = omega arith;
+      inside = λ h. omega arith;
+      are = λ h. rw at (extra_some run (λ e. let none = extra_none run e in omega (arith, ap length none)) ∙ sym (names_start run));
+    }
+
+leading_few : (p : ℕ → Bool) (xs : List ℕ) → leading p xs ≤ length xs
+unfolding leading
+leading_few p [] = omega arith
+leading_few p (x ∷ xs) = elim (p x) as (λ (t : Bool). cond t (suc (leading p xs)) 0 ≤ suc (length xs)) [ true ↦ omega (arith, leading_few p xs) | false ↦ omega arith ]
+
+-- the first name that is left is what stands from its start up to the next comma, and the others come after that
+module _ (run : List ℕ) (n : List ℕ) (left : List (List ℕ)) (base start : ℕ) (c : ComeTo run (n ∷ left) base start) where
+  -- where it ends
+  abbrev pub come_end : ℕ
+  come_end = (start - base) + leading no_comma (drop (start - base) run)
+
+  pub come_ends : Spans no_comma run (start - base) come_end
+  come_ends = record { is = refl; within = omega (arith, c.inside (omega arith), leading_few no_comma (drop (start - base) run), length-drop (start - base) run) }
+
+  parts : n ∷ left ≡ cut run (start - base) come_end ∷ names_from run (come_end + 1)
+  parts = c.are (omega arith) ∙ names_first run (start - base) come_end (omega (arith, c.inside (omega arith), c.from)) come_ends
+
+  pub come_name : n ≡ cut run (start - base) come_end
+  come_name = let both = parts in cc
+
+  come_left : left ≡ names_from run (come_end + 1)
+  come_left = let both = parts in cc
+
+  come_size : start + (length n + 1) ≡ base + (come_end + 1)
+  come_size = omega (arith, c.from, ap length come_name, length_cut run (start - base) come_end (come_ends.within))
+
+  pub come_on : ComeTo run left base (start + (length n + 1))
+  come_on =
+      let at : start + (length n + 1) - base ≡ come_end + 1 = omega (arith, come_size) in
+      record {
+        from = omega (arith, c.from);
+        within = omega (arith, come_size, come_ends.within);
+        inside = λ h. elim (dec_lt (length run) (come_end + 1)) [
+          | yes past ↦ absurd (omega (arith, ap length (come_left ∙ names_past run (come_end + 1) past)))
+          | no not_past ↦ omega (arith, come_size)
+        ];
+        are = λ h. rw at come_left;
+      }
+
 -- what enters the others once the first is put on the sheet enters all
-pub enters_then : (run : List ℕ) (start end base count k : ℕ) (more : List (List ℕ)) (sheet put after : List ℕ) → Spans no_comma run start end
-    → (k ≡ key_of (cut run start end)) × (k < 64) → count < 64 → put ≡ with_name sheet k count (base + start)
-    → Enters run more base (count + 1) put after → Enters run (cut run start end ∷ more) base count sheet after
-enters_then run start end base count k more sheet put after ends key room is rest known extra ns from e on =
-    let n = cut run start end in
-    let starts = from start (omega (arith, ends.is, ends.within)) in
-    let one = name_put known extra sheet ns n (base + start) on (omega arith) (omega arith) starts.0 (starts.1 ∙ sym (name_cut run start end ends)) in
+pub enters_then : (run n : List ℕ) (left more : List (List ℕ)) (base start count k : ℕ) (sheet put after : List ℕ) → ComeTo run (n ∷ left) base start
+    → (k ≡ key_of n) × (k < 64) → count < 64 → put ≡ with_name sheet k count start → Enters run more base (count + 1) put after
+    → Enters run (n ∷ more) base count sheet after
+enters_then run n left more base start count k sheet put after c key room is rest known extra ns from e on =
+    let ends = come_ends run n left base start c in
+    let starts = from (start - base) (omega (arith, ends.is, ends.within)) in
+    let there : base + (start - base) ≡ start = omega (arith, c.from) in
+    let is_named : named known extra (base + (start - base)) ≡ n = starts.1 ∙ sym (name_cut run (start - base) _ ends) ∙ sym (come_name run n left base start c) in
+    let one = name_put known extra sheet ns n start on (omega arith) (omega arith) (rw there at starts.0) (rw there at is_named) in
     rw append_snoc at (rest known extra (ns ++ (n ∷ [])) from (omega (arith, length-append ns (n ∷ []))) (rw (is, key.0, e) one))
 
 pub enters_none : (run : List ℕ) (base count : ℕ) (sheet : List ℕ) → Enters run [] base count sheet sheet

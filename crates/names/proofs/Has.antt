@@ -9,6 +9,7 @@ use Prim.Native.Nat.{ℕ, zero, suc, ◌/◌, ◌%◌, ◌<◌}
 use native.Mathlib.Omega.{arith}
 use lib.Dec.{eqb}
 use lib.ListN.{length, get_or}
+use Rattle.std.specs.List.{list_any}
 use Rattle.cells.proofs.Tests.{tested, both}
 use Rattle.names.specs.Names.{same_name, has_name}
 use Rattle.names.specs.Covered.{chosen_first, chosen}
@@ -17,6 +18,11 @@ use Rattle.names.proofs.Same.{same_right, same_itself}
 pub neither : (a b : Bool) → (a || b) ≡ false → (a ≡ false) × (b ≡ false)
 neither true b e = absurd (false≢true (sym e))
 neither false b e = (refl, e)
+
+pub has_any : (ns : List (List ℕ)) (name : List ℕ) → list_any (λ n. same_name n name) ns ≡ has_name ns name
+unfolding has_name
+has_any [] name = refl
+has_any (n ∷ ns) name = rw (has_any ns name) refl
 
 pub has_same : (ns : List (List ℕ)) (a b : List ℕ) → same_name a b ≡ true → has_name ns a ≡ has_name ns b
 unfolding has_name

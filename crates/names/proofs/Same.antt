@@ -2,38 +2,17 @@
 -- Assumes nothing.
 use mathlib.Core.Path.{◌≡◌, refl, sym, ap, ◌∙◌}
 use mathlib.Core.List.{List, [], ◌∷◌, map}
-use mathlib.Core.Bool.{Bool, true, false, ◌&&◌, and_comm}
-use Prim.Native.Nat.{ℕ, suc, ◌+◌, ◌<◌}
-use native.Mathlib.Numerals.{add-one}
+use mathlib.Core.Bool.{Bool, true, false, false≢true, and_comm}
+use Prim.Native.Nat.{ℕ}
 use native.Mathlib.Omega.{arith}
-use lib.Dec.{eqb}
-use lib.ListN.{length, get_or, drop, drop_of_length-le}
-use lib.Seq.{drop-cons}
+use borrow.Author.Tests.{ltb-true, ltb-false, le-leb, lt-leb}
+use lib.Dec.{eqb, leb, ltb}
+use Rattle.std.specs.Prelude.{IsTrue, ◌↔◌}
+use Rattle.std.specs.Char.{to_ascii_lowercase}
 use Rattle.cells.specs.Runs.{same}
 use Rattle.cells.proofs.Equality.{same_equal, same_self, same_comm}
+use Rattle.cells.proofs.Tests.{tested}
 use Rattle.names.specs.Names.{lower, same_name}
-
--- names of two lengths are not the same
-pub other_length : (a b : List ℕ) → (length a ≡ length b → ⊥) → same_name a b ≡ false
-unfolding same_name
-other_length [] [] h = absurd (h refl)
-other_length [] (y ∷ ys) h = refl
-other_length (x ∷ xs) [] h = refl
-other_length (x ∷ xs) (y ∷ ys) h = go (eqb (lower x) (lower y)) (other_length xs ys (λ e. h (ap suc e)))
-  where
-    go : (t : Bool) → same_name xs ys ≡ false → (t && same_name xs ys) ≡ false
-    go true e = e
-    go false e = refl
-
--- the names are the same from index i on, if the bytes there are and the names from the next index on
-pub same_from : (a b : List ℕ) (i : ℕ) → i < length a → i < length b
-    → same_name (drop i a) (drop i b) ≡ (eqb (lower (get_or a i 0)) (lower (get_or b i 0)) && same_name (drop (i + 1) a) (drop (i + 1) b))
-unfolding same_name
-same_from a b i h k = rw (add-one, drop-cons a i 0 h, drop-cons b i 0 k)
-
-pub same_end : (a b : List ℕ) (i : ℕ) → length a ≡ i → length b ≡ i → same_name (drop i a) (drop i b) ≡ true
-unfolding same_name
-same_end a b i h k = rw (drop_of_length-le a {i = i} (omega arith), drop_of_length-le b {i = i} (omega arith))
 
 -- names are the same exactly if their bytes are, once in lower case
 pub same_lowered : (a b : List ℕ) → same_name a b ≡ same (map lower a) (map lower b)
@@ -58,3 +37,22 @@ same_itself a = same_lowered a a ∙ same_self (map lower a)
 
 pub same_turned : (a b : List ℕ) → same_name a b ≡ same_name b a
 same_turned a b = same_lowered a b ∙ same_comm (map lower a) (map lower b) ∙ sym (same_lowered b a)
+
+-- std's lower case is the same
+pub lower_is : (b : ℕ) → to_ascii_lowercase b ≡ lower b
+unfolding lower
+lower_is b =
+    tested (ltb b 65) (λ t. rw (t, lt-leb 65 b (ltb-true b 65 t)) refl)
+    (λ t. tested (ltb b 91)
+    (λ u. let low : leb b 90 ≡ true = le-leb b 90 (omega (arith, ltb-true b 91 u)) in rw (t, u, le-leb 65 b (ltb-false b 65 t), low) refl)
+    (λ u. let high : leb b 90 ≡ false = lt-leb b 90 (omega (arith, ltb-false b 91 u)) in rw (t, u, le-leb 65 b (ltb-false b 65 t), high) refl))
+
+all_lower : (a : List ℕ) → map to_ascii_lowercase a ≡ map lower a
+all_lower [] = refl
+all_lower (b ∷ bs) = rw (lower_is b, all_lower bs) refl
+
+-- and so is its comparison
+pub same_ignoring : (r : Bool) (a b : List ℕ) → (IsTrue r ↔ (map to_ascii_lowercase a ≡ map to_ascii_lowercase b)) → r ≡ same_name a b
+same_ignoring r a b h =
+    tested (same_name a b) (λ e. rw e (h.1 (all_lower a ∙ lowered_equal a b e ∙ sym (all_lower b))))
+    (λ e. rw e (tested r (λ t. absurd (false≢true (sym e ∙ same_lowered a b ∙ rw (sym (all_lower a) ∙ h.0 t ∙ all_lower b) (same_self (map lower b))))) (λ t. t)))

@@ -10,7 +10,7 @@ use lib.Dec.{eqb, ltb}
 use lib.ListN.{length, get_or, length-map}
 use Rattle.cells.proofs.Tests.{tested, both}
 use Rattle.names.specs.Names.{lower, same_name}
-use Rattle.names.specs.InnerSheet.{key_of, latest, named, Start, Sheet, NumberIs}
+use Rattle.names.specs.InnerSheet.{key_of, latest, named, Start, Sheet, BearsNumber}
 use Rattle.names.proofs.Same.{lowered_equal}
 use Rattle.names.proofs.Latest.{latest_few, latest_key, latest_skips}
 
@@ -27,11 +27,11 @@ same_key (x ∷ xs) (y ∷ ys) e =
 other_key_lem : (a b : List ℕ) → (key_of b ≡ key_of a → ⊥) → same_name a b ≡ false
 other_key_lem a b h = tested (same_name a b) (λ e. absurd (h (sym (same_key a b e)))) (λ e. e)
 
--- the search has come to a number: a name that it passed is not the one sought, and the next one has its key
-pub record Sought (ns : List (List ℕ)) (name : List ℕ) (number : ℕ) : Type 0 where
-  pub within : number ≤ length ns
-  pub passed : (j : ℕ) → number ≤ j → j < length ns → same_name name (get_or ns j []) ≡ false
-  pub key : 1 ≤ number → key_of (get_or ns (number - 1) []) ≡ key_of name
+-- the search has come to an entry, 1 more than a name's number: a name that it passed is not the one sought, and the next one has its key
+pub record Sought (ns : List (List ℕ)) (name : List ℕ) (entry : ℕ) : Type 0 where
+  pub within : entry ≤ length ns
+  pub passed : (j : ℕ) → entry ≤ j → j < length ns → same_name name (get_or ns j []) ≡ false
+  pub key : 1 ≤ entry → key_of (get_or ns (entry - 1) []) ≡ key_of name
 
 -- among the first i names, once the others are passed
 sought_below : (ns : List (List ℕ)) (name : List ℕ) (i : ℕ) → i ≤ length ns → ((j : ℕ) → i ≤ j → j < length ns → same_name name (get_or ns j []) ≡ false)
@@ -49,34 +49,29 @@ pub sought_first : {known extra sheet : List ℕ} {ns : List (List ℕ)} (name :
     → Sought ns name (get_or sheet k 0)
 sought_first {ns} name {k} on h = rw (on.heads k h.1, h.0) (sought_below ns name (length ns) (omega arith) (λ j l r. absurd (omega arith)))
 
-pub sought_none : {ns : List (List ℕ)} {name : List ℕ} → Sought ns name 0 → NumberIs ns name 0
-sought_none s = record { within = omega arith; bears = λ h. absurd (omega arith); none = λ e i. s.passed i (omega arith) }
+pub sought_none : {ns : List (List ℕ)} {name : List ℕ} → Sought ns name 0 → (i : ℕ) → i < length ns → same_name name (get_or ns i []) ≡ false
+sought_none s i = s.passed i (omega arith)
 
 -- what the sheet says of the name that the search has come to
-module _ {known extra sheet : List ℕ} {ns : List (List ℕ)} (on : Sheet known extra sheet ns) {name : List ℕ} {number : ℕ} (s : Sought ns name number)
-    (some : 1 ≤ number) where
-  start_is : get_or sheet (127 + number) 0 ≡ get_or sheet (128 + (number - 1)) 0
-  start_is = ap (λ (i : ℕ). get_or sheet i 0) (omega arith)
+module _ {known extra sheet : List ℕ} {ns : List (List ℕ)} (on : Sheet known extra sheet ns) {name : List ℕ} {entry : ℕ} (s : Sought ns name entry)
+    (some : 1 ≤ entry) where
+  pub sought_start : Start known extra (get_or sheet (128 + (entry - 1)) 0)
+  sought_start = on.starts (entry - 1) (omega (arith, s.within))
 
-  pub sought_start : Start known extra (get_or sheet (127 + number) 0)
-  sought_start = rw start_is (on.starts (number - 1) (omega (arith, s.within)))
+  bears_is : same_name name (named known extra (get_or sheet (128 + (entry - 1)) 0)) ≡ same_name name (get_or ns (entry - 1) [])
+  bears_is = rw (on.names (entry - 1) (omega (arith, s.within)))
 
-  bears_is : same_name name (named known extra (get_or sheet (127 + number) 0)) ≡ same_name name (get_or ns (number - 1) [])
-  bears_is = rw (start_is, on.names (number - 1) (omega (arith, s.within)))
+  pub sought_found : same_name name (named known extra (get_or sheet (128 + (entry - 1)) 0)) ≡ true → BearsNumber ns name (entry - 1)
+  sought_found e = record { within = omega (arith, s.within); bears = sym bears_is ∙ e }
 
-  pub sought_found : same_name name (named known extra (get_or sheet (127 + number) 0)) ≡ true → NumberIs ns name number
-  sought_found e = record { within = s.within; bears = λ h. sym bears_is ∙ e; none = λ e. absurd (omega arith) }
+  link_is : get_or sheet (64 + (entry - 1)) 0 ≡ latest ns (key_of name) (entry - 1)
+  link_is = on.links (entry - 1) (omega (arith, s.within)) ∙ ap (λ (k : ℕ). latest ns k (entry - 1)) (s.key some)
 
-  link_is : get_or sheet (63 + number) 0 ≡ latest ns (key_of name) (number - 1)
-  link_is =
-      ap (λ (i : ℕ). get_or sheet i 0) (omega arith) ∙ on.links (number - 1) (omega (arith, s.within))
-      ∙ ap (λ (k : ℕ). latest ns k (number - 1)) (s.key some)
+  pub sought_less : get_or sheet (64 + (entry - 1)) 0 < entry
+  sought_less = omega (arith, link_is, latest_few ns (key_of name) (entry - 1))
 
-  pub sought_less : get_or sheet (63 + number) 0 < number
-  sought_less = omega (arith, link_is, latest_few ns (key_of name) (number - 1))
-
-  pub sought_next : same_name name (named known extra (get_or sheet (127 + number) 0)) ≡ false → Sought ns name (get_or sheet (63 + number) 0)
+  pub sought_next : same_name name (named known extra (get_or sheet (128 + (entry - 1)) 0)) ≡ false → Sought ns name (get_or sheet (64 + (entry - 1)) 0)
   sought_next e =
-      rw link_is (sought_below ns name (number - 1) (omega (arith, s.within)) (λ j l r.
-      tested (eqb j (number - 1)) (λ t. rw (eqb-true j (number - 1) t) (sym bears_is ∙ e))
-      (λ t. let other = eqb-false j (number - 1) t in s.passed j (omega arith) r)))
+      rw link_is (sought_below ns name (entry - 1) (omega (arith, s.within)) (λ j l r.
+      tested (eqb j (entry - 1)) (λ t. rw (eqb-true j (entry - 1) t) (sym bears_is ∙ e))
+      (λ t. let other = eqb-false j (entry - 1) t in s.passed j (omega arith) r)))

@@ -9,12 +9,20 @@ use native.Mathlib.Omega.{arith}
 use borrow.Author.Tests.{le-leb, lt-leb, eq-eqb}
 use lib.Dec.{eqb, leb-suc-suc}
 use lib.Pow.{pow_pos}
-use lib.ListN.{length, take, drop}
+use lib.ListN.{length, take, drop, length-drop}
+use lib.Seq.{take_all}
+use denote.Ref.{Bor}
+use mathlib.Core.Logic.{◌⊎◌, ⊎_elim}
+use Rattle.std.specs.Option.{MatchOption}
+use Rattle.std.specs.List.{slice_range}
+use Rattle.std.specs.Prelude.{Option, Some, None}
 use Rattle.cells.specs.Spans.{leading, Spans}
 use Rattle.cells.specs.Runs.{cut}
+use Rattle.names.specs.Names.{header_names}
 use Rattle.names.specs.Extra.{comma, onto_first, names_in, extra_names}
 use Rattle.names.specs.Covered.{chosen, covered_names}
-use Rattle.names.specs.InnerWalk.{Known, no_comma, names_from}
+use Rattle.names.specs.InnerWalk.{Known, no_comma, names_from, left_of}
+use Rattle.names.proofs.Sizes.{no_more, known_names}
 
 pub names_start : (run : List ℕ) → names_from run 0 ≡ names_in run
 unfolding names_from
@@ -57,16 +65,20 @@ names_first run at end h s =
     names_within run at h ∙ names_in_first (drop at run)
     ∙ ap₂ ◌∷◌ (ap (λ (n : ℕ). take n (drop at run)) size) (names_drop run at (suc k) h ∙ ap (names_from run) (omega (arith, s.is)))
 
--- an invariant of the loops over names: f of those from index at on is the value sought
-pub record Reached {A : Type 0} (value : A) (f : List (List ℕ) → A) (run : List ℕ) (at : ℕ) : Type 0 where
-  pub is : value ≡ f (names_from run at)
+-- what std's `get` gives of a run from index at on holds its names from there on
+pub left_from : (run : List ℕ) (at : ℕ) (r : Option (Bor (List ℕ)))
+    → MatchOption r ((length run < at) ⊎ (length run < length run)) (λ x. (at ≤ length run) × (length run ≤ length run) × (x.now ≡ slice_range run at (length run)) × (length x.now + at ≡ length run))
+    → left_of r ≡ names_from run at
+left_from run at None h =
+    let past : length run < at = ⊎_elim (λ l. l) (λ l. absurd (omega arith)) h in sym (names_past run at past)
+left_from run at (Some x) h =
+    ap names_in (h.2 ∙ take_all (length run - at) (drop at run) (omega (arith, length-drop at run))) ∙ sym (names_within run at h.0)
 
-module _ {A : Type 0} {value : A} {f : List (List ℕ) → A} {run : List ℕ} {at : ℕ} (s : Reached value f run at) where
-  pub reached_first : {end : ℕ} → at ≤ length run → Spans no_comma run at end → value ≡ f (cut run at end ∷ names_from run (end + 1))
-  reached_first {end} h e = s.is ∙ ap f (names_first run at end h e)
-
-  pub reached_end : length run < at → value ≡ f []
-  reached_end h = s.is ∙ ap f (names_past run at h)
+-- the names that are left are the first and those after the next comma
+pub left_first : (rest : List ℕ) (end : ℕ) → Spans no_comma rest 0 end → names_in rest ≡ take end rest ∷ names_from rest (end + 1)
+left_first rest end s =
+    let size : end - 0 ≡ end = omega arith in
+    sym (names_start rest) ∙ names_first rest 0 end (omega arith) s ∙ ap (λ (n : ℕ). take n rest ∷ names_from rest (end + 1)) size
 
 pub chosen_set : (bits : ℕ) (n : List ℕ) (ns : List (List ℕ)) → eqb (bits % 2) 1 ≡ true → chosen bits (n ∷ ns) ≡ n ∷ chosen (bits / 2) ns
 unfolding chosen
@@ -107,8 +119,12 @@ unfolding extra_names
 extra_some [] h = absurd (h refl)
 extra_some (b ∷ bs) h = refl
 
+-- a run of some bytes joins the known names, if its commas part it so
+pub known_extra : (known : List ℕ) → Known known → extra_names known ≡ header_names
+known_extra known h = extra_some known (λ e. omega (arith, no_more known, ap length h, known_names)) ∙ h
+
 -- the covered names, for a caller that goes through the known ones and then through the extra ones
 pub covered_names_lem : (mask : ℕ) (extra known : List ℕ) → Known known
-    → covered_names mask extra ≡ chosen (mask / 2) (names_from known 0) ++ extra_names extra
+    → covered_names mask extra ≡ chosen (mask / 2) (extra_names known) ++ extra_names extra
 unfolding covered_names
-covered_names_lem mask extra known h = ap (λ (ns : List (List ℕ)). chosen (mask / 2) ns ++ extra_names extra) (sym (names_start known ∙ h))
+covered_names_lem mask extra known h = ap (λ (ns : List (List ℕ)). chosen (mask / 2) ns ++ extra_names extra) (sym (known_extra known h))

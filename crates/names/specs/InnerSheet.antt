@@ -1,7 +1,7 @@
 -- A sheet on which names are entered under keys, so that a name's number is found without going through all of them: how the code's contracts
 -- say it. Names are numbered from 0 on in their order; the sheet writes 1 more than a number, and 0 for none.
 -- Assumes nothing.
-use Rattle.std.specs.Prelude.{ℕ, zero, suc, ◌+◌, ◌*◌, ◌-◌, ◌%◌, ◌≤◌, ◌<◌, ◌≡◌, List, [], ◌∷◌, ◌++◌, true, false, cond, length, get_or, set, take, drop, eqb, ltb, Option, None, Some}
+use Rattle.std.specs.Prelude.{ℕ, zero, suc, ◌+◌, ◌*◌, ◌%◌, ◌≤◌, ◌<◌, ◌≡◌, List, [], ◌∷◌, ◌++◌, true, false, cond, length, get_or, set, take, drop, eqb, ltb, Option, None, Some}
 use Rattle.cells.specs.Spans.{leading}
 use Rattle.names.specs.Names.{lower, same_name}
 use Rattle.names.specs.InnerWalk.{no_comma}

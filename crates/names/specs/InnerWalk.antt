@@ -1,13 +1,10 @@
 -- Going through the names of a run, one after the other: how the code's contracts say it.
 -- Assumes nothing.
-use Rattle.std.specs.Prelude.{ℕ, ◌+◌, ◌≤◌, ◌≡◌, List, [], ◌∷◌, Bool, not, cond, length, drop, leb, eqb}
-use Rattle.cells.specs.Spans.{Spans}
-use Rattle.cells.specs.Runs.{cut}
+use denote.Ref.{Bor}
+use Rattle.std.specs.Prelude.{ℕ, ◌≡◌, List, [], Bool, not, cond, length, drop, leb, eqb, Option, None, Some}
 use Rattle.names.specs.Names.{header_names}
 use Rattle.names.specs.Extra.{comma, names_in}
-use Rattle.names.specs.Covered.{chosen}
-use Rattle.names.specs.declared.Next.{Next}
-use Rattle.names.specs.declared.Next.TheVariants.{Name, End}
+use Rattle.names.specs.declared.each.Names.{Names}
 
 -- the 55 names, joined by commas
 abbrev pub Known : List ℕ → Type 0
@@ -20,12 +17,10 @@ no_comma b = not (eqb b comma)
 unfoldable pub names_from : List ℕ → ℕ → List (List ℕ)
 names_from run at = cond (leb at (length run)) (names_in (drop at run)) []
 
--- the first chosen name stands from start up to end, where a comma or the run's end is, and the others come after it
-pub record FirstName (run : List ℕ) (wanted at start end left : ℕ) : Type 0 where
-  pub from : at ≤ start
-  pub ends : Spans no_comma run start end
-  pub names : chosen wanted (names_from run at) ≡ cut run start end ∷ chosen left (names_from run (end + 1))
+-- the names that are left of a run
+abbrev pub left_of : Option (Bor (List ℕ)) → List (List ℕ)
+left_of None = []
+left_of (Some rest) = names_in rest.now
 
-abbrev pub NextIs : List ℕ → ℕ → ℕ → Next → Type 0
-NextIs run wanted at (Name start end left) = FirstName run wanted at start end left
-NextIs run wanted at End = chosen wanted (names_from run at) ≡ []
+abbrev pub names_left : Names → List (List ℕ)
+names_left names = left_of names.rest

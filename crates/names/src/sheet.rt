@@ -3,13 +3,13 @@
 // number, or 0 for none; and from 128 on where each name starts, an extra one 1024 further on.
 ghost use Rattle.std.specs.Prelude.{◌≡◌, true, not, ◌+◌, ◌≤◌, ◌<◌, length, replicate, get_or};
 ghost use Rattle.names.specs.Names.{same_name};
-ghost use Rattle.names.specs.Extra.{names_in, good_extra};
+ghost use Rattle.names.specs.Extra.{names_in, extra_names, good_extra};
 ghost use Rattle.names.specs.Lists.{list_names, is_list};
 ghost use Rattle.names.specs.Covered.{chosen, covered_names};
-ghost use Rattle.names.specs.InnerWalk.{names_from, Known};
+ghost use Rattle.names.specs.InnerWalk.{Known};
 ghost use Rattle.names.specs.InnerSheet.{key_of, name_at, named, Start, Sheet, Entered, NumberOn, Enters, with_name};
 
-use super::{Next, extra, has_name, lowered, name_end, next_name, same_name};
+use super::{Names, has_name, name_end, same_name};
 
 // The covered names on an empty sheet, which then has as many.
 pub fn fill(known: &[u8], mask: u64, extra: &[u8], sheet: &mut [u16]) -> usize
@@ -17,7 +17,7 @@ pub fn fill(known: &[u8], mask: u64, extra: &[u8], sheet: &mut [u16]) -> usize
     ensures { Sheet known.now extra.now sheet.new (covered_names mask extra.now) × (result ≡ length (covered_names mask extra.now)) }
 {
     let count = enter(known, mask / 2, 0, sheet, 0);
-    enter(extra, extra::extra_bits(extra), 1024, sheet, count)
+    enter(extra, u64::MAX, 1024, sheet, count)
 }
 
 // The number of a name on a sheet.
@@ -48,23 +48,27 @@ pub fn single(known: &[u8], extra: &[u8], sheet: &[u16], number: usize) -> bool
     !lists(extra, start - 1024)
 }
 
-// The names of a run whose bits are set in wanted, entered after count others; those of the run start at base and on.
+// The names of a run whose bits are set in wanted, the lowest bit for the first, entered after count others; those of the run start at base and on.
 fn enter(run: &[u8], wanted: u64, base: usize, sheet: &mut [u16], count: usize) -> usize
-    requires { (length run.now < 1024) × (base ≤ 1024) × (length sheet.old ≡ 192) × (count + length (chosen wanted (names_from run.now 0)) ≤ 64) }
-    ensures { (result ≡ count + length (chosen wanted (names_from run.now 0))) × Enters run.now (chosen wanted (names_from run.now 0)) base count sheet.old sheet.new }
+    requires { (length run.now < 1024) × (base ≤ 1024) × (length sheet.old ≡ 192) × (count + length (chosen wanted (extra_names run.now)) ≤ 64) }
+    ensures { (result ≡ count + length (chosen wanted (extra_names run.now))) × Enters run.now (chosen wanted (extra_names run.now)) base count sheet.old sheet.new }
 {
     let mut entered = count;
     let mut left = wanted;
-    let mut at: usize = 0;
-    loop {
-        let Next::Name(start, end, rest) = next_name(run, left, at) else {
-            return entered;
-        };
-        put(sheet, key(&run[start..end]), entered, base + start);
-        entered += 1;
-        left = rest;
-        at = end + 1;
+    let mut start = base;
+    for name in Names::of(run) {
+        // Saves the walk to the end of the run.
+        if left == 0 {
+            break;
+        }
+        if left % 2 == 1 {
+            put(sheet, key(name), entered, start);
+            entered += 1;
+        }
+        left /= 2;
+        start += name.len() + 1;
     }
+    entered
 }
 
 fn put(sheet: &mut [u16], key: usize, entered: usize, start: usize)
@@ -82,7 +86,7 @@ fn key(name: &[u8]) -> usize
     if name.len() == 0 {
         return 0;
     }
-    (name.len() % 64 + 20 * (lowered(name[0]) as usize)) % 64
+    (name.len() % 64 + 20 * (name[0].to_ascii_lowercase() as usize)) % 64
 }
 
 // Whether the name that starts there on the sheet is this one.

@@ -11,7 +11,7 @@ const TOKEN_HIGH: u64 = 6341068274398134270;
 pub fn is_token(name: &[u8]) -> bool
     ensures { result ≡ is_token name.now }
 {
-    (0 < name.len()) & (token_end(name, 0) == name.len())
+    (0 < name.len()) & cells::all(name, token_byte)
 }
 
 // Where the token bytes end that start at byte at.
@@ -19,14 +19,7 @@ pub fn token_end(run: &[u8], at: usize) -> usize
     requires { at ≤ length run.now }
     ensures { Spans token_byte run.now at result }
 {
-    let mut i = at;
-    while i < run.len() {
-        if !token_byte(run[i]) {
-            return i;
-        }
-        i += 1;
-    }
-    i
+    cells::end(run, at, token_byte)
 }
 
 fn token_byte(b: u8) -> bool
