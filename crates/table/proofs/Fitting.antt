@@ -8,7 +8,7 @@ use native.Mathlib.Nat.{div-one}
 use native.Mathlib.Omega.{arith}
 use borrow.Author.Tests.{eqb-true, eq-eqb, ne_eqb}
 use lib.Dec.{eqb}
-use Rattle.std.specs.Prelude.{Option, Some, None}
+use Rattle.std.specs.Prelude.{Some, is_some}
 use Rattle.window.specs.Window.{bit}
 use Rattle.table.specs.declared.session.Record.{Record}
 use Rattle.table.specs.Table.{first_from}
@@ -20,17 +20,13 @@ pub lowest : (bits : ℕ) → bit bits 0 ≡ eqb (bits % 2) 1
 unfolding bit
 lowest bits = ap (λ (n : ℕ). eqb (n % 2) 1) (div-one bits)
 
-abbrev pub is_nowhere : Option ℕ → Bool
-is_nowhere (Some place) = false
-is_nowhere None = true
-
--- a scan finds none exactly if no record passes
-pub scan_some : (test : Record → Bool) (place : ℕ) (rs : List Record) → is_nowhere (first_from test place rs) ≡ not (some test rs)
+-- a scan finds a place exactly if some record passes
+pub scan_some : (test : Record → Bool) (place : ℕ) (rs : List Record) → is_some (first_from test place rs) ≡ some test rs
 scan_some test place [] = refl
 scan_some test place (r ∷ rs) = by (test r) (scan_some test (suc place) rs)
   where
-    by : (t : Bool) → is_nowhere (first_from test (suc place) rs) ≡ not (some test rs)
-        → is_nowhere (cond t (Some place) (first_from test (suc place) rs)) ≡ not (t || some test rs)
+    by : (t : Bool) → is_some (first_from test (suc place) rs) ≡ some test rs
+        → is_some (cond t (Some place) (first_from test (suc place) rs)) ≡ (t || some test rs)
     by true e = refl
     by false e = e
 

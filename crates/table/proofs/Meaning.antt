@@ -9,6 +9,7 @@ use native.Mathlib.Omega.{arith}
 use borrow.Author.Tests.{eqb-true, eqb-false, eq-eqb, ne_eqb, not-true}
 use lib.Dec.{eqb}
 use lib.ListN.{length, get_or}
+use Rattle.std.specs.Bool.{Decides}
 use Rattle.window.specs.Window.{bit}
 use Rattle.hashes.specs.Hashes.{names_one}
 use Rattle.table.specs.declared.session.Record.{Record}
@@ -97,6 +98,10 @@ is_sound r s = ⊎_elim (λ u. ap sound (s.free u)) used s.used
 
     used : r.used ≡ 1 → cond (is_free r) (blank r) (is_used r && (names_one r.hash && window_sound r)) ≡ true
     used u = rw (ne_eqb r.used 0 (λ z. omega arith), eq-eqb r.used 1 u, one (s.hash u)) (window s.any u)
+
+-- of the free record alone among those marked as free
+pub free_decides : (r : Record) → r.used ≡ 0 → Decides (sound r) (r ≡ freed)
+free_decides r u = (λ e. (sound_is r e).free u, λ e. is_sound r (subst (λ (x : Record). Sound x) (sym e) freed_sound))
 
 -- a table's first record, and the rest
 module _ (r : Record) (rs : List Record) where

@@ -63,6 +63,13 @@ fn is_free(table: &[u8], place: usize) -> bool
     table[SIZE * place] == 0
 }
 
+// The lowest free place.
+fn first_free(table: &[u8]) -> Option<usize>
+    ensures { Placed (first_from is_free 0 (records table.now)) (places table.now) result }
+{
+    first(table, 0, |place| is_free(table, place))
+}
+
 // Whether the expiry at a place is at or before now.
 fn has_lapsed(table: &[u8], place: usize, clock: Time) -> bool
     requires { place < places table.now }
@@ -71,10 +78,16 @@ fn has_lapsed(table: &[u8], place: usize, clock: Time) -> bool
     Time(cells::load32(table, SIZE * place + 13)) <= clock
 }
 
+// The lowest place whose expiry is at or before now.
+fn first_lapsed(table: &[u8], clock: Time) -> Option<usize>
+    ensures { Placed (first_from (lapsed clock.0) 0 (records table.now)) (places table.now) result }
+{
+    first(table, 0, |place| has_lapsed(table, place, clock))
+}
+
 // The place that a setup takes: the lowest free one, else the lowest whose expiry is at or before now.
 pub fn to_take(table: &[u8], clock: Time) -> Option<usize>
     ensures { Placed (taken (records table.now) clock.0) (places table.now) result }
 {
-    first(table, 0, |place| is_free(table, place))
-        .or_else(|| first(table, 0, |place| has_lapsed(table, place, clock)))
+    first_free(table).or_else(|| first_lapsed(table, clock))
 }
