@@ -7,9 +7,10 @@ ghost use Rattle.lines.specs.Lines.{lines_in};
 ghost use Rattle.lines.specs.Values.{values_in, joined};
 ghost use Rattle.lines.specs.InnerPlaces.{Stands, own_at};
 ghost use Rattle.signatures.specs.Components.{message_of, small, good_message, is_derived, is_component, all_components, values_of};
-ghost use Rattle.signatures.specs.InnerAnswers.{ShortMessage, ValueIs, LookedAt};
+ghost use Rattle.signatures.specs.InnerAnswers.{message_in, ValueIs, LookedAt};
 
-use lines::Found;
+use super::message::Message;
+use names::Names;
 use names::token;
 
 // Whether method, authority, path and lines are what they are to be.
@@ -25,28 +26,16 @@ pub fn good_message(method: &[u8], authority: &[u8], path: &[u8], block: &[u8]) 
 fn all_small(run: &[u8]) -> bool
     ensures { result ≡ all small run.now }
 {
-    let mut good = true;
-    let mut i: usize = 0;
-    while i < run.len() {
-        good = good & !((65 <= run[i]) & (run[i] <= 90));
-        i += 1;
-    }
-    good
+    cells::all(run, |b| !((b'A' <= b) & (b <= b'Z')))
 }
 
 // Whether each name of a list is a component's.
 pub fn all_components(names: &[u8]) -> bool
     ensures { result ≡ all_components (listed names.now) }
 {
-    if names.len() == 0 {
-        return true;
-    }
     let mut good = true;
-    let mut at: usize = 0;
-    while at <= names.len() {
-        let end = names::name_end(names, at);
-        good = good & is_component(&names[at..end]);
-        at = end + 1;
+    for name in Names::of(names) {
+        good &= is_component(name);
     }
     good
 }
@@ -71,93 +60,44 @@ pub struct Looked {
     pub missing: bool,
 }
 
-pub fn look(method: &[u8], authority: &[u8], path: &[u8], block: &[u8], names: &[u8]) -> Looked
-    requires { ShortMessage (message_of method.now authority.now path.now block.now) }
-    ensures { LookedAt (message_of method.now authority.now path.now block.now) names.now result }
-{
-    let mut printable = true;
-    let mut twice = false;
-    let mut missing = false;
-    if names.len() == 0 {
-        return Looked {
+impl Message<'_> {
+    pub fn look(&self, names: &[u8]) -> Looked
+        ensures { LookedAt (message_in self.now) names.now result }
+    {
+        let mut printable = true;
+        let mut twice = false;
+        let mut missing = false;
+        let mut buffer = [0; 16384];
+        let mut left = Names::of(names);
+        while let Some(name) = left.next() {
+            match self.put_value(name, &mut buffer) {
+                Some(size) => printable &= structured::all_between(32, 126, &buffer[..size]),
+                None => missing = true,
+            }
+            twice |= left.have(name);
+        }
+        Looked {
             printable,
             twice,
             missing,
-        };
+        }
     }
-    let mut buffer = [0u8; 16384];
-    let mut at: usize = 0;
-    while at <= names.len() {
-        let end = names::name_end(names, at);
-        let name = &names[at..end];
-        let value = put_value(method, authority, path, block, name, &mut buffer);
-        let size = value.size;
-        printable = printable & structured::all_between(32, 126, &buffer[..size]);
-        twice = twice | names::has_name(names, end + 1, name);
-        missing = missing | !value.found;
-        at = end + 1;
-    }
-    Looked {
-        printable,
-        twice,
-        missing,
-    }
-}
 
-// Whether the message has a component, and how long its value is.
-#[derive(Clone, Copy)]
-pub struct Value {
-    pub found: bool,
-    pub size: usize,
-}
-
-// The value of a component at the front of the buffer.
-pub fn put_value(
-    method: &[u8],
-    authority: &[u8],
-    path: &[u8],
-    block: &[u8],
-    name: &[u8],
-    out: &mut [u8],
-) -> Value
-    requires { ShortMessage (message_of method.now authority.now path.now block.now) × (length out.old ≡ 16384) }
-    ensures { ValueIs (values_of (message_of method.now authority.now path.now block.now) name.now) out.new result }
-{
-    if cells::same(b"@method", name) {
-        return put_whole(method, out);
-    }
-    if cells::same(b"@authority", name) {
-        return put_whole(authority, out);
-    }
-    if cells::same(b"@path", name) {
-        return put_whole(path, out);
-    }
-    put_field(block, name, out)
-}
-
-fn put_whole(value: &[u8], out: &mut [u8]) -> Value
-    requires { length value.now ≤ length out.old }
-    ensures { ValueIs (value.now ∷ []) out.new result }
-{
-    Value {
-        found: true,
-        size: cells::put_at(out, 0, value),
-    }
-}
-
-fn put_field(block: &[u8], name: &[u8], out: &mut [u8]) -> Value
-    requires { length block.now ≤ length out.old }
-    ensures { ValueIs (values_in (lines_in block.now) name.now) out.new result }
-{
-    let Found::At(place) = lines::find(block, 0, name) else {
-        return Value {
-            found: false,
-            size: 0,
-        };
-    };
-    Value {
-        found: true,
-        size: put_joined(block, place, out),
+    // How long a component's value is, which is put at the front of the buffer, if the message has that component.
+    pub fn put_value(&self, name: &[u8], out: &mut [u8; 16384]) -> Option<usize>
+        ensures { ValueIs (values_of (message_in self.now) name.now) out.new result }
+    {
+        if cells::same(b"@method", name) {
+            return Some(cells::put_at(out, 0, self.method));
+        }
+        if cells::same(b"@authority", name) {
+            return Some(cells::put_at(out, 0, self.authority));
+        }
+        if cells::same(b"@path", name) {
+            return Some(cells::put_at(out, 0, self.path));
+        }
+        let place = lines::find(self.lines, 0, name)?;
+        Some(put_joined(self.lines, place, out))
     }
 }
 
@@ -166,12 +106,11 @@ fn put_joined(block: &[u8], at: usize, out: &mut [u8]) -> usize
     requires { Stands block.now at × (length (joined (own_at block.now at)) ≤ length out.old) }
     ensures { Laid out.old out.new 0 result (joined (own_at block.now at)) }
 {
-    let mut end: usize = 0;
+    let mut end = 0;
     let mut place = at;
     loop {
-        let value = lines::value_at(block, place);
-        end = cells::put_at(out, end, value);
-        let Found::At(next) = lines::again(block, place) else {
+        end = cells::put_at(out, end, lines::value_at(block, place));
+        let Some(next) = lines::again(block, place) else {
             return end;
         };
         end = cells::put_at(out, end, b", ");
