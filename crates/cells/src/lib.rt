@@ -98,6 +98,19 @@ pub fn end<F: Fn(u8) -> bool>(run: &[u8], at: usize, passes: F) -> usize
     run.len()
 }
 
+// The same of a run of which most bytes pass: the compiler looks at sixteen at once.
+pub fn end_by_sixteens<F: Fn(u8) -> bool + Copy>(run: &[u8], at: usize, passes: F) -> usize
+    requires callable { F.IsAlwaysCallable passes }
+    requires within { at ≤ length run.now }
+    ensures { (p : ℕ → Bool) → ((b : ℕ) (r : Bool) → b < 256 → F.post passes b r → r ≡ p b) → Spans p run.now at result }
+{
+    let mut i = at;
+    while (16 <= run.len() - i) && all(&run[i..i + 16], passes) {
+        i += 16;
+    }
+    end(run, i, passes)
+}
+
 // Whether two runs are the same. Of runs of one length every byte is looked at, whatever the others are.
 pub fn same(a: &[u8], b: &[u8]) -> bool
     ensures { result ≡ R.same a.now b.now }

@@ -2,7 +2,7 @@
 #![tactic(auto)]
 
 ghost use Rattle.std.specs.Prelude.{◌≡◌, ◌≤◌, ◌%◌, length, get_or};
-ghost use Rattle.cells.specs.Spans.{all, Spans, Passed};
+ghost use Rattle.cells.specs.Spans.{Spans};
 ghost use Rattle.lines.specs.Lines.{value_byte, good_block};
 ghost use Rattle.lines.specs.Values.{blank, trimmed, joined};
 ghost use Rattle.lines.specs.InnerPlaces.{LineIs, Stands, front_at, own_at, FoundIs, AgainIs};
@@ -133,22 +133,7 @@ fn value_end(block: &[u8], at: usize) -> usize
     requires { at ≤ length block.now }
     ensures { Spans value_byte block.now at result }
 {
-    cells::end(block, past_sixteens(block, at), value_byte)
-}
-
-// How far from byte at on sixteen bytes after sixteen are all of a value. The compiler looks at the sixteen at once.
-fn past_sixteens(block: &[u8], at: usize) -> usize
-    requires { at ≤ length block.now }
-    ensures { Passed value_byte block.now at result }
-{
-    let mut i = at;
-    while 16 <= block.len() - i {
-        if !cells::all(&block[i..i + 16], value_byte) {
-            return i;
-        }
-        i += 16;
-    }
-    i
+    cells::end_by_sixteens(block, at, value_byte)
 }
 
 fn value_byte(b: u8) -> bool
