@@ -3,12 +3,10 @@
 use mathlib.Core.Path.{◌≡◌, refl}
 use mathlib.Core.List.{List, [], ◌∷◌}
 use mathlib.Core.Bool.{Bool, false, ◌&&◌, ◌||◌}
-use Prim.Native.Nat.{ℕ, ◌-◌, ◌<◌}
+use Prim.Native.Nat.{ℕ, ◌<◌}
 use native.Mathlib.Omega.{arith}
 use lib.Dec.{leb, eqb}
-use lib.ListN.{length, get_or, take, drop}
-use lib.Seq.{take_all}
-use Rattle.cells.specs.Spans.{all}
+use lib.ListN.{length}
 use Rattle.cells.specs.Text.{codes}
 use Rattle.names.specs.Names.{has_byte}
 use Rattle.names.proofs.Tokens.{agree}
@@ -22,13 +20,8 @@ pub tested_key : (b : ℕ) → b < 256 → tested b ≡ key_byte b
 unfolding has_byte codes
 tested_key b h = agree tested key_byte 256 refl b h
 
--- no byte, or a first one and those after it
+-- no byte is no key
 pub key_none : (run : List ℕ) → length run ≡ 0 → is_key run ≡ false
 unfolding is_key
 key_none [] h = refl
 key_none (b ∷ bs) h = absurd (omega arith)
-
-pub key_some : (run : List ℕ) → (length run ≡ 0 → ⊥) → is_key run ≡ (key_start (get_or run 0 0) && all key_byte (take (length run - 1) (drop 1 run)))
-unfolding is_key
-key_some [] h = absurd (h refl)
-key_some (b ∷ bs) h = rw (take_all (length (b ∷ bs) - 1) bs (omega arith))

@@ -2,6 +2,5 @@
 pub mod Texts
 pub mod Bytes
 pub mod Laying
-pub mod Lists
 pub mod Steps
 pub mod Readback

@@ -7,8 +7,8 @@ use Prim.Native.Nat.{ℕ, zero, suc, ◌+◌, ◌-◌, ◌*◌, ◌^◌, ◌≤�
 use native.Mathlib.Nat.{pow-le-pow_right, zero-add}
 use native.Mathlib.Numerals.{add-one}
 use native.Mathlib.Omega.{arith}
-use borrow.Author.Tests.{not-true, leb-true, ltb-true, ltb-false}
-use lib.Dec.{eqb, leb, ltb, lit≤}
+use borrow.Author.Tests.{not-true, leb-true}
+use lib.Dec.{eqb, leb, lit≤}
 use lib.ListN.{length, get_or, take, drop, length-take, drop_of_length-le}
 use lib.Seq.{take_all, take-take, take-suc, drop-cons}
 use Rattle.cells.specs.Spans.{all, Spans}

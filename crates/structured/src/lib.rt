@@ -8,6 +8,8 @@ ghost use Rattle.names.specs.Names.{between};
 ghost use Rattle.names.specs.Extra.{extra_names};
 ghost use Rattle.structured.specs.Texts.{key_start, key_byte, is_key, escaped, string, strings, inner_list};
 
+use names::Names;
+
 pub mod reading;
 
 pub fn is_key(run: &[u8]) -> bool
@@ -83,18 +85,14 @@ fn put_strings(out: &mut [u8], at: usize, run: &[u8]) -> usize
     requires { at + length (strings (extra_names run.now)) ≤ length out.old }
     ensures { Laid out.old out.new at result (strings (extra_names run.now)) }
 {
-    if run.len() == 0 {
+    let mut left = Names::of(run);
+    let Some(first) = left.next() else {
         return at;
-    }
-    let mut end = at;
-    let mut start: usize = 0;
-    loop {
-        let stop = names::name_end(run, start);
-        end = put_string(out, end, &run[start..stop]);
-        if stop == run.len() {
-            return end;
-        }
+    };
+    let mut end = put_string(out, at, first);
+    for name in left {
         end = cells::put_at(out, end, b" ");
-        start = stop + 1;
+        end = put_string(out, end, name);
     }
+    end
 }

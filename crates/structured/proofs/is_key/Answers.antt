@@ -1,6 +1,6 @@
 -- A key is a first byte and those after it.
 -- Assumes nothing.
-use Rattle.std.proofs.Common.{refl, sym}
+use Rattle.std.proofs.Common.{sym}
 use Rattle.structured.specs.Texts.{is_key, key_byte}
 use Rattle.structured.proofs.Bytes.{key_none}
 use Rattle.structured.proofs.is_key.Goals as goal

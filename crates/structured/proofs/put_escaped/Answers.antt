@@ -1,6 +1,6 @@
 -- Each byte is laid, escaped where it has to be.
 -- Assumes nothing.
-use Rattle.std.proofs.Common.{rules, refl, [], ◌∷◌, get_or}
+use Rattle.std.proofs.Common.{refl, [], ◌∷◌, get_or}
 use Rattle.structured.specs.Texts.{escaped}
 use Rattle.structured.proofs.Texts.{escaped_from, escaped_past}
 use Rattle.structured.proofs.Laying.{laying_none, laying_next, laying_more, laying_all}

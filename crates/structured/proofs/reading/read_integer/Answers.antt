@@ -1,6 +1,6 @@
 -- The digits are at most 15, so their value is far from 2 ^ 64.
 -- Assumes nothing.
-use Rattle.std.proofs.Common.{rules, ◌≡◌, ◌≤◌, ◌<◌, ◌^◌, ◌*◌, ◌+◌, arith, refl, sym, length, take, get_or}
+use Rattle.std.proofs.Common.{rules, ◌≤◌, arith, refl, sym, take, get_or}
 use lib.Seq.{length-take-le}
 use Rattle.cells.specs.Decimal.{value_after}
 use Rattle.structured.specs.Reading.{digit}
