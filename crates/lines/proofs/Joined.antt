@@ -13,7 +13,7 @@ use Rattle.names.proofs.Same.{same_itself}
 use Rattle.lines.specs.Lines.{Line, front_line, starts_line, line_text, lines_up_to, lines_in}
 use Rattle.lines.specs.Values.{space, blank, trim_front, keeping, trim_end, trimmed, values_in, following, joined, or_else, covered_value}
 use Rattle.lines.specs.InnerPlaces.{Stands, front_at, own_at, AgainIs}
-use Rattle.lines.specs.declared.Found.TheVariants.{At, Missing}
+use Rattle.std.specs.Prelude.{Some, None}
 use Rattle.lines.proofs.Lines.{length_line, started}
 use Rattle.lines.proofs.Named.{lines_at, values_own}
 
@@ -32,10 +32,10 @@ pub own_more : (block : List ℕ) (at : ℕ) (s : Stands block at)
 own_more block at s = rw (lines_at block at s.colon s.end s.is) refl
 
 -- what is joined from a line on, where no other bears its name, and where another does
-pub own_alone : (block : List ℕ) (at : ℕ) → AgainIs block at Missing → joined (own_at block at) ≡ front_at block at
+pub own_alone : (block : List ℕ) (at : ℕ) → AgainIs block at None → joined (own_at block at) ≡ front_at block at
 own_alone block at a = ap joined (a.are ∙ ap (λ (vs : List (List ℕ)). front_at block at ∷ vs) a.found) ∙ joined_one (front_at block at)
 
-pub own_then : (block : List ℕ) (at next : ℕ) → AgainIs block at (At next)
+pub own_then : (block : List ℕ) (at next : ℕ) → AgainIs block at (Some next)
     → joined (own_at block at) ≡ front_at block at ++ (comma ∷ space ∷ joined (own_at block next))
 own_then block at next a =
     let others = a.found.are ∙ own_more block next a.found.stands in

@@ -3,12 +3,13 @@
 use mathlib.Core.Path.{◌≡◌, refl, sym, ap, ◌∙◌}
 use mathlib.Core.List.{List, [], ◌∷◌}
 use mathlib.Core.Bool.{true, false}
-use Prim.Native.Nat.{ℕ, ◌+◌, ◌-◌, ◌%◌, ◌≤◌, ◌<◌}
+use Prim.Native.Nat.{ℕ, ◌+◌, ◌%◌, ◌≤◌, ◌<◌}
 use native.Mathlib.Omega.{arith}
 use borrow.Author.Tests.{lt-ltb, le-leb, lt-leb, ne_eqb, eqb-true, eqb-false}
 use lib.Dec.{eqb, leb, ltb}
-use lib.ListN.{length, get_or, set, drop, replicate, get_or-replicate}
+use lib.ListN.{length, get_or, drop, replicate, get_or-replicate}
 use lib.Seq.{get_or-set_same, get_or-set_other}
+use Rattle.std.specs.Prelude.{Option, Some, None}
 use Rattle.cells.specs.Runs.{cut}
 use Rattle.cells.proofs.Tests.{tested}
 use Rattle.names.specs.Names.{same_name}
@@ -95,19 +96,15 @@ module _ {block name : List ℕ} {at note : ℕ} where
         go (more place f z l) = more place f (rw (ne_eqb note 0 (omega arith), le-leb 32768 note (omega arith)) z) l
 
 -- where no two names are the same, a line changes the note on the name that it bears alone
-pub noting_next : {block : List ℕ} {ns : List (List ℕ)} {at c e number i : ℕ} (notes : List ℕ) → WholeLine block at c e → at < 16384 → Apart ns
+pub noting_next : (ns : List (List ℕ)) {block : List ℕ} {at c e i : ℕ} (number : Option ℕ) (notes : List ℕ) → WholeLine block at c e → at < 16384 → Apart ns
     → length ns ≤ length notes → NumberIs ns (cut block at c) number → i < length ns → Noting block (get_or ns i []) at (get_or notes i 0)
     → Noting block (get_or ns i []) (e + 2) (get_or (marked_in notes number at) i 0)
-noting_next {block} {ns} {at} {c} {e} {number} {i} notes w low apart room is h n =
-    tested (eqb number 0) (λ t. rw t (noting_past c e w (is.none (eqb-true number 0 t) i h) n)) (λ t. rw t (some (eqb-false number 0 t)))
-  where
-    some : (number ≡ 0 → ⊥) → Noting block (get_or ns i []) (e + 2) (get_or (set notes (number - 1) (marked (get_or notes (number - 1) 0) at)) i 0)
-    some t =
-        let bears = is.bears (omega arith) in
-        tested (eqb i (number - 1))
-        (λ s. let here = eqb-true i (number - 1) s in
-        rw (← here, get_or-set_same notes i (marked (get_or notes i 0) at) 0 (omega arith)) (noting_here c e w low (rw here bears) n))
-        (λ s. let other = eqb-false i (number - 1) s in
-        let line = same_left (cut block at c) (get_or ns (number - 1) []) (get_or ns i []) bears in
-        rw (get_or-set_other notes (number - 1) i (marked (get_or notes (number - 1) 0) at) 0 other)
-        (noting_past c e w (line ∙ apart (number - 1) i (omega (arith, is.within)) h (λ q. other (sym q))) n))
+noting_next ns {c = c} {e = e} {i = i} None notes w low apart room is h n = noting_past c e w (is i h) n
+noting_next ns {block} {at} {c} {e} {i} (Some number) notes w low apart room is h n =
+    tested (eqb i number)
+    (λ s. let here = eqb-true i number s in
+    rw (← here, get_or-set_same notes i (marked (get_or notes i 0) at) 0 (omega arith)) (noting_here c e w low (rw here is.bears) n))
+    (λ s. let other = eqb-false i number s in
+    let line = same_left (cut block at c) (get_or ns number []) (get_or ns i []) is.bears in
+    rw (get_or-set_other notes number i (marked (get_or notes number 0) at) 0 other)
+    (noting_past c e w (line ∙ apart number i is.within h (λ q. other (sym q))) n))

@@ -17,7 +17,7 @@ use Rattle.lines.specs.declared.noting.Noted.{Noted}
 use Rattle.lines.specs.Lines.{lines_in}
 use Rattle.lines.specs.Values.{values_in, repeated, joined, or_else, covered_value}
 use Rattle.lines.specs.InnerPlaces.{Stands, front_at}
-use Rattle.lines.specs.InnerNotes.{place_of, NoteIs, Notes, NotesOn, note_value, value_by, values_by, Placed, NotedIs}
+use Rattle.lines.specs.InnerNotes.{place_of, NoteIs, Notes, NotesOn, note_value, value_by, values_by, Placed, NotedOf}
 use Rattle.lines.proofs.Joined.{joined_one, own_more}
 
 -- joined values of which there is one
@@ -86,17 +86,17 @@ noted_front block ns notes h i l = rw (get_or-take (length ns) notes i 0 l) (h i
 
 -- the notes that a look at both blocks leaves, where they are lines
 pub notes_on : (mask : ℕ) (extra head aside in_head in_aside : List ℕ) (n : Noted) → good_extra extra ≡ true → 64 ≤ length in_head → 64 ≤ length in_aside
-    → NotedIs (covered_names mask extra) head aside in_head in_aside n → n.good ≡ true
+    → NotedOf (covered_names mask extra) head aside in_head in_aside n
     → (n.covered ≤ 64) × NotesOn (covered_names mask extra) head aside (take n.covered in_head) (take n.covered in_aside)
-notes_on mask extra head aside in_head in_aside n good long long_aside is e =
+notes_on mask extra head aside in_head in_aside n good long long_aside is =
     let names = covered_names mask extra in
     let few = names_few mask extra good in (
       omega (arith, is.covered, few),
       rw is.covered (record {
         long_head = length-take-le (length names) in_head (omega arith);
         long_aside = length-take-le (length names) in_aside (omega arith);
-        of_head = noted_front head names in_head (is.of_head e);
-        of_aside = noted_front aside names in_aside (is.of_aside e);
+        of_head = noted_front head names in_head is.of_head;
+        of_aside = noted_front aside names in_aside is.of_aside;
       }),
     )
 

@@ -4,7 +4,7 @@
 ghost use Rattle.std.specs.Prelude.{◌≡◌, ◌≤◌, ◌%◌, length, get_or};
 ghost use Rattle.cells.specs.Spans.{Spans};
 ghost use Rattle.lines.specs.Lines.{value_byte, good_block};
-ghost use Rattle.lines.specs.Values.{blank, trimmed, joined};
+ghost use Rattle.lines.specs.Values.{joined};
 ghost use Rattle.lines.specs.InnerPlaces.{LineIs, Stands, front_at, own_at, FoundIs, AgainIs};
 ghost use Rattle.lines.specs.InnerNotes.{place_of, PlaceIn, first_by};
 
@@ -68,7 +68,8 @@ pub fn value_at<'a>(block: &'a [u8], at: usize) -> &'a [u8]
     ensures { result.now ≡ front_at block.now at }
 {
     match line_at(block, at) {
-        Some(line) => trim(&block[line.colon + 1..line.end]),
+        // Of the bytes of a value a space and a tab alone are ASCII white space.
+        Some(line) => block[line.colon + 1..line.end].trim_ascii(),
         None => &block[..0],
     }
 }
@@ -140,21 +141,4 @@ fn value_byte(b: u8) -> bool
     ensures { result ≡ value_byte b }
 {
     (b == b'\t') | ((32 <= b) & (b != 127))
-}
-
-// What stands between the blanks at the ends of a value.
-fn trim<'a>(value: &'a [u8]) -> &'a [u8]
-    ensures { result.now ≡ trimmed value.now }
-{
-    let rest = &value[cells::end(value, 0, is_blank)..];
-    match rest.iter().rposition(|b| !is_blank(*b)) {
-        Some(last) => &rest[..last + 1],
-        None => &rest[..0],
-    }
-}
-
-fn is_blank(b: u8) -> bool
-    ensures { result ≡ blank b }
-{
-    (b == b' ') | (b == b'\t')
 }

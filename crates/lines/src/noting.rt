@@ -32,9 +32,9 @@ pub fn note(
 {
     let mut sheet = [0u16; 192];
     let covered = sheet::fill(known, mask, extra, &mut sheet);
-    if !(note_block(known, extra, &sheet, head, in_head)
-        && note_block(known, extra, &sheet, aside, in_aside))
-    {
+    let head_good = note_block(known, extra, &sheet, head, in_head);
+    let aside_good = note_block(known, extra, &sheet, aside, in_aside);
+    if !(head_good & aside_good) {
         return None;
     }
     let twice = repeats(known, extra, &sheet, in_head, covered)

@@ -1,0 +1,18 @@
+-- The lines up to at are noted, and the block is lines if what follows is.
+use Rattle.std.proofs.Common.{◌≡◌, ◌-◌, ◌≤◌, ◌<◌, ℕ, List, [], length, get_or, drop, replicate}
+use Rattle.names.specs.InnerSheet.{Sheet}
+use Rattle.lines.specs.Lines.{good_block}
+use Rattle.lines.specs.InnerNotes.{Apart}
+use Rattle.lines.proofs.Marks.{Noting}
+use Rattle.lines.proofs.noting.note_block.Given as goal
+
+abbrev pub invariant-loop-at : goal.invariant-loop-at
+invariant-loop-at l =
+    (l.at ≤ length l.block)
+    × (length l.notes ≡ 64)
+    × (good_block l.block ≡ good_block (drop l.at l.block))
+    × ((ns : List (List ℕ)) → Sheet l.known l.extra l.sheet ns → Apart ns → l.initial.notes ≡ replicate 64 0 → (i : ℕ) → i < length ns
+    → Noting l.block (get_or ns i []) l.at (get_or l.notes i 0))
+
+abbrev pub decreases-loop-at : goal.decreases-loop-at
+decreases-loop-at l = length l.block - l.at
