@@ -10,8 +10,7 @@ use lib.ListN.{length}
 use Rattle.cells.specs.Runs.{same}
 use Rattle.cells.proofs.Tests.{both}
 use Rattle.cells.proofs.Equality.{same_equal}
-use Rattle.table.specs.declared.place.Place.{Place}
-use Rattle.table.specs.declared.place.Place.TheVariants.{Nowhere}
+use Rattle.std.specs.Prelude.{Option, None}
 use Rattle.table.specs.Record.{freed}
 use Rattle.table.specs.Table.{records}
 use Rattle.table.specs.Session.{place_of, with_record, without}
@@ -51,13 +50,13 @@ module _ (iv : List ℕ) (state : State) (fits : end_fits iv state ≡ true) whe
           indexed_by state (end_stated iv state fits) told.0 (same_equal _ _ told.1),
         )
 
-    pub end_missing : place_of state.table iv ≡ Nowhere → outcome 12 [] state ≡ ended iv state
+    pub end_missing : place_of state.table iv ≡ None → outcome 12 [] state ≡ ended iv state
     unfolding ended end_checks
     end_missing e = rw (fits, passed_by (state_checks state) _ (state_numbered state) passed, e)
 
-    pub end_freed : (place : Place) {after index : List ℕ} → place_of state.table iv ≡ place → nowhere place ≡ false → after ≡ with_record state.table place freed
+    pub end_freed : (place : Option ℕ) {after index : List ℕ} → place_of state.table iv ≡ place → nowhere place ≡ false → after ≡ with_record state.table place freed
         → Indexed after index → outcome 0 [] (holding after index) ≡ ended iv state
     unfolding ended end_checks without
     end_freed place e there left h =
-        ap (outcome 0 []) (left_indexed (left ∙ ap (λ (p : Place). with_record state.table p freed) (sym e)) h)
+        ap (outcome 0 []) (left_indexed (left ∙ ap (λ (p : Option ℕ). with_record state.table p freed) (sym e)) h)
         ∙ sym (rw (fits, passed_by (state_checks state) _ (state_numbered state) passed, ap nowhere e ∙ there))

@@ -1,14 +1,15 @@
 -- The numbers of the calls' checks, what the first of them let through, and a number and a length that one answer holds: document 01, 'The numbers
 -- a call returns'.
 -- Assumes nothing.
-use mathlib.Core.Path.{◌≡◌, refl, ap₂}
+use mathlib.Core.Path.{◌≡◌, refl, sym, ap, ap₂, ◌∙◌}
 use mathlib.Core.Bool.{Bool, true, false, cond, not, ◌&&◌}
-use mathlib.Core.List.{List}
-use Prim.Native.Nat.{ℕ, ◌+◌, ◌*◌, ◌%◌, ◌≤◌, ◌<◌}
+use mathlib.Core.List.{List, [], ◌∷◌}
+use Prim.Native.Nat.{ℕ, ◌+◌, ◌-◌, ◌*◌, ◌%◌, ◌≤◌, ◌<◌}
 use native.Mathlib.Omega.{arith}
+use borrow.Author.Rules.{rules}
 use borrow.Author.Tests.{leb-true, eqb-true}
 use lib.Dec.{eqb, leb}
-use lib.ListN.{length}
+use lib.ListN.{length, get_or}
 use Rattle.cells.specs.Runs.{same}
 use Rattle.cells.proofs.Tests.{both}
 use Rattle.cells.proofs.Equality.{same_equal, same_self}
@@ -17,6 +18,9 @@ use Rattle.table.specs.Record.{size}
 use Rattle.table.specs.Table.{places, records}
 use Rattle.table.specs.WellFormed.{well_formed}
 use Rattle.index.specs.Index.{index_of, Indexed}
+use Rattle.stages.specs.declared.refusal.Refusal.{Refusal}
+use Rattle.stages.specs.declared.refusal.Refusal.TheVariants as R
+use Rattle.stages.specs.Refusals.{number_of}
 use Rattle.stages.specs.Request.{Request}
 use Rattle.stages.specs.Checks.{first}
 use Rattle.stages.specs.Parts.{reading_part, covering_part, token_part, signature_part, session_part, nonce_part}
@@ -156,3 +160,57 @@ answered n l reply state h = ap₂ (λ (m k : ℕ). record { number = m; length 
 pub answer_is : (answer n l : ℕ) (reply : List ℕ) (state : State) → answer ≡ n + 256 * l → n < 256
     → outcome answer reply state ≡ record { number = n; length = l; reply = reply; state = state }
 answer_is answer n l reply state e h = rw e (answered n l reply state h)
+
+-- 1, 2, and 3 or 22, by what is lent
+module _ (fits : Bool) (o : Orders) (state : State) where
+  pub sizes_refuse : fits ≡ false → first (entry_checks fits o state) ≡ 1
+  unfolding entry_checks
+  sizes_refuse e = rw e
+
+  pub orders_refuse : fits ≡ true → orders_good o ≡ false → first (entry_checks fits o state) ≡ 2
+  unfolding entry_checks
+  orders_refuse e f = rw (e, f)
+
+  pub state_decides : fits ≡ true → orders_good o ≡ true → first (entry_checks fits o state) ≡ first (state_checks state)
+  unfolding entry_checks
+  state_decides e f = rw (e, f)
+
+-- a refusal's number
+pub some_number : (e : Refusal) → number_of e ≡ 0 → ⊥
+some_number e = search rules
+
+pub small_number : (e : Refusal) → number_of e < 256
+small_number e = search rules
+
+-- by their numbers
+unfoldable all_refusals : List Refusal
+all_refusals = R.WrongSize ∷ R.BadOrders ∷ R.BadTable ∷ R.BadGrammar ∷ R.WrongFields ∷ R.BadLines ∷ R.NameTwice ∷ R.NotAsOrdered ∷ R.BadToken ∷ R.Expired ∷ R.WrongSignature ∷ R.NoSession ∷ R.Idle ∷ R.TooOld ∷ R.NonceTooLow ∷ R.NonceSeen ∷ R.IvInUse ∷ R.TableFull ∷ R.NoCommonHash ∷ R.ExpiryTooLate ∷ R.TooFarAhead ∷ R.BadIndex ∷ R.BadReply ∷ []
+
+named_by : (e : Refusal) → get_or all_refusals (number_of e - 1) R.BadReply ≡ e
+unfolding all_refusals
+named_by R.WrongSize = refl
+named_by R.BadOrders = refl
+named_by R.BadTable = refl
+named_by R.BadGrammar = refl
+named_by R.WrongFields = refl
+named_by R.BadLines = refl
+named_by R.NameTwice = refl
+named_by R.NotAsOrdered = refl
+named_by R.BadToken = refl
+named_by R.Expired = refl
+named_by R.WrongSignature = refl
+named_by R.NoSession = refl
+named_by R.Idle = refl
+named_by R.TooOld = refl
+named_by R.NonceTooLow = refl
+named_by R.NonceSeen = refl
+named_by R.IvInUse = refl
+named_by R.TableFull = refl
+named_by R.NoCommonHash = refl
+named_by R.ExpiryTooLate = refl
+named_by R.TooFarAhead = refl
+named_by R.BadIndex = refl
+named_by R.BadReply = refl
+
+pub one_number : (d e : Refusal) → number_of d ≡ number_of e → d ≡ e
+one_number d e p = sym (named_by d) ∙ ap (λ (n : ℕ). get_or all_refusals (n - 1) R.BadReply) p ∙ named_by e

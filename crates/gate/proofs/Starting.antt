@@ -11,56 +11,57 @@ use lib.Dec.{leb}
 use lib.ListN.{length}
 use Rattle.cells.specs.Runs.{fronted}
 use Rattle.hashes.specs.declared.Hash.{Hash}
-use Rattle.armor.specs.declared.SetupRead.{SetupRead}
+use Rattle.std.specs.Prelude.{Option as Maybe, Some, None, Result, Ok, Err}
+use Rattle.armor.specs.declared.Unread.{Unread}
 use Rattle.armor.specs.InnerAnswers.{setup_from, setup_answer}
+use Rattle.stages.specs.declared.refusal.Refusal.{Refusal}
+use Rattle.stages.specs.Refusals.{number_of, RefusedUnread}
 use Rattle.armor.specs.Fields.{the, setup_fields}
 use Rattle.armor.specs.Keys.{key_r}
 use Rattle.armor.specs.Numerals.{mask_of}
 use Rattle.armor.specs.Value.{Field, grammar, carried}
-use Rattle.table.specs.declared.place.Place.TheVariants as Place
 use Rattle.cells.proofs.Tests.{both}
 use Rattle.stages.specs.Checks.{Check, check, first, missing}
-use Rattle.stages.proofs.Checks.{none_holds, passed_by, stopped_by, first_small}
+use Rattle.stages.proofs.Checks.{none_holds, passed_by, stopped_by}
 use Rattle.gate.specs.declared.setup.Offer.{Offer}
-use Rattle.gate.specs.declared.setup.Offer.TheVariants as O
+use Rattle.gate.specs.declared.lent.Lent.{Lent as LentParts}
 use Rattle.gate.specs.declared.setup.Start.{Start}
-use Rattle.gate.specs.declared.setup.Start.TheVariants as S
+use Rattle.gate.specs.InnerSizes.{SetsUp}
 use Rattle.gate.specs.State.{State, outcome, replied}
 use Rattle.gate.specs.Calls.{Setup}
 use Rattle.gate.specs.Sizes.{state_fits, setup_fits}
 use Rattle.gate.specs.Setup.{offered, chosen_of, expiry_of, entry_part, offer_part, lasting_part, room_part, setup_checks, new_token, sealed_of, reply_of, with_session, set_up}
-use Rattle.gate.specs.InnerStarts.{RefusedBy, LastsUntil, Lasts, Room, Starts, StartIs, start_at}
-use Rattle.gate.proofs.Numbers.{Entered, entry_numbered, entry_passed, setup_small, offer_numbered, answer_is}
+use Rattle.gate.specs.InnerStarts.{RefusedBy, Lasts, Starts, StartIs, start_at}
+use Rattle.gate.proofs.Numbers.{Entered, entry_numbered, entry_passed, offer_numbered, some_number, small_number, one_number, answer_is}
 
 -- reading a value decides 4 and 5, and leaves its mask to 19 and 20
-abbrev Told : ℕ → List Check → List Check → SetupRead → Type 0
-Told mask checks later SetupRead.Grammar = first checks ≡ 4
-Told mask checks later SetupRead.Fields = first checks ≡ 5
-Told mask checks later (SetupRead.Mask m) = (first checks ≡ first later) × (mask ≡ m)
+abbrev Told : ℕ → List Check → List Check → Result ℕ Unread → Type 0
+Told mask checks later (Ok m) = (first checks ≡ first later) × (mask ≡ m)
+Told mask checks later (Err e) = (refusal : Refusal) → RefusedUnread e refusal → first checks ≡ number_of refusal
 
 told_of : (o : Option (List Field)) (later : List Check)
     → Told (mask_of (the key_r (get_or o []))) (check 4 (missing o) ∷ check 5 (not (setup_fields (get_or o []))) ∷ later) later (setup_from o)
-told_of none later = refl
+told_of none later = λ refusal is. rw is refl
 told_of (some fs) later = by (setup_fields fs)
   where
     mask : ℕ
     mask = mask_of (the key_r fs)
 
-    by : (t : Bool) → Told mask (check 4 false ∷ check 5 (not t) ∷ later) later (cond t (SetupRead.Mask mask) SetupRead.Fields)
+    by : (t : Bool) → Told mask (check 4 false ∷ check 5 (not t) ∷ later) later (cond t (Ok mask) (Err Unread.Fields))
     by true = (refl, refl)
-    by false = refl
+    by false = λ refusal is. rw is refl
 
-abbrev pub Tells : Setup → SetupRead → Type 0
+abbrev pub Tells : Setup → Result ℕ Unread → Type 0
 Tells s r = Told (offered s) (offer_part s) (lasting_part s) r
 
-pub tells : (s : Setup) (value : List ℕ) (r : SetupRead) → s.value ≡ value → r ≡ setup_answer value → Tells s r
+pub tells : (s : Setup) (value : List ℕ) (r : Result ℕ Unread) → s.value ≡ value → r ≡ setup_answer value → Tells s r
 unfolding setup_answer offer_part offered carried
 tells s value r v e = rw (e, ← v) (told_of (grammar s.value) (lasting_part s))
 
-pub offer_lasts : (s : Setup) (hash : Hash) (end : ℕ) (r : Offer) → first (offer_part s) ≡ first (lasting_part s) → Lasts (lasting_part s) hash end r
+pub offer_lasts : (s : Setup) (hash : Hash) (end : ℕ) (r : Result Offer Refusal) → first (offer_part s) ≡ first (lasting_part s) → Lasts (lasting_part s) hash end r
     → Lasts (offer_part s) hash end r
-offer_lasts s hash end (O.Until by expiry) t u = record { none = t ∙ u.none; is = u.is; by = u.by }
-offer_lasts s hash end (O.Refused number) t u = record { is = t ∙ u.is; some = u.some }
+offer_lasts s hash end (Ok o) t u = record { none = t ∙ u.none; is = u.is; by = u.by }
+offer_lasts s hash end (Err e) t u = t ∙ u
 
 -- what the sizes of a setup say
 pub record Lent (s : Setup) (state : State) : Type 0 where
@@ -105,10 +106,9 @@ module _ (s : Setup) (state : State) where
   unfolding setup_checks entry_part
   opened e = entry_passed _ _ _ (none_holds (entry_part s state) _ (entry_numbered _ _ _) e).none
 
-  pub entry_refuses : (n : ℕ) → n ≡ first (entry_part s state) → (n ≡ 0 → ⊥) → RefusedBy (setup_checks s state) n
+  pub entry_refuses : (e : Refusal) → first (entry_part s state) ≡ number_of e → RefusedBy (setup_checks s state) e
   unfolding setup_checks entry_part
-  entry_refuses n e z =
-      record { is = stopped_by (entry_part s state) _ (entry_numbered _ _ _) (λ o. z (e ∙ o)) ∙ sym e; some = omega arith }
+  entry_refuses e f = stopped_by (entry_part s state) _ (entry_numbered _ _ _) (λ o. some_number e (sym f ∙ o)) ∙ f
 
   -- after them the offer decides, and after it the room
   module _ (passed : first (entry_part s state) ≡ 0) where
@@ -116,45 +116,32 @@ module _ (s : Setup) (state : State) where
     unfolding setup_checks entry_part
     later = passed_by (entry_part s state) _ (entry_numbered _ _ _) passed
 
-    pub offer_refuses : (n : ℕ) → RefusedBy (offer_part s) n → RefusedBy (setup_checks s state) n
-    offer_refuses n r = record {
-      is = later ∙ stopped_by (offer_part s) _ (offer_numbered s) (λ z. omega (arith, r.some, r.is)) ∙ r.is;
-      some = r.some;
-    }
+    pub offer_refuses : (e : Refusal) → RefusedBy (offer_part s) e → RefusedBy (setup_checks s state) e
+    offer_refuses e r = later ∙ stopped_by (offer_part s) _ (offer_numbered s) (λ z. some_number e (sym r ∙ z)) ∙ r
 
-    pub room_decides : (hash : Hash) (expiry : ℕ) (r : Start) → LastsUntil (offer_part s) (chosen_of s) hash (expiry_of s) expiry
-        → Room (room_part s state.table) state.table s.iv s.clock hash expiry r → StartIs s state r
-    room_decides hash expiry (S.At place by until) l h = record {
-      none = later ∙ passed_by (offer_part s) _ (offer_numbered s) l.none ∙ h.none;
-      is = h.is;
-      within = h.within;
-      new = h.new;
-      by = h.by ∙ l.by;
-      until = h.until ∙ l.is;
-    }
-    room_decides hash expiry (S.Refused n) l h =
-        record { is = later ∙ passed_by (offer_part s) _ (offer_numbered s) l.none ∙ h.is; some = h.some }
+    -- 17, 18 or neither, after an offer that lasts
+    module _ (offered : first (offer_part s) ≡ 0) where
+      pub room_refuses : (e : Refusal) → RefusedBy (room_part s state.table) e → RefusedBy (setup_checks s state) e
+      room_refuses e r = later ∙ passed_by (offer_part s) _ (offer_numbered s) offered ∙ r
 
   -- the outcome of each decision
-  pub starts : (place : ℕ) (hash : Hash) (expiry : ℕ) → Starts s state place hash expiry
-      → start_at s.orders.numbers.mask s.orders.extra s.server_key s.session_key s.iv s.session_id place hash expiry state.table s.reply
-      ≡ set_up s state
+  pub starts : (l : LentParts) (r : Start) → SetsUp s l → Starts s state r → start_at s.orders.numbers.mask s.orders.extra l r state.table s.reply ≡ set_up s state
   unfolding start_at set_up with_session reply_of sealed_of new_token
-  starts place hash expiry h = simp (h.by, h.until, h.none, h.is)
+  starts l r u h = simp (u.server_key, u.session_key, u.iv, u.session_id, h.by, h.until, h.none, h.is)
 
-  pub refuses : (n : ℕ) → RefusedBy (setup_checks s state) n → outcome n s.reply state ≡ set_up s state
+  pub refuses : (e : Refusal) → RefusedBy (setup_checks s state) e → outcome (number_of e) s.reply state ≡ set_up s state
   unfolding set_up
-  refuses n r =
-      rw (r.is, ne_eqb n 0 (λ z. omega (arith, r.some)))
-      (answer_is n n 0 s.reply state (omega arith) (rw r.is at (first_small (setup_checks s state) (setup_small s state))))
+  refuses e r =
+      rw (r, ne_eqb (number_of e) 0 (some_number e))
+      (answer_is _ _ 0 s.reply state (omega arith) (small_number e))
 
 -- two answers that `setup::decide` may give are one
-pub start_determined : (s : Setup) (state : State) (a b : Start) → StartIs s state a → StartIs s state b → a ≡ b
-start_determined s state (S.At i g m) (S.At j h n) p q =
-    let there : Place.At i ≡ Place.At j = sym p.is ∙ q.is in
-    let until : m ≡ n = ap (λ (t : ℕ). record { 0 = t }) (p.until ∙ sym q.until) in
-    let by : g ≡ h = p.by ∙ sym q.by in
+pub start_determined : (s : Setup) (state : State) (a b : Result Start Refusal) → StartIs s state a → StartIs s state b → a ≡ b
+start_determined s state (Ok a) (Ok b) p q =
+    let there : Some a.place ≡ Some b.place = sym p.is ∙ q.is in
+    let until : a.expiry ≡ b.expiry = ap (λ (t : ℕ). record { 0 = t }) (p.until ∙ sym q.until) in
+    let by : a.hash ≡ b.hash = p.by ∙ sym q.by in
     cc
-start_determined s state (S.At i g m) (S.Refused n) p q = absurd (omega (arith, p.none, q.is, q.some))
-start_determined s state (S.Refused m) (S.At j h n) p q = absurd (omega (arith, q.none, p.is, p.some))
-start_determined s state (S.Refused m) (S.Refused n) p q = ap S.Refused (sym p.is ∙ q.is)
+start_determined s state (Ok a) (Err e) p q = absurd (some_number e (sym q ∙ p.none))
+start_determined s state (Err e) (Ok b) p q = absurd (some_number e (sym p ∙ q.none))
+start_determined s state (Err d) (Err e) p q = ap Err (one_number d e (sym p ∙ q))

@@ -14,6 +14,10 @@ use Rattle.stages.specs.Request.{Request}
 use Rattle.stages.specs.Checks.{Check, first, nowhere}
 use Rattle.stages.specs.Parts.{iv_of, hash_of, token_of, reading_part, vouching_part, admitting_part, invalidates}
 use Rattle.stages.specs.InnerStages.{tells, About, stored_of, Settles}
+use Rattle.orders.specs.Orders.{Orders}
+use Rattle.gate.specs.declared.asked.Asked.{Asked}
+use Rattle.gate.specs.Sizes.{request_fits}
+use Rattle.gate.specs.InnerSizes.{request_by}
 use Rattle.gate.specs.State.{State, holding, indexed, Outcome, outcome}
 use Rattle.gate.specs.Judge.{request_checks, answered}
 
@@ -47,6 +51,11 @@ pub record DecidesAs (q : Request) (s : State) (d : Decision) : Type 0 where
 
 abbrev pub Decides : Request → State → Result Decision Refusal → Type 0
 Decides q s r = MatchResult r (DecidesAs q s) (Refuses (request_checks q s))
+
+-- of any request with these parts that passes check 1
+abbrev pub DecidesRequest : Orders → ℕ → List ℕ → Asked → State → Result Decision Refusal → Type 0
+DecidesRequest o clock server_key a s r =
+    (reply : List ℕ) → let q = request_by o clock server_key a reply in request_fits q s ≡ true → Decides q s r
 
 -- the state after an outcome at a place
 abbrev pub left_at : Result (Option Record) Refusal → Option ℕ → State → State

@@ -3,12 +3,12 @@
 use Rattle.std.specs.Prelude.{◌≡◌, true, false, Bool, List, ℕ, Option, MatchOption}
 use denote.Ref.{Bor}
 use Rattle.orders.specs.Orders.{Orders}
-use Rattle.stages.specs.Request.{request_of}
+use Rattle.stages.specs.Request.{Request, request_of}
 use Rattle.gate.specs.declared.asked.Asked.{Asked}
 use Rattle.gate.specs.declared.lent.Lent.{Lent}
 use Rattle.gate.specs.Calls.{Setup, setup_of}
-use Rattle.gate.specs.State.{State}
-use Rattle.gate.specs.Sizes.{setup_fits, brought_fits, lent_fits, state_fits}
+use Rattle.gate.specs.State.{holding}
+use Rattle.gate.specs.Sizes.{setup_fits, brought_fits, lent_fits}
 use Rattle.gate.specs.Trial.{trial_of, trial_fits}
 
 -- the parts of what a request brings
@@ -48,9 +48,17 @@ pub record SetsUp (s : Setup) (l : Lent) : Type 0 where
   pub session_id : l.session_id.now ≡ s.session_id
   pub value : l.value.now ≡ s.value
 
--- what sets up a session, whatever numbers and state it comes with: the state's size is looked at apart
-abbrev pub SetupFits : List ℕ → List ℕ → List ℕ → List ℕ → List ℕ → List ℕ → Option Lent → Type 0
-SetupFits server_key session_key iv session_id value reply r =
-    (o : Orders) (clock : ℕ) (state : State)
+-- what sets up a session, whatever numbers it comes with
+abbrev pub SetupFits : List ℕ → List ℕ → List ℕ → List ℕ → List ℕ → List ℕ → List ℕ → List ℕ → Option Lent → Type 0
+SetupFits server_key session_key iv session_id value table index reply r =
+    (o : Orders) (clock : ℕ)
     → let s = setup_of o clock server_key session_key iv session_id value reply in
-    MatchOption r (setup_fits s state ≡ false) (λ l. (setup_fits s state ≡ state_fits state) × SetsUp s l)
+    let fits = setup_fits s (holding table index) in
+    MatchOption r (fits ≡ false) (λ l. (fits ≡ true) × SetsUp s l)
+
+-- a request and a setup with these parts
+abbrev pub request_by : Orders → ℕ → List ℕ → Asked → List ℕ → Request
+request_by o clock server_key a reply = request_of o clock server_key a.value.now a.method.now a.head.now a.aside.now a.path.now a.body.now reply
+
+abbrev pub setup_by : Orders → ℕ → Lent → List ℕ → Setup
+setup_by o clock l reply = setup_of o clock l.server_key.now l.session_key.now l.iv.now l.session_id.now l.value.now reply

@@ -1,6 +1,6 @@
 -- What the code's stages answer for a setup, by the parts of its checks.
 -- Assumes nothing.
-use Rattle.std.specs.Prelude.{◌≡◌, List, ℕ, ◌*◌, ◌<◌, length, Some, None, Result, MatchResult}
+use Rattle.std.specs.Prelude.{◌≡◌, true, List, ℕ, ◌*◌, ◌<◌, Some, None, Result, MatchResult}
 use Rattle.cells.specs.Runs.{spliced}
 use Rattle.hashes.specs.declared.Hash.{Hash}
 use Rattle.hashes.specs.Hashes.{hash_mask}
@@ -9,10 +9,13 @@ use Rattle.table.specs.Record.{size, record_bytes, begun}
 use Rattle.table.specs.Table.{places, records, taken}
 use Rattle.table.specs.Session.{place_of}
 use Rattle.token.specs.Token.{sealed_token}
+use Rattle.orders.specs.Orders.{Orders}
+use Rattle.gate.specs.declared.lent.Lent.{Lent}
 use Rattle.gate.specs.declared.setup.Start.{Start}
 use Rattle.gate.specs.declared.setup.Offer.{Offer}
 use Rattle.gate.specs.Calls.{Setup}
-use Rattle.gate.specs.InnerSizes.{SetsUp}
+use Rattle.gate.specs.Sizes.{setup_fits}
+use Rattle.gate.specs.InnerSizes.{setup_by}
 use Rattle.stages.specs.declared.refusal.Refusal.{Refusal}
 use Rattle.stages.specs.Refusals.{number_of}
 use Rattle.stages.specs.Checks.{Check, first}
@@ -55,7 +58,6 @@ RoomIs table iv clock r =
     (s : Setup) → s.iv ≡ iv → s.clock ≡ clock → MatchResult r (HasRoom (room_part s table) table iv clock) (RefusedBy (room_part s table))
 
 pub record Starts (s : Setup) (state : State) (r : Start) : Type 0 where
-  pub lent : SetsUp s r.lent
   pub none : first (setup_checks s state) ≡ 0
   pub is : taken (records state.table) s.clock ≡ Some r.place
   pub within : r.place < places state.table
@@ -66,10 +68,14 @@ pub record Starts (s : Setup) (state : State) (r : Start) : Type 0 where
 abbrev pub StartIs : Setup → State → Result Start Refusal → Type 0
 StartIs s state r = MatchResult r (Starts s state) (RefusedBy (setup_checks s state))
 
+-- of any setup with these parts that passes check 1
+abbrev pub DecidesStart : Orders → ℕ → Lent → State → Result Start Refusal → Type 0
+DecidesStart o clock l state r =
+    (reply : List ℕ) → let s = setup_by o clock l reply in setup_fits s state ≡ true → StartIs s state r
+
 -- the effect of a setup that takes a place
-unfoldable pub start_at : ℕ → List ℕ → Start → List ℕ → List ℕ → Outcome
-start_at mask extra start table reply =
-    let lent = start.lent in
+unfoldable pub start_at : ℕ → List ℕ → Lent → Start → List ℕ → List ℕ → Outcome
+start_at mask extra lent start table reply =
     let token = sealed_token lent.server_key.now lent.iv.now (record { key = lent.session_key.now; id = lent.session_id.now; expiry = start.expiry.0 }) in
     replied 0 (setup_reply token.cipher lent.iv.now token.tag lent.session_key.now start.hash mask extra) reply
     (indexed (spliced table (size * start.place) (record_bytes (begun lent.iv.now start.expiry.0 (hash_mask start.hash)))))

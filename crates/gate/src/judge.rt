@@ -4,15 +4,16 @@ ghost use Rattle.names.specs.InnerWalk.{Known};
 ghost use Rattle.orders.specs.Orders.{orders, limits_of, orders_good};
 ghost use Rattle.table.specs.Table.{places, Within};
 ghost use Rattle.index.specs.Index.{Indexed};
-ghost use Rattle.stages.specs.Request.{request_of};
 ghost use Rattle.stages.specs.Parts.{invalidates};
 ghost use Rattle.stages.specs.Refusals.{number_of, number_in};
 ghost use Rattle.stages.specs.InnerStages.{tells};
 ghost use Rattle.gate.specs.State.{holding};
-ghost use Rattle.gate.specs.InnerDecisions.{Decides, Judges, StandsIn, left_by, AnswerIs};
+ghost use Rattle.gate.specs.Sizes.{state_fits};
+ghost use Rattle.gate.specs.InnerSizes.{request_by};
+ghost use Rattle.gate.specs.InnerDecisions.{DecidesRequest, Judges, StandsIn, left_by, AnswerIs};
 
 use super::asked::Asked;
-use super::{entry, sizes};
+use super::entry;
 use index::{change, lookup};
 use orders::{Limits, Numbers};
 use stages::refusal::Refusal;
@@ -22,31 +23,19 @@ use table::session;
 use table::session::Record;
 use window::time::Time;
 
-pub fn decide<'a>(
+pub fn decide(
     known: &[u8],
     numbers: Numbers,
     extra: &[u8],
     clock: Time,
-    server_key: &[u8],
-    value: &[u8],
-    method: &[u8],
-    head: &'a [u8],
-    aside: &'a [u8],
-    path: &[u8],
-    body: &[u8],
+    server_key: &[u8; 32],
+    asked: &Asked,
     table: &[u8],
     index: &[u8],
-    reply: &[u8],
 ) -> Result<Decision, Refusal>
-    requires { Known known.now }
-    ensures { Decides (request_of (orders numbers extra.now) clock.0 server_key.now value.now method.now head.now aside.now path.now body.now reply.now) (holding table.now index.now) result }
+    requires { Known known.now × (state_fits (holding table.now index.now) ≡ true) }
+    ensures { DecidesRequest (orders numbers extra.now) clock.0 server_key.now asked.now (holding table.now index.now) result }
 {
-    let (server_key, asked) =
-        sizes::request(server_key, value, method, head, aside, path, body, reply)
-            .ok_or(Refusal::WrongSize)?;
-    if !sizes::state_fits(table, index) {
-        return Err(Refusal::WrongSize);
-    }
     let limits = orders::check(known, numbers, extra).ok_or(Refusal::BadOrders)?;
     entry::state(table, index)?;
     judged(
@@ -56,7 +45,7 @@ pub fn decide<'a>(
         limits,
         clock,
         server_key,
-        &asked,
+        asked,
         |iv| {
             let place = lookup::find(table, index, iv);
             (place, session::held_at(table, place))
@@ -79,7 +68,7 @@ pub fn judged<F: Fn(&[u8; 12]) -> (Option<usize>, Record)>(
     requires good { orders_good (orders numbers extra.now) ≡ true }
     requires limits { limits ≡ limits_of (orders numbers extra.now) }
     requires callable { F.IsAlwaysCallable find }
-    ensures { (reply table : List ℕ) → ((iv : _) (r : _) → F.post find iv r → StandsIn table iv.now r.0 r.1) → Judges (request_of (orders numbers extra.now) clock.0 server_key.now asked.now.value.now asked.now.method.now asked.now.head.now asked.now.aside.now asked.now.path.now asked.now.body.now reply) table result }
+    ensures { (reply table : List ℕ) → ((iv : _) (r : _) → F.post find iv r → StandsIn table iv.now r.0 r.1) → Judges (request_by (orders numbers extra.now) clock.0 server_key.now asked.now reply) table result }
 {
     // The request's byte fields lie here as armor::Request tells, for every stage.
     let mut fields = [0u8; 210];

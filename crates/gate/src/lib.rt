@@ -52,19 +52,7 @@ pub fn gate_setup(
 ) -> u32
     ensures { outcome result reply.new (holding table.new index.new) ≡ set_up (setup_of (orders_of mask hashes extra.now request_life idle session_life) clock server_key.now session_key.now iv.now session_id.now value.now reply.old) (holding table.old index.old) }
 {
-    let known = names::known();
-    let numbers = Numbers {
-        mask,
-        hashes,
-        request_life,
-        idle,
-        session_life,
-    };
-    match setup::decide(
-        &known,
-        numbers,
-        extra,
-        Time(clock),
+    let Some(lent) = sizes::setup(
         server_key,
         session_key,
         iv,
@@ -73,8 +61,19 @@ pub fn gate_setup(
         table,
         index,
         reply,
-    ) {
-        Ok(start) => setup::apply(&start, mask, extra, table, index, reply),
+    ) else {
+        return Refusal::WrongSize.number();
+    };
+    let known = names::known();
+    let numbers = Numbers {
+        mask,
+        hashes,
+        request_life,
+        idle,
+        session_life,
+    };
+    match setup::decide(&known, numbers, extra, Time(clock), &lent, table, index) {
+        Ok(start) => setup::apply(&lent, &start, mask, extra, table, index, reply),
         Err(refusal) => refusal.number(),
     }
 }
@@ -101,6 +100,12 @@ pub fn gate_judge<'a>(
 ) -> u32
     ensures { outcome result reply.new (holding table.new index.new) ≡ judged (request_of (orders_of mask hashes extra.now request_life idle session_life) clock server_key.now value.now method.now head.now aside.now path.now body.now reply.old) (holding table.old index.old) }
 {
+    let (server_key, asked) = match sizes::request(
+        server_key, value, method, head, aside, path, body, reply,
+    ) {
+        Some(lent) if sizes::state_fits(table, index) => lent,
+        _ => return Refusal::WrongSize.number(),
+    };
     let known = names::known();
     let numbers = Numbers {
         mask,
@@ -115,15 +120,9 @@ pub fn gate_judge<'a>(
         extra,
         Time(clock),
         server_key,
-        value,
-        method,
-        head,
-        aside,
-        path,
-        body,
+        &asked,
         table,
         index,
-        reply,
     ) {
         Ok(decision) => {
             judge::apply(&decision, table, index);
@@ -154,6 +153,11 @@ pub fn gate_judge_one<'a>(
 ) -> u32
     ensures { outcome result reply.new (indexed (record_bytes «record».new)) ≡ judged (request_of (orders_of mask hashes extra.now request_life idle session_life) clock server_key.now value.now method.now head.now aside.now path.now body.now reply.old) (indexed (record_bytes «record».old)) }
 {
+    let Some((server_key, asked)) = sizes::request(
+        server_key, value, method, head, aside, path, body, reply,
+    ) else {
+        return Refusal::WrongSize.number();
+    };
     let known = names::known();
     let numbers = Numbers {
         mask,
@@ -168,14 +172,8 @@ pub fn gate_judge_one<'a>(
         extra,
         Time(clock),
         server_key,
-        value,
-        method,
-        head,
-        aside,
-        path,
-        body,
+        &asked,
         *record,
-        reply,
     ) {
         Ok(decision) => {
             *record = one::after(&decision, *record);

@@ -3,15 +3,15 @@ ghost use Rattle.std.specs.Prelude.{◌≡◌};
 ghost use Rattle.names.specs.InnerWalk.{Known};
 ghost use Rattle.orders.specs.Orders.{orders};
 ghost use Rattle.table.specs.Record.{record_bytes};
-ghost use Rattle.stages.specs.Request.{request_of};
 ghost use Rattle.stages.specs.Checks.{first};
 ghost use Rattle.stages.specs.Refusals.{number_in};
 ghost use Rattle.table.specs.Session.{place_of};
 ghost use Rattle.gate.specs.State.{indexed};
 ghost use Rattle.gate.specs.Entry.{state_checks};
-ghost use Rattle.gate.specs.InnerDecisions.{Decides, left_by, Keeps};
+ghost use Rattle.gate.specs.InnerDecisions.{DecidesRequest, left_by, Keeps};
 
-use super::{judge, sizes};
+use super::asked::Asked;
+use super::judge;
 use orders::Numbers;
 use stages::refusal::Refusal;
 use stages::settling::Decision;
@@ -19,27 +19,18 @@ use table::session::Record;
 use table::{rule, session};
 use window::time::Time;
 
-pub fn decide<'a>(
+pub fn decide(
     known: &[u8],
     numbers: Numbers,
     extra: &[u8],
     clock: Time,
-    server_key: &[u8],
-    value: &[u8],
-    method: &[u8],
-    head: &'a [u8],
-    aside: &'a [u8],
-    path: &[u8],
-    body: &[u8],
+    server_key: &[u8; 32],
+    asked: &Asked,
     record: Record,
-    reply: &[u8],
 ) -> Result<Decision, Refusal>
     requires { Known known.now }
-    ensures { Decides (request_of (orders numbers extra.now) clock.0 server_key.now value.now method.now head.now aside.now path.now body.now reply.now) (indexed (record_bytes «record»)) result }
+    ensures { DecidesRequest (orders numbers extra.now) clock.0 server_key.now asked.now (indexed (record_bytes «record»)) result }
 {
-    let (server_key, asked) =
-        sizes::request(server_key, value, method, head, aside, path, body, reply)
-            .ok_or(Refusal::WrongSize)?;
     let limits = orders::check(known, numbers, extra).ok_or(Refusal::BadOrders)?;
     sound(record)?;
     judge::judged(
@@ -49,7 +40,7 @@ pub fn decide<'a>(
         limits,
         clock,
         server_key,
-        &asked,
+        asked,
         |iv| (place_of(record, iv), record),
     )
 }

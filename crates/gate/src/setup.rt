@@ -1,16 +1,16 @@
 // Setting up a session: a decision that writes nothing, and its effect.
-ghost use Rattle.std.specs.Prelude.{◌≡◌, ◌+◌, ◌<◌, ◌≤◌, ◌^◌, length};
+ghost use Rattle.std.specs.Prelude.{◌≡◌, true, ◌+◌, ◌<◌, ◌≤◌, ◌^◌, length};
 ghost use Rattle.table.specs.Session.{place_of};
 ghost use Rattle.table.specs.Table.{places};
 ghost use Rattle.index.specs.Index.{Indexed};
 ghost use Rattle.names.specs.InnerWalk.{Known};
 ghost use Rattle.orders.specs.Orders.{orders};
 ghost use Rattle.gate.specs.State.{holding, outcome};
-ghost use Rattle.gate.specs.Calls.{setup_of};
-ghost use Rattle.gate.specs.InnerStarts.{StartIs, UntilIs, OfferIs, RoomIs, start_at};
+ghost use Rattle.gate.specs.Sizes.{state_fits};
+ghost use Rattle.gate.specs.InnerStarts.{DecidesStart, UntilIs, OfferIs, RoomIs, start_at};
 
+use super::entry;
 use super::lent::Lent;
-use super::{entry, sizes};
 use hashes::Hash;
 use index::{change, lookup};
 use orders::Numbers;
@@ -18,43 +18,31 @@ use stages::refusal::Refusal;
 use table::{place, session};
 use window::time::Time;
 
-// A session that is to begin: what its host lent, its place, its hash and its expiry.
+// The place that the new session takes, its hash and its expiry.
 #[derive(Clone, Copy)]
-pub struct Start<'a> {
-    pub lent: Lent<'a>,
+pub struct Start {
     pub place: usize,
     pub hash: Hash,
     pub expiry: Time,
 }
 
-pub fn decide<'a>(
+pub fn decide(
     known: &[u8],
     numbers: Numbers,
     extra: &[u8],
     clock: Time,
-    server_key: &'a [u8],
-    session_key: &'a [u8],
-    iv: &'a [u8],
-    session_id: &'a [u8],
-    value: &'a [u8],
+    lent: &Lent,
     table: &[u8],
     index: &[u8],
-    reply: &[u8],
-) -> Result<Start<'a>, Refusal>
-    requires { Known known.now }
-    ensures { StartIs (setup_of (orders numbers extra.now) clock.0 server_key.now session_key.now iv.now session_id.now value.now reply.now) (holding table.now index.now) result }
+) -> Result<Start, Refusal>
+    requires { Known known.now × (state_fits (holding table.now index.now) ≡ true) }
+    ensures { DecidesStart (orders numbers extra.now) clock.0 lent.now (holding table.now index.now) result }
 {
-    let lent = sizes::setup(server_key, session_key, iv, session_id, value, reply)
-        .ok_or(Refusal::WrongSize)?;
-    if !sizes::state_fits(table, index) {
-        return Err(Refusal::WrongSize);
-    }
     let limits = orders::check(known, numbers, extra).ok_or(Refusal::BadOrders)?;
     entry::state(table, index)?;
     let offer = offered(lent.value, numbers.hashes, clock, limits.session_life)?;
     let place = room(table, index, lent.iv, clock)?;
     Ok(Start {
-        lent,
         place,
         hash: offer.hash,
         expiry: offer.expiry,
@@ -101,6 +89,7 @@ fn room(table: &[u8], index: &[u8], iv: &[u8; 12], clock: Time) -> Result<usize,
 
 // The effect of a setup that nothing refuses.
 pub fn apply(
+    lent: &Lent,
     start: &Start,
     mask: u64,
     extra: &[u8],
@@ -108,10 +97,9 @@ pub fn apply(
     index: &mut [u8],
     reply: &mut [u8],
 ) -> u32
-    requires { (mask < 2 ^ 56) × (length extra.now ≤ 128) × (start.now.place < places table.old) × (1024 ≤ length reply.old) × Indexed table.old index.old × (place_of table.old start.now.lent.iv.now ≡ None) }
-    ensures { outcome result reply.new (holding table.new index.new) ≡ start_at mask extra.now start.now table.old reply.old }
+    requires { (mask < 2 ^ 56) × (length extra.now ≤ 128) × (start.now.place < places table.old) × (1024 ≤ length reply.old) × Indexed table.old index.old × (place_of table.old lent.now.iv.now ≡ None) }
+    ensures { outcome result reply.new (holding table.new index.new) ≡ start_at mask extra.now lent.now start.now table.old reply.old }
 {
-    let lent = &start.lent;
     let sealed = token::seal(
         lent.server_key,
         lent.iv,

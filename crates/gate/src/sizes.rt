@@ -53,14 +53,20 @@ pub fn setup<'a>(
     iv: &'a [u8],
     session_id: &'a [u8],
     value: &'a [u8],
+    table: &[u8],
+    index: &[u8],
     reply: &[u8],
 ) -> Option<Lent<'a>>
-    ensures { SetupFits server_key.now session_key.now iv.now session_id.now value.now reply.now result }
+    ensures { SetupFits server_key.now session_key.now iv.now session_id.now value.now table.now index.now reply.now result }
 {
     let server_key = server_key.try_into().ok()?;
     let session_key = session_key.try_into().ok()?;
     let iv = iv.try_into().ok()?;
-    if long_from(1, 64, session_id) && value.len() <= MOST_VALUE && LEAST_REPLY <= reply.len() {
+    if long_from(1, 64, session_id)
+        && value.len() <= MOST_VALUE
+        && state_fits(table, index)
+        && LEAST_REPLY <= reply.len()
+    {
         return Some(Lent {
             server_key,
             session_key,
@@ -72,7 +78,7 @@ pub fn setup<'a>(
     None
 }
 
-// What judges a request: the server's key, and what the request brings.
+// What judges a request, table and index apart: the server's key, and what the request brings.
 #[tactic(auto, unfolding(crate::specs::Sizes::lent_fits))]
 pub fn request<'a>(
     server_key: &'a [u8],
