@@ -1,6 +1,6 @@
 -- An index after an entry was made or taken out.
 -- Assumes nothing.
-use mathlib.Core.Path.{◌≡◌, refl, sym, ap, ◌∙◌}
+use mathlib.Core.Path.{◌≡◌, refl, sym, ap, subst, ◌∙◌}
 use mathlib.Core.List.{List, [], ◌∷◌, ◌++◌, append-nil}
 use Prim.Native.Nat.{ℕ, ◌-◌, ◌*◌, ◌≤◌, ◌<◌}
 use native.Mathlib.Omega.{arith}
@@ -9,10 +9,12 @@ use lib.Seq.{take_all}
 use Rattle.cells.specs.Numbers.{bytes_of}
 use Rattle.table.specs.declared.session.Record.{Record}
 use Rattle.table.specs.Record.{freed}
-use Rattle.index.specs.Index.{among, filled, coded}
+use Rattle.table.specs.Table.{record_at, records}
+use Rattle.table.proofs.Records.{length_records, records_at}
+use Rattle.index.specs.Index.{among, ranked, filled, coded}
 use Rattle.index.specs.Fits.{Stands}
 use Rattle.index.specs.InnerEntries.{Holds, Ranks}
-use Rattle.index.proofs.Ranked.{removed}
+use Rattle.index.proofs.Ranked.{removed, in_stands, ranked_in}
 use Rattle.index.proofs.Coded.{opened, closed}
 use Rattle.index.proofs.Held.{holds_long}
 use Rattle.index.proofs.Finding.{rank_is, rank_most, rank_among}
@@ -23,6 +25,17 @@ pub record Without (table : List Record) (ps after : List ℕ) (place : ℕ) : T
   pub within : at < length ps
   pub is : get_or ps at 0 ≡ place
   pub bytes : after ≡ coded (filled (length table) (removed at ps))
+
+-- the record that is read at a place: the rank of its IV, and its place among those of the used records
+module _ (bytes : List ℕ) {place : ℕ} {r : Record} (inside : place < length (records bytes)) (read : r ≡ record_at bytes place) where
+  read_here : get_or (records bytes) place freed ≡ r
+  read_here = records_at bytes place (omega (arith, length_records bytes)) ∙ sym read
+
+  pub ranks_of : {index : List ℕ} {at : ℕ} → Ranks (records bytes) index r.iv at → Ranks (records bytes) index (get_or (records bytes) place freed).iv at
+  ranks_of {index} {at} ranks = subst (λ (x : Record). Ranks (records bytes) index x.iv at) (sym read_here) ranks
+
+  pub stands_of : r.used ≡ 1 → Stands place (ranked (records bytes))
+  stands_of u = in_stands _ _ (ranked_in _ _ _ inside (ap (λ (x : Record). x.used) read_here ∙ u))
 
 -- the entries from `at` on, lent and left
 module _ (index : List ℕ) (at : ℕ) where

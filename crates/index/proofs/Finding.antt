@@ -1,20 +1,23 @@
 -- Finding through an index: the entries of lower IVs stand in front, and the next one names the record with an IV, if there is one.
 -- Assumes nothing.
-use mathlib.Core.Path.{◌≡◌, sym, ap, ◌∙◌}
+use mathlib.Core.Path.{◌≡◌, refl, sym, ap, ◌∙◌}
 use mathlib.Core.List.{List, ◌∷◌, ◌++◌}
-use mathlib.Core.Bool.{true, false, true≢false}
+use mathlib.Core.Bool.{Bool, true, false, true≢false}
 use Prim.Native.Nat.{ℕ, ◌+◌, ◌≤◌, ◌<◌}
 use native.Mathlib.Omega.{arith}
 use borrow.Author.Tests.{eqb-true, eqb-false, leb-true, leb-false, ltb-true, ltb-false}
 use lib.Dec.{eqb, leb, ltb}
 use lib.ListN.{length, get_or, take, drop}
+use Rattle.std.specs.Bool.{then_some}
+use Rattle.std.specs.Prelude.{None}
 use Rattle.cells.proofs.Tests.{tested, both}
 use Rattle.table.specs.declared.session.Record.{Record}
-use Rattle.table.specs.declared.place.Place.TheVariants.{Nowhere}
 use Rattle.table.specs.Record.{freed}
-use Rattle.table.specs.Table.{records, holds, found}
+use Rattle.table.specs.Table.{places, records, holds, found, Placed}
+use Rattle.table.proofs.Records.{length_records}
+use Rattle.table.proofs.Meaning.{well_formed_is}
 use Rattle.table.proofs.Tests.{refuted, holds_used}
-use Rattle.table.proofs.Found.{nowhere_found}
+use Rattle.table.proofs.Found.{nowhere_found, at_found}
 use Rattle.index.specs.Index.{precedes, among, ranked, Indexed}
 use Rattle.index.specs.InnerEntries.{entry_at, used_at, low_at, Holds, Ranks}
 use Rattle.index.proofs.Precedence.{precedes_self, precedes_trans}
@@ -106,7 +109,7 @@ rank_determined table index iv r s a b =
 -- an entry that names another record at the rank: none has the IV
 module _ {table index : List ℕ} (indexed : Indexed table index) (iv : List ℕ) {at : ℕ} (r : Ranks (records table) index iv at) where
   pub missing : (at < length (records table) → entry_at index at < length (records table) → holds iv (get_or (records table) (entry_at index at) freed) ≡ true → ⊥)
-      → found (records table) iv ≡ Nowhere
+      → found (records table) iv ≡ None
   missing other = nowhere_found (records table) iv (λ j l. refuted (holds iv (get_or (records table) j freed)) (clash j l))
     where
       h : Holds (records table) index (ranked (records table))
@@ -119,3 +122,17 @@ module _ {table index : List ℕ} (indexed : Indexed table index) (iv : List ℕ
           let here = rank_is h r s.at s.within (ap (λ (p : ℕ). (get_or (records table) p freed).iv) s.is ∙ told.1) in
           let is : entry_at index at ≡ j = ap (entry_at index) here ∙ holds_front h s.at s.within ∙ s.is in
           other (omega (arith, s.within, h.few)) (rw is l) (rw is e)
+
+  -- the answer is the place that the entry at the rank names, if its record has the IV
+  pub answered : (place : ℕ) (b : Bool) → place ≡ entry_at index at
+      → (b ≡ true → (place < length (records table)) × (holds iv (get_or (records table) place freed) ≡ true))
+      → (b ≡ false → place < length (records table) → holds iv (get_or (records table) place freed) ≡ true → ⊥)
+      → Placed (found (records table) iv) (places table) (then_some b place)
+  answered place true e here other =
+      let there = here refl in
+      record {
+        is = sym (at_found (records table) iv place (well_formed_is _ indexed.formed) there.0 there.1);
+        within = omega (arith, there.0, length_records table);
+      }
+  answered place false e here other =
+      record { is = sym (missing (λ l m h. other refl (rw (← e) at m) (rw (← e) at h))); within = tt }

@@ -2,14 +2,16 @@
 -- Assumes nothing.
 use mathlib.Core.Path.{◌≡◌, refl, sym, ap, ap₂, subst, ◌∙◌}
 use mathlib.Core.List.{List, ◌++◌}
-use mathlib.Core.Bool.{Bool, true, false, true≢false, cond, ◌&&◌}
+use mathlib.Core.Bool.{Bool, true, false, true≢false, cond, ◌&&◌, and-true, and_assoc}
 use Prim.Native.Nat.{ℕ, zero, suc, ◌+◌, ◌-◌, ◌*◌, ◌≤◌, ◌<◌}
+use native.Mathlib.Nat.{add-zero}
 use native.Mathlib.Numerals.{add-one}
 use native.Mathlib.Omega.{arith}
 use borrow.Author.Tests.{eqb-true, eqb-false, eq-eqb, ne_eqb}
 use lib.Dec.{eqb}
 use lib.ListN.{length, get_or, take, drop, replicate, length-drop, length-replicate, get_or-replicate, take-append-drop}
 use lib.Seq.{length-take-le, get_or-take, get_or-drop, ext_get_or}
+use Rattle.std.specs.List.{list_all, range_with_len}
 use Rattle.cells.specs.Runs.{same, Bytes}
 use Rattle.cells.proofs.Tests.{tested, both}
 use Rattle.cells.proofs.Equality.{same_equal, same_self}
@@ -59,6 +61,26 @@ every_more test k e f = rw (add-one k, e, f)
 
 pub every_not : (test : ℕ → Bool) (n k : ℕ) → k < n → test k ≡ false → every test n ≡ false
 every_not test n k l e = refuted (every test n) (λ t. true≢false (sym (every_at test n t k l) ∙ e))
+
+-- over the numbers from a on
+every_front : (test : ℕ → Bool) (n : ℕ) → (test 0 && every (λ k. test (suc k)) n) ≡ every test (suc n)
+unfolding every
+every_front test zero = and-true (test 0)
+every_front test (suc n) =
+    sym (and_assoc (test 0) (every (λ k. test (suc k)) n) (test (suc n))) ∙ ap (λ (b : Bool). b && test (suc n)) (every_front test n)
+
+every_alike : (s t : ℕ → Bool) → ((k : ℕ) → s k ≡ t k) → (n : ℕ) → every s n ≡ every t n
+unfolding every
+every_alike s t e zero = refl
+every_alike s t e (suc n) = ap₂ ◌&&◌ (every_alike s t e n) (e n)
+
+pub every_of : (test : ℕ → Bool) (a n : ℕ) → list_all test (range_with_len a n) ≡ every (λ k. test (a + k)) n
+unfolding every
+every_of test a zero = refl
+every_of test a (suc n) =
+    ap₂ ◌&&◌ (ap test (sym (add-zero a)))
+    (every_of test (a + 1) n ∙ every_alike (λ k. test (a + 1 + k)) (λ k. test (a + suc k)) (λ k. ap test (omega arith)) n)
+    ∙ every_front (λ k. test (a + k)) n
 
 -- how many records are used
 pub used_none : (table : List Record) → used_to table 0 ≡ 0

@@ -8,8 +8,8 @@ use Prim.Native.Nat.{ℕ, ◌<◌}
 use native.Mathlib.Omega.{arith}
 use lib.ListN.{length, get_or, set, length-set}
 use lib.Seq.{set-get_or}
+use Rattle.std.specs.Prelude.{None}
 use Rattle.table.specs.declared.session.Record.{Record}
-use Rattle.table.specs.declared.place.Place.TheVariants.{Nowhere}
 use Rattle.table.specs.Record.{freed}
 use Rattle.table.specs.Table.{found}
 use Rattle.table.specs.WellFormed.{Sound, WellFormed}
@@ -72,7 +72,7 @@ module _ (table : List Record) (w : WellFormed table) (place : ℕ) (within : pl
 
 -- a place that was free, with the record of a new session, is put among the others
 module _ (table : List Record) (w : WellFormed table) (place : ℕ) (r : Record) (within : place < length table)
-    (free : get_or table place freed ≡ freed) (u : r.used ≡ 1) (s : Sound r) (new : found table r.iv ≡ Nowhere) where
+    (free : get_or table place freed ≡ freed) (u : r.used ≡ 1) (s : Sound r) (new : found table r.iv ≡ None) where
   pub taken_well : WellFormed (set table place r)
   taken_well = stored_well table place r within w s (alone_new table place r new)
 

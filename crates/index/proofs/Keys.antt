@@ -2,7 +2,7 @@
 -- Assumes nothing.
 use mathlib.Core.Path.{◌≡◌, refl, sym, ap, ap₂, ◌∙◌}
 use mathlib.Core.List.{List, [], ◌∷◌}
-use mathlib.Core.Bool.{Bool, true, false, ◌&&◌, ◌||◌}
+use mathlib.Core.Bool.{Bool, true, false, not, cond, ◌&&◌, ◌||◌}
 use Prim.Native.Nat.{ℕ, ◌+◌, ◌*◌, ◌^◌, ◌≤◌, ◌<◌}
 use native.Mathlib.Omega.{arith}
 use borrow.Author.Tests.{ltb-true, ltb-false, eqb-true, eqb-false, lt-ltb, le-ltb}
@@ -10,6 +10,10 @@ use lib.Arith.{digits_lt}
 use lib.Dec.{eqb, ltb}
 use lib.ListN.{length, get_or, drop}
 use lib.Seq.{take-add, drop-drop}
+use Rattle.std.specs.declared.cmp.Ordering.{Ordering}
+use Rattle.std.specs.declared.cmp.Ordering.TheVariants.{Less, Equal, Greater}
+use Rattle.std.specs.Prelude.{Some}
+use Rattle.std.specs.Ordering.{is_lt, is_ge, is_some_and, partial_ordering_then, nat_cmp}
 use Rattle.cells.specs.Runs.{part, Bytes}
 use Rattle.cells.specs.Numbers.{number}
 use Rattle.cells.proofs.Runs.{length_part}
@@ -22,7 +26,7 @@ use Rattle.table.specs.Table.{places, records}
 use Rattle.table.proofs.Records.{length_records, records_at, used_at_lem, iv_at}
 use Rattle.index.specs.Index.{precedes, lower}
 use Rattle.index.specs.declared.order.Key.{Key}
-use Rattle.index.specs.InnerEntries.{worth, used_at}
+use Rattle.index.specs.InnerEntries.{worth, entry_at, used_at}
 
 -- numbers of two digits: the first decide, and where they are equal the second
 by_digits : (w x y m n : ℕ) → m < w → n < w → (ltb x y || (eqb x y && ltb m n)) ≡ ltb (x * w + m) (y * w + n)
@@ -69,6 +73,35 @@ pub by_parts : (a b : Key) → a.1 < 2 ^ 32 → b.1 < 2 ^ 32
     → (ltb a.0 b.0 || (eqb a.0 b.0 && ltb a.1 b.1)) ≡ ltb (worth a) (worth b)
 by_parts a b = by_digits (2 ^ 32) a.0 b.0 a.1 b.1
 
+-- the order of pairs
+pair_lt : (p q m n : ℕ) → is_some_and is_lt (partial_ordering_then (Some (nat_cmp p q)) (Some (nat_cmp m n))) ≡ (ltb p q || (eqb p q && ltb m n))
+pair_lt p q m n = by (ltb p q) (eqb p q) (ltb m n) (eqb m n)
+  where
+    by : (s t u v : Bool)
+        → is_some_and is_lt (partial_ordering_then (Some (cond s Less (cond t Equal Greater))) (Some (cond u Less (cond v Equal Greater)))) ≡ (s || (t && u))
+    by true t u v = refl
+    by false true true v = refl
+    by false true false true = refl
+    by false true false false = refl
+    by false false u v = refl
+
+not_less : (o p : Ordering)
+    → is_some_and is_ge (partial_ordering_then (Some o) (Some p)) ≡ not (is_some_and is_lt (partial_ordering_then (Some o) (Some p)))
+not_less Less p = refl
+not_less Equal Less = refl
+not_less Equal Equal = refl
+not_less Equal Greater = refl
+not_less Greater p = refl
+
+-- the order of keys is that of the numbers
+pub keys_lt : (a b : Key) → a.1 < 2 ^ 32 → b.1 < 2 ^ 32
+    → is_some_and is_lt (partial_ordering_then (Some (nat_cmp a.0 b.0)) (Some (nat_cmp a.1 b.1))) ≡ ltb (worth a) (worth b)
+keys_lt a b h k = pair_lt a.0 b.0 a.1 b.1 ∙ by_parts a b h k
+
+pub keys_ge : (a b : Key) → a.1 < 2 ^ 32 → b.1 < 2 ^ 32
+    → is_some_and is_ge (partial_ordering_then (Some (nat_cmp a.0 b.0)) (Some (nat_cmp a.1 b.1))) ≡ not (ltb (worth a) (worth b))
+keys_ge a b h k = not_less (nat_cmp a.0 b.0) (nat_cmp a.1 b.1) ∙ ap not (keys_lt a b h k)
+
 -- a place's record, in the table's bytes
 module _ (bytes : List ℕ) (place : ℕ) (h : place < places bytes) where
   pub used_byte : (get_or (records bytes) place freed).used ≡ get_or bytes (size * place) 0
@@ -81,6 +114,10 @@ module _ (bytes : List ℕ) (place : ℕ) (h : place < places bytes) where
 pub lower_number : (bytes : List ℕ) (p q : ℕ) → Bytes bytes → p < places bytes → q < places bytes
     → lower (records bytes) p q ≡ ltb (number (part bytes (size * p + 1) 12)) (number (part bytes (size * q + 1) 12))
 lower_number bytes p q b h k = ap₂ precedes (iv_bytes bytes p h) (iv_bytes bytes q k) ∙ precedes_twelve bytes bytes (size * p + 1) (size * q + 1) b b (omega arith) (omega arith)
+
+-- the IV that an entry names, as a number
+abbrev pub iv_of : List ℕ → List ℕ → ℕ → ℕ
+iv_of table index k = number (part table (size * entry_at index k + 1) 12)
 
 -- a used record stands within the table
 pub used_within : (bytes : List ℕ) (place : ℕ) → used_at (records bytes) place ≡ true → place < places bytes

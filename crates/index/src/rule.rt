@@ -20,7 +20,9 @@ fn tally(table: &[u8]) -> Option<usize>
         if !rule::sound_at(table, place) {
             return None;
         }
-        used += usize::from(table[SIZE * place] == 1);
+        if table[SIZE * place] == 1 {
+            used += 1;
+        }
     }
     Some(used)
 }

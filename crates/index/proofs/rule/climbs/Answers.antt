@@ -1,0 +1,64 @@
+-- An entry that names a used record is compared with the one before it.
+use Rattle.std.proofs.Common.{arith, sym, ◌∙◌, ◌≡◌, ◌<◌, ◌+◌, ◌-◌, ap, ap₂, true, List, ℕ}
+use borrow.Author.Tests.{not-true, not-false}
+use lib.Dec.{ltb}
+use Rattle.cells.specs.Runs.{Bytes}
+use Rattle.table.specs.Table.{records}
+use Rattle.table.proofs.Records.{length_records}
+use Rattle.index.specs.InnerEntries.{entry_at, used_at, rises_at, every}
+use Rattle.index.proofs.Keys.{iv_of, keys_ge, lower_number, told_within, used_within}
+use Rattle.index.proofs.Held.{used_told}
+use Rattle.index.proofs.Fitting.{every_at, every_none, every_more, every_not, risen_used, rises_unused, rises_later, rises_at_lem}
+use Rattle.index.proofs.rule.climbs.Goals as goal
+use Rattle.index.proofs.rule.climbs.Goals.{else-k-gt0-via-then-k-gt0+else-ge, else-k-gt0-via-else-k-gt0}
+
+-- what the two numbers tell of an entry behind the first
+compared : (table index : List ℕ) (k : ℕ) → Bytes table → every (rises_at (records table) index) k ≡ true
+    → used_at (records table) (entry_at index k) ≡ true → 0 < k
+    → rises_at (records table) index k ≡ ltb (iv_of table index (k - 1)) (iv_of table index k)
+compared table index k bytes rises named o =
+    let before : k - 1 < k = omega arith in
+    let last_used = risen_used (records table) index (k - 1) (every_at _ k rises (k - 1) before) in
+    rises_later (records table) index k named o
+    ∙ lower_number table (entry_at index (k - 1)) (entry_at index k) bytes (omega (arith, last_used.0, length_records table))
+    (used_within table _ named)
+
+pub loop-k-init : goal.loop-k-init
+loop-k-init c = (every_none _, omega arith, λ o. absurd (omega arith))
+
+pub returns-then-not-is_used : goal.returns-then-not-is_used
+returns-then-not-is_used c =
+    sym (every_not _ _ _ c.loop-k-test.true
+    (rises_unused (records c.args.table.now) c.args.index.now _ (rw c.read-place.ensures at (sym c.is_used.ensures ∙ c.if-not-is_used.true))))
+
+pub key_at-next-requires : goal.key_at-next-requires
+key_at-next-requires c = let inside = told_within _ _ c.is_used.ensures c.if-not-is_used.false in omega arith
+
+pub returns-then-ge : goal.returns-then-ge
+returns-then-ge c =
+    let loop = c.loop-k in
+    let named = rw c.read-place.ensures at (sym c.is_used.ensures ∙ c.if-not-is_used.false) in
+    let told = not-true _ (sym (keys_ge loop.last c.key_at-next.result (omega arith) (omega arith)) ∙ sym c.ge.ensures ∙ c.if-ge.true) in
+    sym (every_not _ _ _ c.loop-k-test.true
+    (compared c.args.table.now c.args.index.now loop.k (λ i. (c.type_inv.table i).fits) loop.invariant.0 named c.if-k-gt0.true
+    ∙ ap₂ ltb (sym (loop.invariant.2 c.if-k-gt0.true)) (sym (rw c.read-place.ensures at c.key_at-next.ensures)) ∙ told))
+
+pub loop-k-preserved : goal.loop-k-preserved
+loop-k-preserved c =
+    let table = c.args.table.now in
+    let index = c.args.index.now in
+    let loop = c.loop-k in
+    let named = rw c.read-place.ensures at (sym c.is_used.ensures ∙ c.if-not-is_used.false) in
+    let keyed = rw c.read-place.ensures at c.key_at-next.ensures in
+    let same : loop.k ≡ loop.k + 1 - 1 = omega arith in (
+      every_more _ _ loop.invariant.0 (elim c.else-k-gt0.branch [
+        | else-k-gt0-via-then-k-gt0+else-ge w ↦
+            let told = not-false _ (sym (keys_ge loop.last c.key_at-next.result (omega arith) (omega arith)) ∙ sym w.ge.ensures ∙ w.if-ge.false) in
+            compared table index loop.k (λ i. (c.type_inv.table i).fits) loop.invariant.0 named w.if-k-gt0.true
+            ∙ ap₂ ltb (sym (loop.invariant.2 w.if-k-gt0.true)) (sym keyed) ∙ told
+        | else-k-gt0-via-else-k-gt0 w ↦
+            rises_at_lem (records table) index loop.k (used_told (records table) _ named) (λ o. absurd (omega (arith, w.if-k-gt0.false)))
+      ]),
+      omega arith,
+      λ o. keyed ∙ ap (iv_of table index) same,
+    )
