@@ -1,116 +1,125 @@
 -- How the stages' answers make up the parts of a request's checks.
 -- Assumes nothing.
-use mathlib.Core.Path.{◌≡◌, refl, sym, ap, subst, ◌∙◌}
-use mathlib.Core.Bool.{Bool, true, false, true≢false, cond, not}
-use mathlib.Core.List.{List, []}
+use mathlib.Core.Path.{◌≡◌, refl, sym, ap, ◌∙◌}
+use mathlib.Core.Bool.{Bool, true, false, cond, not, ◌&&◌}
+use mathlib.Core.List.{List, [], ◌∷◌}
 use mathlib.Core.Option.{Option, none, some, get_or}
 use Prim.Native.Nat.{ℕ, ◌+◌, ◌-◌, ◌≤◌, ◌<◌}
 use native.Mathlib.Omega.{arith}
 use borrow.Author.Tests.{le-leb, lt-leb}
 use lib.Dec.{eqb}
 use lib.ListN.{take}
+use Rattle.std.specs.Prelude.{Result, Ok, Err}
+use Rattle.std.specs.Prelude as P
 use Rattle.cells.specs.Runs.{part, cut, same}
 use Rattle.hashes.specs.declared.Hash.{Hash}
 use Rattle.hashes.specs.Hashes.{hash_mask, named}
 use Rattle.hmac.specs.Hmac.{hmac_of}
-use Rattle.armor.specs.declared.Answer.{Answer}
+use Rattle.armor.specs.declared.Unread.{Unread}
 use Rattle.armor.specs.declared.Request.{Request as ArmorRequest}
 use Rattle.armor.specs.Value.{Field, grammar, carried}
 use Rattle.armor.specs.Keys.{key_c}
 use Rattle.armor.specs.Fields.{the, request_fields}
-use Rattle.armor.specs.InnerAnswers.{answer_number, request_from, request_answer, Holds, Lies}
+use Rattle.armor.specs.InnerAnswers.{request_from, request_answer, Holds, Lies}
 use Rattle.signed.specs.SignedText.{request_text}
 use Rattle.table.specs.declared.session.Record.{Record}
-use Rattle.table.specs.declared.place.Place.{Place}
 use Rattle.table.specs.Record.{window_of, with_window}
-use Rattle.token.specs.Token.{Token, opened_token}
+use Rattle.token.specs.Token.{opened_token, has_token}
 use Rattle.token.specs.InnerHeld.{IsToken, Unseals}
-use Rattle.token.specs.declared.Unsealed.{Unsealed}
+use Rattle.token.specs.declared.Token.{Token as Held}
 use Rattle.window.specs.declared.Window.{Window}
 use Rattle.window.specs.declared.Stepped.{Stepped}
-use Rattle.window.specs.declared.Verdict.{Verdict}
-use Rattle.window.specs.declared.Verdict.TheVariants.{Accepted, TooOld, Seen}
 use Rattle.window.specs.Time.{exceeds, most_ahead}
 use Rattle.window.specs.Window.{number_of, step_of}
-use Rattle.stages.specs.declared.vouching.Opened.{Opened}
-use Rattle.stages.specs.declared.admitting.Admitted.{Admitted}
-use Rattle.stages.specs.declared.settling.Decision.{Decision}
+use Rattle.stages.specs.declared.refusal.Refusal.{Refusal}
+use Rattle.stages.specs.declared.refusal.Refusal.TheVariants.{BadToken}
+use Rattle.stages.specs.Refusals.{number_in, RefusedUnread}
+use Rattle.stages.specs.Refusals as R
 use Rattle.stages.specs.Request.{Request}
-use Rattle.stages.specs.Checks.{first, missing, nowhere}
+use Rattle.orders.specs.declared.Limits.{Limits}
+use Rattle.stages.specs.Checks.{Check, check, first, missing, nowhere}
 use Rattle.table.specs.Session.{place_of, held_at}
-use Rattle.stages.specs.Parts.{fields_of, iv_of, hash_of, nonce_of, time_of, last_time_of, signature_of, opened_of, token_of, limits, text_of, code_under, code_of, ordered, keeps_hash, stepped, next_of, token_part, signature_part, vouching_part, session_part, nonce_part, admitting_part}
-use Rattle.stages.specs.InnerStages.{tells, decision_of, About, Opens, StandsAt, Admits, Settles}
-use Rattle.stages.proofs.Checks.{passed_by, stopped_by}
-use Rattle.stages.proofs.Parts.{token_numbered, vouching_numbered}
+use Rattle.stages.specs.Parts.{fields_of, iv_of, hash_of, nonce_of, time_of, last_time_of, signature_of, opened_of, token_of, limits, text_of, code_under, code_of, ordered, keeps_hash, stepped, next_of, covering_part, reading_part, token_part, signature_part, vouching_part, session_part, nonce_part, admitting_part}
+use Rattle.stages.specs.InnerStages.{Opens, StandsAt, Asks, Admits}
+use Rattle.stages.proofs.Checks.{passed_by}
+use Rattle.stages.proofs.Parts.{token_numbered}
 
--- what reading a value says of its grammar and its fields
-pub grammar_broken : (v : List ℕ) → request_answer v ≡ Answer.Grammar → missing (grammar v) ≡ true
-unfolding request_answer
-grammar_broken v e = by (grammar v) e
+-- a value that cannot be read is refused by 4 or 5
+abbrev fields_answer : Bool → Result Unit Unread
+fields_answer right = cond right (Ok tt) (Err Unread.Fields)
+
+broken : (o : Option (List Field)) → request_from o ≡ Err Unread.Grammar → missing o ≡ true
+broken none e = refl
+broken (some fs) e = by (request_fields fs) e
   where
-    fields : (b : Bool) → answer_number (cond b Answer.Good Answer.Fields) ≡ 4 → ⊥
-    fields true z = omega arith
-    fields false z = omega arith
+    by : (b : Bool) → fields_answer b ≡ Err Unread.Grammar → missing (some fs) ≡ true
+    by true z = cc
+    by false z = cc
 
-    by : (o : Option (List Field)) → request_from o ≡ Answer.Grammar → missing o ≡ true
-    by none z = refl
-    by (some fs) z = absurd (fields (request_fields fs) (ap answer_number z))
+-- one that can be has its grammar, and the right fields or not
+record Complete (o : Option (List Field)) (right : Bool) : Type 0 where
+  grammar : missing o ≡ false
+  fields : request_fields (get_or o []) ≡ right
 
-pub record Complete (v : List ℕ) (right : Bool) : Type 0 where
-  pub grammar : missing (grammar v) ≡ false
-  pub fields : request_fields (carried v) ≡ right
+complete : (o : Option (List Field)) (right : Bool) → request_from o ≡ fields_answer right → Complete o right
+complete none true e = cc
+complete none false e = cc
+complete (some fs) right e = record { grammar = refl; fields = by (request_fields fs) right e }
+  where
+    by : (a b : Bool) → fields_answer a ≡ fields_answer b → a ≡ b
+    by true true z = refl
+    by true false z = cc
+    by false true z = cc
+    by false false z = refl
 
-abbrev answer_for : Bool → Answer
-answer_for true = Answer.Good
-answer_for false = Answer.Fields
+pub unread : (q : Request) (why : Unread) (r : Refusal) → request_answer q.value ≡ Err why → RefusedUnread why r → R.number_of r ≡ first (reading_part q)
+unfolding request_answer reading_part fields_of carried
+unread q Unread.Grammar r e is = rw is (simp (broken (grammar q.value) e))
+unread q Unread.Fields r e is =
+    let told = complete (grammar q.value) false e in
+    rw is (simp (told.grammar, told.fields))
 
-pub fields_told : (v : List ℕ) (right : Bool) → request_answer v ≡ answer_for right → Complete v right
+pub good_fields : (v : List ℕ) → request_answer v ≡ Ok tt → request_fields (carried v) ≡ true
 unfolding request_answer carried
-fields_told v right e = record { grammar = there (grammar v) right e; fields = rightly (grammar v) right e }
-  where
-    clash : (b : Bool) → answer_number (answer_for b) ≡ 4 → ⊥
-    clash true z = omega arith
-    clash false z = omega arith
+good_fields v e = (complete (grammar v) true e).fields
 
-    there : (o : Option (List Field)) (b : Bool) → request_from o ≡ answer_for b → missing o ≡ false
-    there none b z = absurd (clash b (sym (ap answer_number z)))
-    there (some fs) b z = refl
+pub read_on : (q : Request) → request_answer q.value ≡ Ok tt → first (reading_part q) ≡ first (covering_part q)
+unfolding request_answer reading_part fields_of carried
+read_on q e =
+    let told = complete (grammar q.value) true e in
+    simp (told.grammar, told.fields)
 
-    same_side : (a b : Bool) → answer_number (cond a Answer.Good Answer.Fields) ≡ answer_number (answer_for b) → a ≡ b
-    same_side true true z = refl
-    same_side true false z = absurd (omega arith)
-    same_side false true z = absurd (omega arith)
-    same_side false false z = refl
+-- whether the token opens, of a request that was read
+pub opens : (q : Request) (r : ArmorRequest) (run : List ℕ) → Lies (carried q.value) r run → (u : P.Option Held)
+    → Unseals (opened_token q.server_key (part run 182 12) (take r.s_len run) (part run 194 16)) u → (a : Result Held Refusal) → a ≡ P.ok_or u BadToken
+    → Opens q a
+unfolding opened_of iv_of fields_of token_of
+opens q r run lies P.None told a is = rw is (record { is = simp (← lies.token, ← lies.vector, ← lies.tag, told); holds = tt })
+opens q r run lies (P.Some token) told a is =
+    rw is (record { is = simp (← lies.token, ← lies.vector, ← lies.tag, told.0); holds = rw (← lies.token, ← lies.vector, ← lies.tag) told.1 })
 
-    rightly : (o : Option (List Field)) (b : Bool) → request_from o ≡ answer_for b → request_fields (get_or o []) ≡ b
-    rightly none b z = absurd (clash b (sym (ap answer_number z)))
-    rightly (some fs) b z = same_side (request_fields fs) b (ap answer_number z)
+-- what the token and the signature come to, of a token that opened
+module _ (q : Request) (token : Held) (o : Opens q (Ok token)) where
+  has : has_token (opened_of q) ≡ true
+  has = by (has_token (opened_of q)) o.is
+    where
+      by : (b : Bool) → ◌≡◌ {A = ℕ} 0 (cond (not b) 9 0) → b ≡ true
+      by true e = refl
+      by false e = absurd (omega arith)
 
--- what the token comes to, of a request that was read and whose token was unsealed
-module _ (q : Request) (r : ArmorRequest) (run : List ℕ) (h : Holds q.value (carried q.value) r) (lies : Lies (carried q.value) r run) (u : Unsealed)
-    (told : Unseals (opened_token q.server_key (part run 182 12) (take r.s_len run) (part run 194 16)) u) where
-  opens : Unseals (opened_of q) u
-  unfolding opened_of iv_of fields_of
-  opens = rw (← lies.token, ← lies.vector, ← lies.tag) told
-
-  pub unopened : u.good ≡ false → Opens q (record { number = 9; token = u })
+  pub lapsed : token.expiry.0 ≤ q.clock → 10 ≡ first (vouching_part q)
   unfolding token_part
-  unopened z = record { is = simp (sym opens.is ∙ z); holds = λ n. absurd (n refl) }
+  lapsed late = simp (has, ← o.holds.expiry, le-leb token.expiry.0 q.clock late)
 
-  module _ (good : u.good ≡ true) where
-    held : IsToken (token_of q) u
-    unfolding token_of
-    held = opens.holds good
+  lasting : q.clock < token.expiry.0 → first (token_part q) ≡ 0
+  unfolding token_part
+  lasting early = simp (has, ← o.holds.expiry, lt-leb token.expiry.0 q.clock early)
 
-    pub lapsed : u.expiry.0 ≤ q.clock → Opens q (record { number = 10; token = u })
-    unfolding token_part
-    lapsed late =
-        record { is = simp (sym opens.is ∙ good, ← held.expiry, le-leb u.expiry.0 q.clock late); holds = λ z. held }
-
-    pub lasting : q.clock < u.expiry.0 → Opens q (record { number = 0; token = u })
-    unfolding token_part
-    lasting early =
-        record { is = simp (sym opens.is ∙ good, ← held.expiry, lt-leb u.expiry.0 q.clock early); holds = λ z. held }
+  pub vouched_by : q.clock < token.expiry.0 → (signed : Bool) → signed ≡ same (signature_of q) (code_under token.key q)
+      → cond (not signed) 11 0 ≡ first (vouching_part q)
+  unfolding signature_part code_of
+  vouched_by early signed is =
+      sym (passed_by (token_part q) (signature_part q) (token_numbered q) (lasting early) ∙ simp (← o.holds.key, ← is))
 
 -- the hash that a request's h names
 pub read_hash : (q : Request) {r : ArmorRequest} {hash : Hash} → Holds q.value (carried q.value) r → hash ≡ named r.h → hash_of q ≡ hash
@@ -128,90 +137,45 @@ signed_by_lem q r run h lies key hash named end ends code made =
     let signature : cut run 118 end ≡ the key_c (carried q.value) = ap (part run 118) size ∙ lies.signature in
     simp (named, signature, made, h.nonce, h.time, h.last_time)
 
-module _ (q : Request) (table : List ℕ) where
-  -- the window's answer in a session that is there, and its record after it
-  module _ (place : Place) (held : Record) (s : StandsAt q table place held) (there : nowhere place ≡ false) where
-    held_there : held ≡ held_at table (place_of table (iv_of q))
-    held_there = sym (s.holds there) ∙ ap (held_at table) (sym s.at)
+-- what a session's checks come to, over what admitting is lent
+abbrev lent_part : P.Option ℕ → Record → ℕ → ℕ → ℕ → Limits → Hash → Bool → ℕ → List Check
+lent_part place held clock t lt within hash nonces n =
+    let verdict = number_of (step_of (window_of held) n).verdict in
+    check 12 (nowhere place)
+    ∷ check 8 (not (eqb held.hash (hash_mask hash)))
+    ∷ check 13 (exceeds t lt within.idle)
+    ∷ check 14 (exceeds clock t within.request_life)
+    ∷ check 21 (exceeds t clock most_ahead)
+    ∷ check 15 (nonces && eqb verdict 15)
+    ∷ check 16 (nonces && eqb verdict 16)
+    ∷ []
 
-    -- whether its record keeps the request's hash, as the code compares them
-    pub hash_told : (hash : Hash) (mask : ℕ) → hash_of q ≡ hash → mask ≡ hash_mask hash → keeps_hash q table ≡ eqb held.hash mask
-    unfolding keeps_hash
-    hash_told hash mask e f = rw (← held_there, e, f)
+pub is_there : (place : P.Option ℕ) → nowhere place ≡ not (P.is_some place)
+is_there P.None = refl
+is_there (P.Some p) = refl
 
-    pub stepped_held : (n : ℕ) (w : Window) (answer : Stepped) → nonce_of q ≡ n → w ≡ window_of held → answer ≡ step_of w n → answer ≡ stepped q table
-    unfolding stepped
-    stepped_held n w answer nonce window step = rw (nonce, ← held_there, ← window) step
+module _ (q : Request) (table : List ℕ) (place : P.Option ℕ) (held : Record) (clock t lt : ℕ) (within : Limits) (hash : Hash) (nonces : Bool) (n : ℕ)
+    (s : StandsAt q table place held) (a : Asks q clock t lt within hash nonces n) where
+  -- the request's checks against the session are those
+  pub lent : first (admitting_part q table) ≡ first (lent_part place held clock t lt within hash nonces n)
+  unfolding session_part nonce_part keeps_hash stepped
+  lent = by (nowhere place) refl
+    where
+      by : (b : Bool) → nowhere place ≡ b → first (admitting_part q table) ≡ first (lent_part place held clock t lt within hash nonces n)
+      by true away = simp (s.at, away)
+      by false there = simp (s.at, s.holds there, a.clock, a.t, a.lt, a.within, a.hash, a.nonces, a.n)
 
-    pub next_held : (answer : Stepped) (w : Window) (next : Record) → answer ≡ stepped q table → w ≡ answer.window → next ≡ with_window held w → next ≡ next_of q table
-    unfolding next_of
-    next_held answer w next a b c = rw (← a, ← b, ← held_there) c
+  pub turned_away : (r : Refusal) → first (lent_part place held clock t lt within hash nonces n) ≡ R.number_of r → Admits q table (Err r)
+  turned_away r f = record { is = sym (lent ∙ f); next = tt }
 
-  -- a session that is there and keeps the request's hash, not idle, and asked neither too late nor too far ahead
-  pub record InTime : Type 0 where
-    pub there : nowhere (place_of table (iv_of q)) ≡ false
-    pub kept : keeps_hash q table ≡ true
-    pub active : exceeds (time_of q) (last_time_of q) (limits q).idle ≡ false
-    pub young : exceeds q.clock (time_of q) (limits q).request_life ≡ false
-    pub near : exceeds (time_of q) q.clock most_ahead ≡ false
+  pub let_through : first (lent_part place held clock t lt within hash nonces n) ≡ 0 → nonces ≡ false → Admits q table (Ok P.None)
+  let_through f unordered = record { is = sym (lent ∙ f); next = rw (a.nonces, unordered) refl }
 
-  pub turned_away : (r : Admitted) (k : ℕ) → r.number ≡ k → 1 ≤ k → first (admitting_part q table) ≡ k → Admits q table r
-  turned_away r k e least f = record { is = e ∙ sym f; next = λ z o. absurd (omega (arith, e)) }
-
-  pub window_first : InTime → ordered q ≡ true → (v : Verdict) → (stepped q table).verdict ≡ v → first (admitting_part q table) ≡ number_of v
-  unfolding session_part nonce_part
-  window_first i o Accepted e = simp (i.there, i.kept, i.active, i.young, i.near, o, e)
-  window_first i o TooOld e = simp (i.there, i.kept, i.active, i.young, i.near, o, e)
-  window_first i o Seen e = simp (i.there, i.kept, i.active, i.young, i.near, o, e)
-
-  pub unordered_first : InTime → ordered q ≡ false → first (admitting_part q table) ≡ 0
-  unfolding session_part nonce_part
-  unordered_first i o = simp (i.there, i.kept, i.active, i.young, i.near, o)
-
-tells_nine : (n : ℕ) → tells n ≡ true → n ≡ 9 → ⊥
-tells_nine n t e = true≢false (sym t ∙ ap tells e)
-
-about_token : (token : Token) (u : Unsealed) (number : ℕ) (place : Place) (hash : Hash) (nonces : Bool) (next : Record) → IsToken token u
-    → About token hash (decision_of number place u hash nonces next)
-about_token token u number place hash nonces next h =
-    record { key = h.key; id = h.id; id_size = h.id_size; id_fits = h.id_fits; hash = refl }
-
--- what the token and the signature come to, of a token that was opened
-module _ (q : Request) (o : Opened) (h : Opens q o) where
-  pub opened_away : (o.number ≡ 0 → ⊥) → o.number ≡ first (vouching_part q)
-  opened_away z = h.is ∙ sym (stopped_by (token_part q) (signature_part q) (token_numbered q) (λ p. z (h.is ∙ p)))
-
-  pub vouched_by : (signed : Bool) → o.number ≡ 0 → signed ≡ same (signature_of q) (code_under o.token.key q)
-      → cond (not signed) 11 0 ≡ first (vouching_part q)
-  unfolding signature_part code_of
-  vouched_by signed z is =
-      let token = h.holds (λ n. omega arith) in
-      sym (passed_by (token_part q) (signature_part q) (token_numbered q) (sym h.is ∙ z) ∙ simp (← token.key, ← is))
-
-  -- the token is there unless the number is 9
-  pub token_there : (v : ℕ) → v ≡ first (vouching_part q) → (v ≡ 9 → ⊥) → IsToken (token_of q) o.token
-  token_there v is other =
-      h.holds (λ nine. other (is ∙ stopped_by (token_part q) (signature_part q) (token_numbered q) (λ z. omega (arith, h.is)) ∙ sym h.is ∙ nine))
-
-module _ (q : Request) (table : List ℕ) (place : Place) (held : Record) (s : StandsAt q table place held) (v : ℕ) (token : Unsealed)
-    (is : v ≡ first (vouching_part q)) (holds : (v ≡ 9 → ⊥) → IsToken (token_of q) token) (d : Decision) where
-  -- a request that the token or the signature does not vouch for
-  pub settled_away : (v ≡ 0 → ⊥) → d ≡ decision_of v place token (hash_of q) false held → Settles q table d
-  settled_away z e = subst (Settles q table) (sym e) (record {
-    is = is ∙ sym (stopped_by (vouching_part q) (admitting_part q table) (vouching_numbered q) (λ o. z (is ∙ o)));
-    knows = λ t. about_token _ token v place (hash_of q) false held (holds (tells_nine v t));
-    at = sym s.at;
-    orders = λ n. absurd (z n);
-    next = λ n o. absurd (z n);
-  })
-
-  -- one that they vouch for is as its session admits it
-  pub settled_here : (a : Admitted) → v ≡ 0 → Admits q table a → d ≡ decision_of a.number place token (hash_of q) (ordered q) a.next
-      → Settles q table d
-  settled_here a z g e = subst (Settles q table) (sym e) (record {
-    is = g.is ∙ sym (passed_by (vouching_part q) (admitting_part q table) (vouching_numbered q) (sym is ∙ z));
-    knows = λ t. about_token _ token a.number place (hash_of q) (ordered q) a.next (holds (λ n. omega arith));
-    at = sym s.at;
-    orders = λ n. refl;
-    next = g.next;
-  })
+  -- its record with the window after the nonce
+  pub stored : first (lent_part place held clock t lt within hash nonces n) ≡ 0 → nowhere place ≡ false → nonces ≡ true → (w : Window) → w ≡ window_of held
+      → (answer : Stepped) → answer ≡ step_of w n → (next : Record) → next ≡ with_window held answer.window → Admits q table (Ok (P.Some next))
+  unfolding next_of stepped
+  stored f there ordered w window answer step next is = record {
+    is = sym (lent ∙ f);
+    next = simp (a.nonces, ordered, s.at, s.holds there, a.n, is, step, window);
+  }
