@@ -40,9 +40,10 @@ use Rattle.orders.specs.declared.Limits.{Limits}
 use Rattle.stages.specs.Checks.{Check, check, first, missing, nowhere}
 use Rattle.table.specs.Session.{place_of, held_at}
 use Rattle.stages.specs.Parts.{fields_of, iv_of, hash_of, nonce_of, time_of, last_time_of, signature_of, opened_of, token_of, limits, text_of, code_under, code_of, ordered, keeps_hash, stepped, next_of, covering_part, reading_part, token_part, signature_part, vouching_part, session_part, nonce_part, admitting_part}
-use Rattle.stages.specs.InnerStages.{Opens, StandsAt, Asks, Admits}
-use Rattle.stages.proofs.Checks.{passed_by}
-use Rattle.stages.proofs.Parts.{token_numbered}
+use Rattle.stages.specs.InnerStages.{Opens, StandsAt, Asks, Admits, Settles}
+use Rattle.stages.proofs.Checks.{passed_by, stopped_by}
+use Rattle.stages.proofs.Parts.{token_numbered, vouching_numbered}
+use Rattle.stages.proofs.Refusals.{some_number}
 
 -- a value that cannot be read is refused by 4 or 5
 abbrev fields_answer : Bool → Result Unit Unread
@@ -179,3 +180,21 @@ module _ (q : Request) (table : List ℕ) (place : P.Option ℕ) (held : Record)
     is = sym (lent ∙ f);
     next = simp (a.nonces, ordered, s.at, s.holds there, a.n, is, step, window);
   }
+
+-- what becomes of a request that was vouched for by this answer, by what its session answers where it was
+pub settled : (q : Request) (table : List ℕ) (place : P.Option ℕ) (held : Record) → StandsAt q table place held → (token : Held) → IsToken (token_of q) token
+    → (hash : Hash) → hash_of q ≡ hash → (vouched : Result Unit Refusal) → number_in vouched ≡ first (vouching_part q)
+    → (outcome : Result (P.Option Record) Refusal) → P.MatchResult vouched (λ v. Admits q table outcome) (λ r. outcome ≡ Err r)
+    → Settles q table (record { place = place; token = token; hash = hash; outcome = outcome })
+settled q table place held s token about hash named (Ok v) is outcome told = record {
+  is = told.is ∙ sym (passed_by (vouching_part q) (admitting_part q table) (vouching_numbered q) (sym is));
+  knows = record { token = about; hash = sym named };
+  at = sym s.at;
+  next = told.next;
+}
+settled q table place held s token about hash named (Err r) is outcome told = rw told (record {
+  is = is ∙ sym (stopped_by (vouching_part q) (admitting_part q table) (vouching_numbered q) (λ z. let some : 1 ≤ R.number_of r = some_number r in omega (arith, is)));
+  knows = record { token = about; hash = sym named };
+  at = sym s.at;
+  next = tt;
+})

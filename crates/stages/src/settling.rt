@@ -33,12 +33,11 @@ pub fn settle(
 {
     let hash = Hash::named(request.h);
     let ordered = numbers.mask % 2 == 1;
-    let outcome = match vouched {
-        Ok(()) => admitting::admit(
+    let outcome = vouched.and_then(|()| {
+        admitting::admit(
             place, held, clock, request.t, request.lt, limits, hash, ordered, request.n,
-        ),
-        Err(refusal) => Err(refusal),
-    };
+        )
+    });
     Decision {
         place,
         token: *token,
