@@ -3,3 +3,4 @@ pub mod Checks
 pub mod Parts
 pub mod Refusals
 pub mod Stages
+pub mod Covering

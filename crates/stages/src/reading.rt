@@ -62,9 +62,10 @@ fn compare(
     if !is_token(method) {
         return Err(Refusal::BadLines);
     }
-    let noted = noting::note(known, numbers.mask, extra, head, aside, in_head, in_aside).ok_or(
-        Refusal::BadLines,
-    )?;
+    let Some(noted) = noting::note(known, numbers.mask, extra, head, aside, in_head, in_aside)
+    else {
+        return Err(Refusal::BadLines);
+    };
     if noted.twice {
         return Err(Refusal::NameTwice);
     }

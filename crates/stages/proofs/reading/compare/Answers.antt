@@ -1,33 +1,31 @@
-use Rattle.std.proofs.Common.{rules, ◌≡◌, true, ◌≤◌, length, replicate, ℕ, ◌+◌, ◌-◌, ◌*◌, ◌<◌, ◌/◌, ◌%◌, Bool, false, nat_eq, nat_lt, List, [], ◌∷◌, ◌++◌, slice_index_or, slice_set, bit_and, bit_or, Fits, w8, w32, w64, Bor, MutBor}
-use Rattle.names.specs.Extra.{good_extra}
-use Rattle.names.specs.InnerWalk.{Known}
-use Rattle.orders.specs.Orders.{orders}
-use Rattle.armor.specs.Value.{carried}
-use Rattle.armor.specs.Fields.{request_fields}
-use Rattle.armor.specs.InnerAnswers.{Holds}
-use Rattle.stages.specs.InnerStages.{CoversIs, ReadIs}
+-- `reading::compare` meets its contract.
+-- Assumes nothing.
+use Rattle.std.proofs.Common.{sym, ap, ◌∙◌, arith, length}
+use Rattle.names.proofs.Sizes.{short_extra}
+use Rattle.stages.specs.Parts.{fields_of}
+use Rattle.stages.proofs.Covering.{no_token, no_lines, names_twice, otherwise, covers}
 use Rattle.stages.proofs.reading.compare.Goals as goal
 
--- src/reading.rt:63:9
 pub returns-then-not-is_token : goal.returns-then-not-is_token
-returns-then-not-is_token c = ?
+returns-then-not-is_token c clock server_key path body reply = no_token _ _ _ (sym c.is_token.ensures ∙ c.if-not-is_token.true)
 
--- src/reading.rt:65:17
-pub returns-in_err-noted : goal.returns-in_err-noted
-returns-in_err-noted c = ?
+pub returns-in_default : goal.returns-in_default
+returns-in_default c clock server_key path body reply = no_lines _ _ _ c.in_default.ensures
 
--- src/reading.rt:69:9
 pub returns-then-noted : goal.returns-then-noted
-returns-then-noted c = ?
+returns-then-noted c clock server_key path body reply =
+    names_twice _ _ _ _ (sym c.is_token.ensures ∙ c.if-not-is_token.false) c.in-Some.ensures c.if-noted.true
 
--- src/reading.rt:71:9
 pub as_ordered-requires : goal.as_ordered-requires
-as_ordered-requires c = ?
+as_ordered-requires c = (c.requires.2, c.requires.3, short_extra _ c.requires.1)
 
--- src/reading.rt:72:9
 pub returns-then-not-as_ordered : goal.returns-then-not-as_ordered
-returns-then-not-as_ordered c = ?
+unfolding fields_of
+returns-then-not-as_ordered c clock server_key path body reply =
+    otherwise _ _ _ _ (sym c.is_token.ensures ∙ c.if-not-is_token.false) c.in-Some.ensures c.if-noted.false _ c.as_ordered.ensures c.if-not-as_ordered.true
 
--- src/reading.rt:47:1
 pub returns : goal.returns
-returns c = ?
+unfolding fields_of
+returns c clock server_key path body reply =
+    covers _ _ _ _ (sym c.is_token.ensures ∙ c.if-not-is_token.false) c.in-Some.ensures c.if-noted.false _ c.as_ordered.ensures c.requires.1
+    (omega (arith, c.note.auto, ap length c.requires.6)) (omega (arith, c.note.auto, ap length c.requires.7)) c.if-not-as_ordered.false

@@ -16,6 +16,6 @@ returns c extra server_key value method head aside path body reply table h is ab
     let q = request_of (orders a.numbers extra) a.clock.0 server_key value method head aside path body reply in
     let named = read_hash q h c.named-hash.ensures in
     let asks : Asks q a.clock.0 a.request.now.t.0 a.request.now.lt.0 a.limits.now c.named-hash.result (ordered q) a.request.now.n.0 =
-        record { clock = refl; t = sym h.time; lt = sym h.last_time; within = sym l; hash = named; nonces = refl; n = sym h.nonce }
+    record { clock = refl; t = sym h.time; lt = sym h.last_time; within = sym l; hash = named; nonces = refl; n = sym h.nonce }
     in
     settled q table _ _ s _ about _ named _ is _ (MatchResult-weaker c.args.vouched c.and_then-outcome.ensures (λ v admitted. search rules) (λ r e. e))
