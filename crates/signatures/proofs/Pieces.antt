@@ -8,21 +8,22 @@ use native.Mathlib.Omega.{arith}
 use lib.Dec.{lit≤}
 use lib.ListN.{length, length-append}
 use Rattle.cells.specs.Text.{codes}
-use Rattle.cells.specs.Runs.{cut, same}
-use Rattle.cells.specs.Spans.{Spans}
+use Rattle.cells.specs.Runs.{same}
+use Rattle.cells.specs.Decimal.{decimal}
 use Rattle.cells.proofs.Tests.{tested, both}
 use Rattle.names.specs.Extra.{extra_names as listed}
-use Rattle.names.specs.InnerWalk.{no_comma, names_from}
-use Rattle.names.proofs.Walk.{names_first, names_past, extra_none}
 use Rattle.names.proofs.Joined.{rejoined, names_in_joined}
 use Rattle.lines.proofs.Joined.{joined_one, joined_short}
 use Rattle.sha_2.specs.declared.State.{State}
 use Rattle.sha_2.specs.InnerTaken.{TookIn}
-use Rattle.structured.specs.Texts.{string, escaped}
+use Rattle.structured.specs.Texts.{string, escaped, inner_list}
 use Rattle.structured.specs.Lists.{every}
 use Rattle.signatures.specs.Components.{Message, is_component, all_components, values_of, value_of}
-use Rattle.signatures.specs.Base.{component_line, component_lines, last_line}
-use Rattle.signatures.specs.InnerAnswers.{ShortMessage, Quoted}
+use Rattle.signatures.specs.Base.{params, component_line, component_lines, last_line}
+use Rattle.signatures.specs.Fields.{input_value, signature_text}
+use Rattle.signatures.specs.InnerAnswers.{message_in, ShortMessage, Quoted, value_of_input}
+use Rattle.signatures.specs.declared.message.Message as M
+use Rattle.signatures.specs.declared.input.Input.{Input}
 use Rattle.signatures.proofs.Names.{component_quoted}
 
 pub took_none : (s : State) → TookIn s [] s
@@ -36,26 +37,20 @@ module _ (n v : List ℕ) (q : Quoted n) where
   pub line_size : length (component_line n v) ≡ length n + length v + 5
   line_size = ap length line_pieces ∙ omega (arith, length-append n (34 ∷ 58 ∷ 32 ∷ (v ++ (10 ∷ []))), length-append v (10 ∷ []))
 
--- the lines of components' names from the one that starts at index at on: the first, and those after it
-module _ (m : Message) (names : List ℕ) where
-  pub lines_none : length names ≡ 0 → component_lines m (listed names) ≡ []
+-- the lines of some names: the first, and those after it
+module _ (m : Message) {name : List ℕ} {left rest : List (List ℕ)} (e : left ≡ name ∷ rest) where
+  pub lines_first : component_lines m left ≡ component_line name (value_of m name) ++ component_lines m rest
   unfolding component_lines
-  lines_none h = rw (extra_none names h)
-
-  pub lines_first : (at end : ℕ) → at ≤ length names → Spans no_comma names at end
-      → component_lines m (names_from names at) ≡ component_line (cut names at end) (value_of m (cut names at end)) ++ component_lines m (names_from names (end + 1))
-  unfolding component_lines
-  lines_first at end h s = rw (names_first names at end h s)
-
-  pub lines_past : (at : ℕ) → length names < at → component_lines m (names_from names at) ≡ []
-  unfolding component_lines
-  lines_past at h = rw (names_past names at h)
+  lines_first = ap (component_lines m) e
 
   -- each name is a component's
-  pub components_first : (at end : ℕ) → at ≤ length names → Spans no_comma names at end → all_components (names_from names at) ≡ true
-      → (is_component (cut names at end) ≡ true) × (all_components (names_from names (end + 1)) ≡ true)
+  pub components_first : all_components left ≡ true → (is_component name ≡ true) × (all_components rest ≡ true)
   unfolding all_components every
-  components_first at end h s t = both (is_component (cut names at end)) _ (sym (ap all_components (names_first names at end h s)) ∙ t)
+  components_first t = both (is_component name) _ (sym (ap all_components e) ∙ t)
+
+pub lines_past : (m : Message) {left : List (List ℕ)} → left ≡ [] → component_lines m left ≡ []
+unfolding component_lines
+lines_past m e = ap (component_lines m) e
 
 -- a component's value is no longer than what it is taken from
 pub value_short : (m : Message) → ShortMessage m → (n : List ℕ) → length (value_of m n) ≤ 16384
@@ -101,3 +96,17 @@ opening = 34 ∷ (codes "@signature-params" ++ (34 ∷ 58 ∷ 32 ∷ []))
 pub last_pieces : (ps : List ℕ) → last_line ps ≡ opening ++ ps
 unfolding last_line string escaped codes
 last_pieces ps = refl
+
+-- how long the two values are
+pub signature_size : (label code : List ℕ) → length (signature_text label code) ≡ length label + length code + 3
+unfolding signature_text
+signature_size label code = simp length-append (omega arith)
+
+pub input_size : (r : Input) → length (value_of_input r)
+    ≡ length r.label.now + length (inner_list (listed r.names.now)) + length (decimal r.created) + length (string r.key_id.now) + 17
+unfolding input_value params codes
+input_size r = simp length-append (omega arith)
+
+-- a message that is lent
+pub short_of : (m : M.Message) → ShortMessage (message_in m)
+short_of m = record { method = m.short.0; authority = m.short.1; path = m.short.2; lines = m.short.3 }

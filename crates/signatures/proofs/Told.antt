@@ -18,9 +18,7 @@ use Rattle.cells.proofs.Tests.{tested, both}
 use Rattle.cells.proofs.Runs.{front_spliced, length_spliced}
 use Rattle.cells.proofs.Digits.{decimal_length}
 use Rattle.names.specs.Extra.{extra_names as listed}
-use Rattle.base_64.specs.Decoding.{Decoding, nothing, bytes, decoded}
-use Rattle.base_64.specs.InnerAnswers.{size_of, measured}
-use Rattle.base_64.specs.declared.Measured.{Measured}
+use Rattle.base_64.specs.Decoding.{decoded}
 use Rattle.structured.specs.Texts.{is_key, printable}
 use Rattle.structured.specs.Reading.{unescaped, unlisted, digit, digits_in, other, but_last, IntegerIs}
 use Rattle.structured.specs.declared.reading.Integer.{Integer}
@@ -30,7 +28,8 @@ use Rattle.structured.proofs.Readback.{read_size}
 use Rattle.signatures.specs.Components.{all_components}
 use Rattle.signatures.specs.Base.{params}
 use Rattle.signatures.specs.Fields.{input_value, signature_text, label_in, list_in, covered_in, created_in, time_in, key_in, key_id_in, good_input, code_in, of_digest, good_signature}
-use Rattle.signatures.specs.InnerAnswers.{Tells, ToldIs}
+use Rattle.signatures.specs.InnerAnswers.{value_of_input, Tells}
+use Rattle.signatures.specs.declared.input.Input.{Input}
 use Rattle.signatures.proofs.Names.{components_plain}
 
 -- no more than there were
@@ -39,23 +38,6 @@ taken n xs = rw length-take (omega arith)
 
 dropped : (n : ℕ) (xs : List ℕ) → length (drop n xs) ≤ length xs
 dropped n xs = rw length-drop (omega arith)
-
--- whether a text is that of 32 bytes, by how many it is of
-sized : (d : Decoding) (n : ℕ) → size_of d ≡ Measured.Bytes n → eqb n 32 ≡ of_digest d
-sized nothing n e = cc
-sized (bytes bs) n e = cc
-
-unsized : (d : Decoding) → size_of d ≡ Measured.Bad → false ≡ of_digest d
-unsized nothing e = cc
-unsized (bytes bs) e = cc
-
-pub digest_sized : (text : List ℕ) (n : ℕ) → measured text ≡ Measured.Bytes n → eqb n 32 ≡ of_digest (decoded text)
-unfolding measured
-digest_sized text = sized (decoded text)
-
-pub digest_unsized : (text : List ℕ) → measured text ≡ Measured.Bad → false ≡ of_digest (decoded text)
-unfolding measured
-digest_unsized text = unsized (decoded text)
 
 -- a text laid at the front
 module _ {out left text : List ℕ} {r : ℕ} (h : length text ≤ length out) (l : Laid out left 0 r text) where
@@ -109,19 +91,23 @@ module _ (input : List ℕ) where
   unfolding key_id_in
   key_id_short = omega (arith, unescaped_size (but_last (key_in input)), key_short)
 
+label_size : (value : List ℕ) {label : List ℕ} → label ≡ label_in value → length label ≡ leading (other 61) value
+unfolding label_in
+label_size value l = ap length l ∙ length-take-le (leading (other 61) value) value (leading_within (other 61) value)
+
 -- a value of Signature-Input as it is read, step by step
-pub record Reading (input list from last : List ℕ) (label close : ℕ) (time : Integer) : Type 0 where
-  pub label_ends : Spans (other 61) input 0 label
-  pub past_label : list ≡ drop (label + 2) input
+pub record Reading (input label list from last : List ℕ) (close : ℕ) (time : Integer) : Type 0 where
+  pub labelled : label ≡ label_in input
+  pub past_label : list ≡ drop (length label + 2) input
   pub list_ends : Spans (other 41) list 0 close
   pub past_list : from ≡ drop (close + 10) list
   pub is_time : IntegerIs from time
   pub past_time : last ≡ drop (time.digits + 8) from
 
-module _ {input list from last : List ℕ} {label close : ℕ} {time : Integer} (r : Reading input list from last label close time) where
+module _ {input label list from last : List ℕ} {close : ℕ} {time : Integer} (r : Reading input label list from last close time) where
   list_is : list ≡ list_in input
   unfolding list_in
-  list_is = r.past_label ∙ ap (λ (n : ℕ). drop (n + 2) input) (spanned r.label_ends)
+  list_is = r.past_label ∙ ap (λ (n : ℕ). drop (n + 2) input) (label_size input r.labelled)
 
   close_is : close ≡ leading (other 41) (list_in input)
   close_is = spanned r.list_ends ∙ ap (leading (other 41)) list_is
@@ -148,31 +134,29 @@ module _ {input list from last : List ℕ} {label close : ℕ} {time : Integer} 
   key_room e = omega (arith, ap length (quoted_is e), key_short input)
 
   -- names and key id are laid in buffers that have room for the value
-  pub all_told : {names key_id quoted names_left key_left : List ℕ} {n k : ℕ} → (length input ≤ length names) × (length input ≤ length key_id)
-      → Laid names names_left 0 n (unlisted (take close list)) → quoted ≡ but_last last → Laid key_id key_left 0 k (unescaped quoted)
-      → ToldIs input names_left key_left (record { label = label; names = n; created = time.value; key_id = k })
-  unfolding covered_in time_in key_id_in
-  all_told {names = names} {key_id = key_id} {quoted = quoted} rooms l e m =
-      let names_fit : length (unlisted (take close list)) ≤ length names = omega (arith, unlisted_size (take close list), list_room, rooms.0) in
-      let key_fits : length (unescaped quoted) ≤ length key_id = omega (arith, unescaped_size quoted, key_room e, rooms.1) in record {
-        labelled = r.label_ends.within;
-        few = laid_within names_fit l;
-        short = laid_within key_fits m;
-        tells = record {
-          label = label_told input r.label_ends;
-          names = laid_front names_fit l ∙ ap unlisted inner_is;
-          created = r.is_time.value ∙ ap (λ (run : List ℕ). value_after 0 (take (digits_in run) run)) from_is;
-          key_id = laid_front key_fits m ∙ ap unescaped (quoted_is e);
-        };
-      }
+  pub names_told : {out left : List ℕ} {n : ℕ} → length input ≤ length out → Laid out left 0 n (unlisted (take close list))
+      → (n ≤ length left) × (take n left ≡ covered_in input)
+  unfolding covered_in
+  names_told {out = out} room l =
+      let fit : length (unlisted (take close list)) ≤ length out = omega (arith, unlisted_size (take close list), list_room, room) in
+      (laid_within fit l, laid_front fit l ∙ ap unlisted inner_is)
+
+  pub key_told : {out left quoted : List ℕ} {k : ℕ} → length input ≤ length out → quoted ≡ but_last last → Laid out left 0 k (unescaped quoted)
+      → (k ≤ length left) × (take k left ≡ key_id_in input)
+  unfolding key_id_in
+  key_told {out = out} {quoted = quoted} room e l =
+      let fit : length (unescaped quoted) ≤ length out = omega (arith, unescaped_size quoted, key_room e, room) in
+      (laid_within fit l, laid_front fit l ∙ ap unescaped (quoted_is e))
+
+  pub time_told : time.value ≡ time_in input
+  unfolding time_in
+  time_told = r.is_time.value ∙ ap (λ (run : List ℕ). value_after 0 (take (digits_in run) run)) from_is
 
 -- what is read of a value of Signature is what it tells
 pub code_told : (signature : List ℕ) {label rest code : List ℕ} → label ≡ label_in signature → rest ≡ drop (length label + 2) signature → code ≡ take 44 rest
     → code ≡ code_in signature
-unfolding label_in code_in
-code_told signature l e c =
-    let size = ap length l ∙ length-take-le (leading (other 61) signature) signature (leading_within (other 61) signature) in
-    c ∙ ap (take 44) e ∙ ap (λ (n : ℕ). take 44 (drop (n + 2) signature)) size
+unfolding code_in
+code_told signature l e c = c ∙ ap (take 44) e ∙ ap (λ (n : ℕ). take 44 (drop (n + 2) signature)) (label_size signature l)
 
 module _ (signature : List ℕ) {label code : List ℕ} (l : label ≡ label_in signature) (e : code ≡ code_in signature) where
   pub signature_room : length signature ≤ 4096 → length (signature_text label code) ≤ 4160
@@ -187,24 +171,24 @@ module _ (signature : List ℕ) {label code : List ℕ} (l : label ≡ label_in 
   signature_judged key digest again is = rw (key, digest, again, is, l, e)
 
 -- what is found of what a value of Signature-Input tells, before it is written again
-module _ {input label names key_id : List ℕ} {time : ℕ} {k c p : Bool} (w : Tells input label names time key_id) (key : k ≡ is_key label)
-    (good : c ≡ all_components (listed names)) (shown : p ≡ all printable key_id) where
-  input_parts : good_input input ≡ ((k && (c && p)) && same (input_value label names time key_id) input)
+module _ {text : List ℕ} {told : Input} {k c p : Bool} (w : Tells text told) (key : k ≡ is_key told.label.now)
+    (good : c ≡ all_components (listed told.names.now)) (shown : p ≡ all printable told.key_id.now) where
+  input_parts : good_input text ≡ ((k && (c && p)) && same (value_of_input told) text)
   unfolding good_input
   input_parts = rw (key, good, shown, w.label, w.names, w.created, w.key_id) (simp and_assoc)
 
-  pub input_refused : (k && (c && p)) ≡ false → false ≡ good_input input
+  pub input_refused : (k && (c && p)) ≡ false → false ≡ good_input text
   input_refused h = sym (input_parts ∙ rw h)
 
-  pub input_judged : (k && (c && p)) ≡ true → {s : Bool} {text : List ℕ} → s ≡ same text input → text ≡ input_value label names time key_id → s ≡ good_input input
+  pub input_judged : (k && (c && p)) ≡ true → {s : Bool} {anew : List ℕ} → s ≡ same anew text → anew ≡ value_of_input told → s ≡ good_input text
   input_judged h again is = sym (input_parts ∙ rw (h, again, is))
 
-  pub input_room : (k && (c && p)) ≡ true → length input ≤ 4096 → length (input_value label names time key_id) ≤ 24832
+  pub input_room : (k && (c && p)) ≡ true → length text ≤ 4096 → length (value_of_input told) ≤ 24832
   unfolding input_value params time_in codes
   input_room h short =
-      let plain = components_plain (listed names) (sym good ∙ (both c p (both k (c && p) h).1).0) in
-      let labelled : length label ≤ length input = rw w.label (label_short input) in
-      let few : length names ≤ length input = rw w.names (names_short input) in
-      let identified : length key_id ≤ length input = rw w.key_id (key_id_short input) in
-      let dated = decimal_length 14 time (omega (arith, w.created, read_size (created_in input))) in
-      simp length-append (omega (arith, list_size names plain, string_length key_id, escaped_size key_id))
+      let plain = components_plain (listed told.names.now) (sym good ∙ (both c p (both k (c && p) h).1).0) in
+      let labelled : length told.label.now ≤ length text = rw w.label (label_short text) in
+      let few : length told.names.now ≤ length text = rw w.names (names_short text) in
+      let identified : length told.key_id.now ≤ length text = rw w.key_id (key_id_short text) in
+      let dated = decimal_length 14 told.created (omega (arith, w.created, read_size (created_in text))) in
+      simp length-append (omega (arith, list_size told.names.now plain, string_length told.key_id.now, escaped_size told.key_id.now))

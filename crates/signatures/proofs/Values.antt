@@ -2,47 +2,41 @@
 -- Assumes nothing.
 use mathlib.Core.Path.{◌≡◌, refl, sym, ap, ◌∙◌}
 use mathlib.Core.List.{List, [], ◌∷◌, ◌++◌, append-nil}
-use mathlib.Core.Bool.{Bool, true, false, not, ◌&&◌, ◌||◌, and_assoc, or_assoc, and-true, or-false, not-not}
+use mathlib.Core.Bool.{Bool, true, false, ◌&&◌, ◌||◌, and_assoc, or_assoc, and-true, or-false, or-true}
 use Prim.Native.Nat.{ℕ, ◌+◌, ◌≤◌, ◌<◌}
 use native.Mathlib.Omega.{arith}
 use lib.ListN.{length, take}
+use Rattle.std.specs.Prelude.{Option, Some, None}
+use Rattle.std.specs.Option.{unwrap_or}
 use Rattle.cells.specs.InnerLaid.{Laid}
-use Rattle.cells.specs.Runs.{cut}
-use Rattle.cells.specs.Spans.{all, Spans}
+use Rattle.cells.specs.Spans.{all}
 use Rattle.cells.proofs.Runs.{front_spliced, length_spliced}
 use Rattle.names.specs.Names.{has_name}
 use Rattle.names.specs.Extra.{comma, extra_names as listed}
-use Rattle.names.specs.InnerWalk.{no_comma, names_from}
-use Rattle.names.proofs.Walk.{names_start, names_first, names_past, extra_none, extra_some}
 use Rattle.lines.specs.Values.{space, joined}
 use Rattle.lines.specs.InnerPlaces.{Stands, front_at, own_at, FoundAt, AgainIs}
-use Rattle.lines.specs.declared.Found.TheVariants.{At, Missing}
 use Rattle.lines.proofs.Joined.{own_more, own_alone, own_then, own_begins}
 use Rattle.structured.specs.Texts.{printable}
 use Rattle.structured.specs.Lists.{every}
 use Rattle.structured.proofs.Laying.{Laying, laying_next, laying_more}
 use Rattle.signatures.specs.Components.{Message, values_of, value_of, no_value, all_printable, twice, missing}
-use Rattle.signatures.specs.InnerAnswers.{ValueIs, LookedAt}
-use Rattle.signatures.specs.declared.components.Value.{Value}
-use Rattle.signatures.specs.declared.components.Looked.{Looked}
+use Rattle.signatures.specs.InnerAnswers.{ValueOf, ValueIs, LookedAt}
 
 -- the values joined are laid at the front
-pub value_laid : {values : List (List ℕ)} {out left text : List ℕ} {r : Value} → no_value values ≡ false → r.found ≡ true → joined values ≡ text
-    → length text ≤ length out → Laid out left 0 r.size text → ValueIs values left r
-value_laid {out = out} {text = text} {r = r} some found e h l = record {
-  found = found ∙ ap not (sym some);
+pub value_laid : {values : List (List ℕ)} {out left text : List ℕ} {size : ℕ} → no_value values ≡ false → joined values ≡ text
+    → length text ≤ length out → Laid out left 0 size text → ValueOf values left size
+value_laid {out = out} {text = text} {size = size} some e h l = record {
+  some = some;
   within = omega (arith, l.ends, ap length l.is, length_spliced out text 0 (omega arith));
-  is = ap (take r.size) l.is ∙ front_spliced out text 0 r.size (omega arith) l.ends ∙ sym e;
+  is = ap (take size) l.is ∙ front_spliced out text 0 size (omega arith) l.ends ∙ sym e;
 }
 
--- there are no values
-pub value_none : {values : List (List ℕ)} {left : List ℕ} {r : Value} → values ≡ [] → r.found ≡ false → r.size ≡ 0 → ValueIs values left r
+-- what is put at the front, or nothing where there are no values
+pub value_shown : (values : List (List ℕ)) (left : List ℕ) (r : Option ℕ) → ValueIs values left r
+    → (unwrap_or r 0 ≤ length left) × (take (unwrap_or r 0) left ≡ joined values)
 unfolding joined
-value_none {left = left} e found size = record {
-  found = found ∙ ap (λ (vs : List (List ℕ)). not (no_value vs)) (sym e);
-  within = omega (arith, size);
-  is = ap (λ (n : ℕ). take n left) size ∙ ap joined (sym e);
-}
+value_shown values left (Some size) v = (v.within, v.is)
+value_shown values left None v = (omega arith, ap joined (sym v))
 
 -- a line that is found has a value
 pub found_some : {block : List ℕ} {values : List (List ℕ)} {at place : ℕ} → FoundAt block values at place → no_value values ≡ false
@@ -54,60 +48,52 @@ module _ {block out now text : List ℕ} {end place : ℕ} (w : Laying out now 0
   front_fits s = omega (arith, own_begins block place s, laying_next w (joined (own_at block place)) [] (sym (append-nil (joined (own_at block place)))))
 
   module _ {left value : List ℕ} {next : ℕ} (e : value ≡ front_at block place) (l : Laid now left end next value) where
-    pub front_last : AgainIs block place Missing → Laying out left 0 next text []
+    pub front_last : AgainIs block place None → Laying out left 0 next text []
     front_last a = laying_more w (own_alone block place a ∙ sym e ∙ sym (append-nil value)) l
 
-    pub front_then : {more : ℕ} → AgainIs block place (At more) → Laying out left 0 next text (comma ∷ space ∷ joined (own_at block more))
+    pub front_then : {more : ℕ} → AgainIs block place (Some more) → Laying out left 0 next text (comma ∷ space ∷ joined (own_at block more))
     front_then {more} a =
         laying_more w (own_then block place more a ∙ ap (λ (v : List ℕ). v ++ (comma ∷ space ∷ joined (own_at block more))) (sym e)) l
 
--- the names of a list that has any, from the first on
-pub listed_start : (names : List ℕ) → (length names ≡ 0 → ⊥) → listed names ≡ names_from names 0
-listed_start names h = extra_some names h ∙ sym (names_start names)
-
--- what is found up to index at, and what the names from there on say, tell of the whole list
-pub record Looking (m : Message) (names : List ℕ) (at : ℕ) (r : Looked) : Type 0 where
-  pub values : all_printable m (listed names) ≡ (r.printable && all_printable m (names_from names at))
-  pub again : twice (listed names) ≡ (r.twice || twice (names_from names at))
-  pub lacks : missing m (listed names) ≡ (r.missing || missing m (names_from names at))
-
-abbrev pub looked : Bool → Bool → Bool → Looked
-looked p t g = record { printable = p; twice = t; missing = g }
+-- what is found so far, and what the names that are left say, tell of the whole list
+pub record Looking (m : Message) (names : List ℕ) (left : List (List ℕ)) (printable again lacks : Bool) : Type 0 where
+  pub values : all_printable m (listed names) ≡ (printable && all_printable m left)
+  pub twice : twice (listed names) ≡ (again || twice left)
+  pub missing : missing m (listed names) ≡ (lacks || missing m left)
 
 module _ {m : Message} {names : List ℕ} where
-  pub looked_none : length names ≡ 0 → LookedAt m names (looked true false false)
-  unfolding all_printable every twice missing
-  looked_none h = let none = extra_none names h in record {
-    printable = rw none refl;
-    twice = rw none refl;
-    missing = rw none refl;
+  pub looking_first : {left : List (List ℕ)} → left ≡ listed names → Looking m names left true false false
+  looking_first e = record {
+    values = ap (all_printable m) (sym e);
+    twice = ap twice (sym e);
+    missing = ap (missing m) (sym e);
   }
 
-  pub looking_first : (length names ≡ 0 → ⊥) → Looking m names 0 (looked true false false)
-  looking_first h = let start = listed_start names h in record {
-    values = ap (all_printable m) start;
-    again = ap twice start;
-    lacks = ap (missing m) start;
-  }
-
-  module _ {at : ℕ} {p t g : Bool} (w : Looking m names at (looked p t g)) where
-    pub looking_next : {end : ℕ} {left : List ℕ} {r : Value} {p' t' : Bool} → at ≤ length names → Spans no_comma names at end
-        → ValueIs (values_of m (cut names at end)) left r → p' ≡ all printable (take r.size left)
-        → t' ≡ has_name (names_from names (end + 1)) (cut names at end) → Looking m names (end + 1) (looked (p && p') (t || t') (g || not r.found))
+  module _ {name : List ℕ} {left rest : List (List ℕ)} {p t g : Bool} (w : Looking m names left p t g) (e : left ≡ name ∷ rest) where
+    -- a name that the message has
+    pub looking_some : {buffer : List ℕ} {size : ℕ} {p' t' : Bool} → ValueOf (values_of m name) buffer size → p' ≡ all printable (take size buffer)
+        → t' ≡ has_name rest name → Looking m names rest (p && p') (t || t') g
     unfolding all_printable every twice missing value_of
-    looking_next {end} {left} {r} h s v e k =
-        let name = cut names at end in
-        let first = names_first names at end h s in
-        let found : no_value (values_of m name) ≡ not r.found = sym (ap not v.found ∙ not-not _) in record {
-          values = w.values ∙ rw (first, e, v.is) (sym (and_assoc p _ _));
-          again = w.again ∙ rw (first, k) (sym (or_assoc t _ _));
-          lacks = w.lacks ∙ rw (first, ← found) (sym (or_assoc g _ _));
-        }
-
-    pub looking_end : length names < at → LookedAt m names (looked p t g)
-    unfolding all_printable every twice missing
-    looking_end h = let past = names_past names at h in record {
-      printable = sym (w.values ∙ rw past (and-true p));
-      twice = sym (w.again ∙ rw past (or-false t));
-      missing = sym (w.lacks ∙ rw past (or-false g));
+    looking_some {p' = p'} v q h = record {
+      values = w.values ∙ rw (e, q, v.is) (sym (and_assoc p _ _));
+      twice = w.twice ∙ rw (e, h) (sym (or_assoc t _ _));
+      missing = w.missing ∙ rw (e, v.some) refl;
     }
+
+    -- one that it lacks
+    pub looking_none : {t' : Bool} → values_of m name ≡ [] → t' ≡ has_name rest name → Looking m names rest p (t || t') true
+    unfolding all_printable every twice missing value_of joined all
+    looking_none v h = record {
+      values = w.values ∙ rw (e, v) refl;
+      twice = w.twice ∙ rw (e, h) (sym (or_assoc t _ _));
+      missing = w.missing ∙ rw (e, v) (or-true g);
+    }
+
+  pub looking_end : {left : List (List ℕ)} {p t g : Bool} → Looking m names left p t g → left ≡ []
+      → LookedAt m names (record { printable = p; twice = t; missing = g })
+  unfolding all_printable every twice missing
+  looking_end {p = p} {t = t} {g = g} w e = record {
+    printable = sym (w.values ∙ rw e (and-true p));
+    twice = sym (w.twice ∙ rw e (or-false t));
+    missing = sym (w.missing ∙ rw e (or-false g));
+  }

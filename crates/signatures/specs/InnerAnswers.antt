@@ -15,6 +15,13 @@ use Rattle.signatures.specs.declared.components.Looked.{Looked}
 abbrev pub message_in : M.Message → Message
 message_in m = message_of m.method.now m.authority.now m.path.now m.lines.now
 
+-- each value fits in a buffer of 16,384 bytes
+pub record ShortMessage (m : Message) : Type 0 where
+  pub method : length m.method ≤ 16384
+  pub authority : length m.authority ≤ 16384
+  pub path : length m.path ≤ 16384
+  pub lines : length m.lines ≤ 16384
+
 -- nothing in the text is escaped
 abbrev pub Quoted : List ℕ → Type 0
 Quoted text = string text ≡ quote ∷ (text ++ (quote ∷ []))
