@@ -39,9 +39,17 @@ module _ (n v : List ℕ) (q : Quoted n) where
 
 -- the lines of some names: the first, and those after it
 module _ (m : Message) {name : List ℕ} {left rest : List (List ℕ)} (e : left ≡ name ∷ rest) where
-  pub lines_first : component_lines m left ≡ component_line name (value_of m name) ++ component_lines m rest
+  lines_first : component_lines m left ≡ component_line name (value_of m name) ++ component_lines m rest
   unfolding component_lines
   lines_first = ap (component_lines m) e
+
+  -- where a value that is shown is that of the first
+  module _ {shown : List ℕ} (k : shown ≡ value_of m name) where
+    pub lines_shown : component_lines m left ≡ component_line name shown ++ component_lines m rest
+    lines_shown = lines_first ∙ ap (λ (v : List ℕ). component_line name v ++ component_lines m rest) (sym k)
+
+    pub lines_long : length (component_lines m left) ≡ length (component_line name shown) + length (component_lines m rest)
+    lines_long = ap length lines_shown ∙ length-append (component_line name shown) (component_lines m rest)
 
   -- each name is a component's
   pub components_first : all_components left ≡ true → (is_component name ≡ true) × (all_components rest ≡ true)

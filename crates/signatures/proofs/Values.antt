@@ -31,12 +31,12 @@ value_laid {out = out} {text = text} {size = size} some e h l = record {
   is = ap (take size) l.is ∙ front_spliced out text 0 size (omega arith) l.ends ∙ sym e;
 }
 
--- what is put at the front, or nothing where there are no values
-pub value_shown : (values : List (List ℕ)) (left : List ℕ) (r : Option ℕ) → ValueIs values left r
-    → (unwrap_or r 0 ≤ length left) × (take (unwrap_or r 0) left ≡ joined values)
-unfolding joined
-value_shown values left (Some size) v = (v.within, v.is)
-value_shown values left None v = (omega arith, ap joined (sym v))
+-- what is put at the front is the value; it is empty where the message lacks the component
+pub value_shown : (m : Message) (name : List ℕ) (left : List ℕ) (r : Option ℕ) (size : ℕ) → ValueIs (values_of m name) left r → size ≡ unwrap_or r 0
+    → take size left ≡ value_of m name
+unfolding value_of joined
+value_shown m name left (Some n) size v e = rw e v.is
+value_shown m name left None size v e = rw (e, v) refl
 
 -- a line that is found has a value
 pub found_some : {block : List ℕ} {values : List (List ℕ)} {at place : ℕ} → FoundAt block values at place → no_value values ≡ false

@@ -10,8 +10,7 @@ ghost use Rattle.signatures.specs.Components.{message_of, small, good_message, i
 ghost use Rattle.signatures.specs.InnerAnswers.{message_in, ValueIs, LookedAt};
 
 use super::message::Message;
-use names::Names;
-use names::token;
+use names::{Names, token};
 
 // Whether method, authority, path and lines are what they are to be.
 pub fn good_message(method: &[u8], authority: &[u8], path: &[u8], block: &[u8]) -> bool

@@ -34,7 +34,8 @@ pub fn good_input(text: &[u8], told: &Input) -> bool
     ensures { result ≡ good_input text.now }
 {
     if !(structured::is_key(told.label)
-        & (components::all_components(told.names) & structured::all_between(32, 126, told.key_id)))
+        & (components::all_components(told.names)
+            & structured::all_between(32, 126, told.key_id)))
     {
         return false;
     }

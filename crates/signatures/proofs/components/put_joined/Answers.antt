@@ -9,7 +9,7 @@ use Rattle.signatures.proofs.Values.{front_fits, front_last, front_then}
 use Rattle.signatures.proofs.components.put_joined.Goals as goal
 
 pub loop-next-init : goal.loop-next-init
-loop-next-init c = record { stands = c.requires.0; laying = laying_none _ 0 c.requires.1 refl }
+loop-next-init c = record { stands = c.requires.0; laying = laying_none _ 0 (omega (arith, c.requires.1)) refl }
 
 pub value_at-requires : goal.value_at-requires
 value_at-requires c = omega (arith, stands_within _ _ c.loop-next.invariant.stands)

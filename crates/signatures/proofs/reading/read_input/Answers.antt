@@ -8,7 +8,7 @@ use Rattle.signatures.proofs.reading.read_input.Goals as goal
 pub overflow_add-created : goal.overflow_add-created
 overflow_add-created c = omega (arith, digits_few c.read_integer-created.ensures)
 
-read : (c : goal.After-unescape-key_size)
+read : (c : goal.After-slice_known-4-1)
     → Reading c.args.text.now c.label_of-label.result.now c.past-list.result.now c.past-from.result.now c.past-last.result.now c.end_before-close.result
     c.read_integer-created.result
 read c = record {

@@ -36,11 +36,18 @@ returns-then-same-3 c =
 
 pub returns-in_err-place : goal.returns-in_err-place
 unfolding values_of codes
-returns-in_err-place c = ?
+returns-in_err-place c =
+    rw c.from_residual.ensures
+    (simp (← c.same.ensures, c.if-same.false, ← c.same-2.ensures, c.if-same-2.false, ← c.same-3.ensures, c.if-same-3.false) c.in_err-place.ensures)
 
 pub put_joined-requires : goal.put_joined-requires
-put_joined-requires c = ?
+put_joined-requires c =
+    let found = c.in_ok-place.ensures in
+    (found.stands, omega (arith, own_short _ _ found.stands, c.args.self.now.short))
 
 pub returns : goal.returns
 unfolding values_of codes
-returns c = ?
+returns c =
+    let found = c.in_ok-place.ensures in
+    simp (← c.same.ensures, c.if-same.false, ← c.same-2.ensures, c.if-same-2.false, ← c.same-3.ensures, c.if-same-3.false)
+    (value_laid (found_some found) (ap joined found.are) (omega (arith, own_short _ _ found.stands, c.args.self.now.short)) c.put_joined.ensures)
