@@ -9,7 +9,7 @@ use native.Mathlib.Omega.{arith}
 use lib.Dec.{eqb, lit<}
 use Rattle.cells.specs.Runs.{Bytes}
 use Rattle.cells.specs.Numbers.{number}
-use Rattle.armor.specs.declared.Answer.{Answer}
+use Rattle.std.specs.Prelude.{Ok}
 use Rattle.armor.specs.Numerals.{number_bytes, mask_bytes, mask_of}
 use Rattle.armor.specs.Keys.{mask, obeys, keys, key_number, rule_at, key_t, key_lt, key_n, key_h, key_ah}
 use Rattle.armor.specs.Keys
@@ -34,18 +34,18 @@ pub carried_bytes : (v : List ℕ) (fs : List Field) (k : ℕ) → grammar v ≡
 carried_bytes v fs k e = held_bytes k fs ((grammar_exactly v fs).0 e).0.formed
 
 -- a good request
-good_from : (v : List ℕ) (o : Option (List Field)) → grammar v ≡ o → request_from o ≡ Answer.Good
+good_from : (v : List ℕ) (o : Option (List Field)) → grammar v ≡ o → request_from o ≡ Ok tt
     → (grammar v ≡ some (carried v)) × (request_fields (carried v) ≡ true)
 good_from v none p e = absurd (let z : ◌≡◌ {A = ℕ} 0 1 = cc in omega arith)
 good_from v (some fs) p e =
     let same : carried v ≡ fs = carried_is v fs p in
     (p ∙ ap some (sym same), ap request_fields same ∙ tested (request_fields fs) (λ t. t) (λ t. absurd (let z : ◌≡◌ {A = ℕ} 0 1 = cc in omega arith)))
 
-pub request_given : (v : List ℕ) → request_answer v ≡ Answer.Good → (grammar v ≡ some (carried v)) × (request_fields (carried v) ≡ true)
+pub request_given : (v : List ℕ) → request_answer v ≡ Ok tt → (grammar v ≡ some (carried v)) × (request_fields (carried v) ≡ true)
 unfolding request_answer
 request_given v e = good_from v (grammar v) refl e
 
-module _ (v : List ℕ) (good : request_answer v ≡ Answer.Good) where
+module _ (v : List ℕ) (good : request_answer v ≡ Ok tt) where
   kept : grammar v ≡ some (carried v)
   kept = (request_given v good).0
 

@@ -1,18 +1,22 @@
 -- What notes of a value's fields say of its set of fields.
 -- Assumes nothing.
-use mathlib.Core.Path.{◌≡◌, refl}
-use mathlib.Core.Bool.{true}
+use mathlib.Core.Path.{◌≡◌, refl, ap, ◌∙◌}
+use mathlib.Core.Bool.{true, cond}
 use mathlib.Core.List.{List, [], ◌∷◌}
 use Prim.Native.Nat.{ℕ, ◌<◌, ◌≤◌, min}
 use native.Mathlib.Omega.{arith}
 use lib.Dec.{eqb, leb, lit<}
 use lib.ListN.{length, get_or}
 use borrow.Author.Tests.{eqb-true, eqb-false, eq-eqb, ne_eqb, leb-true, leb-false, le-leb, lt-leb}
-use Rattle.armor.specs.declared.scanning.Seen.{Seen}
-use Rattle.armor.specs.Keys.{obeys, key_number, rule_at, rule_of}
-use Rattle.armor.specs.Value.{Field, all_good, carried}
+use Rattle.std.specs.Prelude.{Option, Some, None, is_some, IfSome}
+use Rattle.base_64.proofs.Exactly.{decoded_exactly, decoded_bytes}
+use Rattle.armor.specs.declared.Span.{Span}
+use Rattle.armor.specs.declared.seen.Seen.{Seen}
+use Rattle.armor.specs.InnerAnswers.{Encodes}
+use Rattle.armor.specs.Keys.{obeys, key_number, rule_at, rule_of, key_eah}
+use Rattle.armor.specs.Value.{Field, all_good, carried, held, told}
 use Rattle.armor.specs.Fields.{contents, times, the, right_times, reply_times}
-use Rattle.armor.specs.InnerScan.{Notes, Noted, count_in}
+use Rattle.armor.specs.InnerScan.{Notes, Single, count_in, text_in, span_in, tally_in}
 use Rattle.cells.proofs.Tests.{tested, both}
 
 -- counts that stop at two
@@ -68,7 +72,7 @@ module _ (c n : ℕ → ℕ) (h : (k : ℕ) → k < 12 → c k ≡ min 2 (n k)) 
         no 7 (lit< tt),
       )
 
-module _ (v : List ℕ) (seen : Seen) (fs : List Field) (h : Notes v seen fs) where
+module _ (seen : Seen) (fs : List Field) (h : Notes seen fs) where
   pub counted : (k : ℕ) → k < 12 → count_in seen k ≡ min 2 (times k fs)
   unfolding times
   counted k small = (h.kept k small).counted
@@ -81,12 +85,33 @@ module _ (v : List ℕ) (seen : Seen) (fs : List Field) (h : Notes v seen fs) wh
   pub reply_counts : reply_times (count_in seen) ≡ reply_times (λ k. times k fs)
   reply_counts = reply_times_lem (count_in seen) (λ k. times k fs) counted
 
--- what stands in the place of a key that is carried once or not
-pub noted : {v : List ℕ} {seen : Seen} → Notes v seen (carried v) → (k : ℕ) → k < 12 → times k (carried v) ≤ 1 → Noted v seen k
+-- what stands in the places of keys that are carried once or not
+pub single : {seen : Seen} → Notes seen (carried seen.value.now) → ((k : ℕ) → k < 12 → times k (carried seen.value.now) ≤ 1) → Single seen
 unfolding times the
-noted h k small few =
-    let kept = h.kept k small in
-    record { small = small; in_order = kept.in_order; within = kept.within; decodes = kept.decodes few }
+single h few = record { decodes = λ k small. (h.kept k small).decodes (few k small) }
+
+pub told_of : {seen : Seen} {text : List ℕ} → Single seen → (k : ℕ) → k < 12 → text ≡ text_in seen k → told text ≡ the k (carried seen.value.now)
+told_of h k small e = ap told e ∙ ap held (h.decodes k small)
+
+-- where the text of eah stands
+span_by : (n : ℕ) (s : Span) (v bs : List ℕ) → (eqb n 1 ≡ true → Encodes v bs s)
+    → (is_some (cond (eqb n 1) (Some s) None) ≡ eqb n 1) × IfSome (cond (eqb n 1) (Some s) None) (λ t. Encodes v bs t)
+span_by n s v bs h = tested (eqb n 1) (λ e. rw e (refl, h e)) (λ e. rw e (refl, tt))
+
+pub extra_told : {seen : Seen} {o : Option Span} → Notes seen (carried seen.value.now) → Single seen → o ≡ span_in seen key_eah
+    → (is_some o ≡ eqb (times key_eah (carried seen.value.now)) 1) × IfSome o (λ t. Encodes seen.value.now (the key_eah (carried seen.value.now)) t)
+extra_told {seen} notes once e =
+    let v = seen.value.now in
+    let count = count_bit (count_in seen key_eah) (times key_eah (carried v)) 1 (counted seen (carried v) notes key_eah (lit< tt)) (lit< tt) in
+    let text = text_in seen key_eah in
+    let within = seen.within.texts key_eah (lit< tt) in
+    let encodes : Encodes v (the key_eah (carried v)) (tally_in seen key_eah).text = record {
+      in_order = within.in_order;
+      within = within.within;
+      text = (decoded_exactly text (the key_eah (carried v)) (decoded_bytes text (the key_eah (carried v)) (once.decodes key_eah (lit< tt)))).0 (once.decodes key_eah (lit< tt));
+    } in
+    let is = span_by (count_in seen key_eah) (tally_in seen key_eah).text v (the key_eah (carried v)) (λ _. encodes) in
+    rw (e, ← count) is
 
 -- what the fields of a good value hold keeps the rule of its key
 all_obey : (k : ℕ) (fs : List Field) (b : List ℕ) (bs : List (List ℕ)) → all_good fs ≡ true → contents k fs ≡ b ∷ bs → obeys (rule_at k) b ≡ true

@@ -10,7 +10,8 @@ use native.Mathlib.Omega.{arith}
 use lib.Dec.{eqb}
 use lib.Pow.{pow_pos, pow-add, pow_mono}
 use lib.ListN.{length, take, drop, set, replicate, length-drop, drop_of_length-le}
-use lib.Seq.{take_all, take_at}
+use lib.Seq.{take_all}
+use Rattle.std.proofs.lemmas.List.{drop-set}
 use borrow.Author.Tests.{eqb-true, leb-true, le-leb, eq-eqb, ne_eqb, not-true}
 use Rattle.cells.specs.Runs.{Bytes, spliced, part}
 use Rattle.cells.specs.Numbers.{bytes_of, number}
@@ -239,12 +240,19 @@ number_small bs h few =
 pub length_number : (n : ℕ) → n < 2 ^ 32 → length (number_bytes n) ≤ 4
 length_number n h = (numeral_parts 4 (number_bytes n) (numeral 4 3 n refl h)).1
 
--- bytes put after the first byte of a run
-pub mask_front : (k m x : ℕ) (xs : List ℕ) {l : List ℕ} → k ≡ length (number_bytes m) → l ≡ spliced (x ∷ xs) 1 (number_bytes m)
-    → take (k + 1) (set l 0 k) ≡ mask_bytes m
-unfolding spliced mask_bytes
-mask_front k m x xs e p =
-    let ys = number_bytes m in
-    ap (λ (l : List ℕ). take (k + 1) (set l 0 k)) p
-    ∙ ap (λ (j : ℕ). take j (k ∷ (ys ++ drop (length ys) xs))) (add-one k)
-    ∙ ap₂ ◌∷◌ e (take_at ys (drop (length ys) xs) k (sym e))
+-- the length byte put before a number's bytes, which stand at the end of nine
+pub mask_cut : (m k : ℕ) {nine : List ℕ} → nine ≡ spliced (replicate 9 0) 1 (bytes_of 8 m) → k ≡ length (number_bytes m)
+    → take (9 - (8 - k)) (drop (8 - k) (set nine (8 - k) k)) ≡ mask_bytes m
+unfolding mask_bytes number_bytes spliced bytes_of
+mask_cut m k p q =
+    let ys = bytes_of 8 m in
+    let whole = p ∙ ap (λ (l : List ℕ). 0 ∷ l) (ap (λ (l : List ℕ). ys ++ l) (drop_of_length-le (replicate 8 0) {i = length ys} (omega arith)) ∙ append-nil ys) in
+    let few : k ≤ 8 = omega (arith, (length_number_bytes m).1) in
+    let cut =
+    ap (λ (l : List ℕ). drop (8 - k) (set l (8 - k) k)) whole
+    ∙ drop-set (0 ∷ ys) (8 - k) k (omega arith)
+    ∙ ap (λ (i : ℕ). k ∷ drop i (0 ∷ ys)) (add-one (8 - k))
+    ∙ ap (λ (j : ℕ). k ∷ drop (8 - j) ys) q
+    ∙ ap (λ (l : List ℕ). k ∷ l) (suffix ys).1
+    in
+    ap (take (9 - (8 - k))) cut ∙ take_all (9 - (8 - k)) (k ∷ shortest ys) (omega arith) ∙ ap (λ (j : ℕ). j ∷ shortest ys) q

@@ -1,29 +1,26 @@
 -- What the set of fields of a setup's reply, the rules of its keys and the counts of a scan say of a whole reply.
 -- Assumes nothing.
-use mathlib.Core.Path.{◌≡◌, refl, sym, ap, ◌∙◌}
-use mathlib.Core.Bool.{true, false, not, ◌&&◌}
+use mathlib.Core.Path.{◌≡◌, refl, sym, ◌∙◌}
+use mathlib.Core.Bool.{true, false, ◌&&◌}
 use mathlib.Core.List.{List, []}
 use mathlib.Core.Option.{Option, none, get_or}
 use Prim.Native.Nat.{ℕ, ◌<◌, ◌≤◌}
 use native.Mathlib.Omega.{arith}
 use lib.Dec.{eqb, leb}
-use lib.ListN.{length, take, length-take}
+use lib.ListN.{length}
 use borrow.Author.Tests.{eqb-true, leb-true}
-use Rattle.armor.specs.declared.scanning.Seen.{Seen}
-use Rattle.armor.specs.declared.scanning.ScanRead.{ScanRead}
-use Rattle.armor.specs.declared.Reply.{Reply}
+use Rattle.armor.specs.declared.seen.Seen.{Seen}
 use Rattle.armor.specs.Keys.{obeys, keys, rule_at, key_t, key_lt, key_n, key_h, key_ah, key_r, key_s, key_c, key_iv, key_tag, key_eah, other_key}
 use Rattle.armor.specs.Value.{Field, all_good, grammar, carried}
 use Rattle.armor.specs.Fields.{contents, times, the, reply_times, reply_holds}
-use Rattle.armor.specs.InnerAnswers.{HoldsReply}
-use Rattle.armor.specs.InnerScan.{Sound, ReplySizes, ReadyReply, Noted, count_in, Scanned}
+use Rattle.armor.specs.InnerScan.{Sound, ReplySizes, ReadyReply, Single, count_in}
 use Rattle.cells.proofs.Tests.{both}
 use Rattle.armor.proofs.Numerals.{first, second}
 use Rattle.armor.proofs.Keys.{from_at}
 use Rattle.armor.proofs.Value.{grammar_exactly}
 use Rattle.armor.proofs.Texts.{mask_room, sized_room}
-use Rattle.armor.proofs.Fields.{noted, obeyed_once, reply_counts}
-use Rattle.armor.proofs.Requests.{exact, broken}
+use Rattle.armor.proofs.Fields.{single, obeyed_once, reply_counts}
+use Rattle.armor.proofs.Requests.{exact}
 
 -- how often each key stands
 pub record Required (count : ℕ → ℕ) : Type 0 where
@@ -80,33 +77,22 @@ nothing_holds : (o : Option (List Field)) → o ≡ none → reply_holds (get_or
 unfolding reply_holds reply_times times contents
 nothing_holds o e = rw e refl
 
-pub reply_breaks : (v : List ℕ) (r : ScanRead) → Scanned v r → not r.good ≡ true → reply_holds (carried v) ≡ false
+pub reply_breaks : (v : List ℕ) → grammar v ≡ none → reply_holds (carried v) ≡ false
 unfolding carried
-reply_breaks v r h bad = nothing_holds (grammar v) (broken v r h bad)
+reply_breaks v e = nothing_holds (grammar v) e
 
 -- one that keeps it
-module _ (v : List ℕ) (seen : Seen) (h : Sound v seen) where
-  pub reply_times_lem : reply_times (count_in seen) ≡ reply_times (λ k. times k (carried v))
-  reply_times_lem = reply_counts v seen (carried v) h.notes
+module _ (seen : Seen) (h : Sound seen) where
+  pub reply_times_lem : reply_times (count_in seen) ≡ reply_times (λ k. times k (carried seen.value.now))
+  reply_times_lem = reply_counts seen (carried seen.value.now) h.notes
 
   -- each key can be looked at
-  pub reply_noted : reply_times (count_in seen) ≡ true → (k : ℕ) → k < 12 → Noted v seen k
-  reply_noted e k small = noted h.notes k small (once_or_not (carried v) (right_parts (λ k. times k (carried v)) (sym reply_times_lem ∙ e)) k small)
+  pub reply_single : reply_times (count_in seen) ≡ true → Single seen
+  reply_single e =
+      single h.notes (once_or_not (carried seen.value.now) (right_parts (λ k. times k (carried seen.value.now)) (sym reply_times_lem ∙ e)))
 
-  pub reply_ready : reply_holds (carried v) ≡ true → ReadyReply v seen
+  pub reply_ready : reply_holds (carried seen.value.now) ≡ true → ReadyReply seen
   reply_ready e =
-      let all = held (carried v) e in
-      record {
-        noted = λ k small. noted h.notes k small (once_or_not (carried v) all.has k small);
-        sizes = sizes (carried v) ((grammar_exactly v (carried v)).0 h.kept).1 all;
-      }
-
--- s and eah are parts of their arrays
-part_room : (n : ℕ) (xs held : List ℕ) → take n xs ≡ held → n ≡ length held → n ≤ length xs
-part_room n xs held is size = omega (arith, length-take n xs, ap length is, size)
-
-pub token_room : {fs : List Field} {r : Reply} → HoldsReply fs r → r.s_len ≤ length r.s
-token_room {r = r} h = part_room r.s_len r.s _ h.token h.token_size
-
-pub extra_room : {fs : List Field} {r : Reply} → HoldsReply fs r → r.eah_len ≤ length r.eah
-extra_room {r = r} h = part_room r.eah_len r.eah _ h.extra h.extra_size
+      let fs = carried seen.value.now in
+      let all = held fs e in
+      record { single = single h.notes (once_or_not fs all.has); sizes = sizes fs ((grammar_exactly seen.value.now fs).0 h.kept).1 all }

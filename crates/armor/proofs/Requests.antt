@@ -2,32 +2,32 @@
 -- Assumes nothing.
 use mathlib.Core.Path.{◌≡◌, refl, ap, ◌∙◌, sym, ap₂}
 use mathlib.Core.Logic.{⊎_elim}
-use mathlib.Core.Bool.{Bool, true, cond, ◌&&◌, false, not}
+use mathlib.Core.Bool.{Bool, true, cond, ◌&&◌}
 use mathlib.Core.List.{List}
-use mathlib.Core.Option.{some, Option, none}
+use mathlib.Core.Option.{some, none}
 use Prim.Native.Nat.{ℕ, ◌<◌, ◌≤◌}
 use native.Mathlib.Omega.{arith}
 use lib.Dec.{eqb, lit<}
 use lib.ListN.{length, take}
-use borrow.Author.Tests.{eqb-true, eqb-false, leb-true, not-true}
+use borrow.Author.Tests.{eqb-true, eqb-false, leb-true}
 use Rattle.cells.specs.Runs.{part}
-use Rattle.armor.specs.declared.scanning.Seen.{Seen}
-use Rattle.armor.specs.declared.Answer.{Answer}
+use Rattle.std.specs.Prelude.{Result, Ok, Err, ok_or}
+use Rattle.std.specs.Prelude as Option
+use Rattle.armor.specs.declared.seen.Seen.{Seen}
+use Rattle.armor.specs.declared.Unread.{Unread}
 use Rattle.armor.specs.declared.Request.{Request}
-use Rattle.armor.specs.declared.SetupRead.{SetupRead}
-use Rattle.armor.specs.declared.scanning.ScanRead.{ScanRead}
 use Rattle.armor.specs.Numerals.{mask_of}
 use Rattle.armor.specs.Keys.{sized, obeys, keys, rule_at, key_t, key_lt, key_n, key_h, key_ah, key_r, key_s, key_c, key_iv, key_tag, key_eah, other_key, mask}
-use Rattle.armor.specs.Value.{Field, all_good, grammar, carried}
+use Rattle.armor.specs.Value.{Field, all_good, grammar, carried, told, held as held_in}
 use Rattle.armor.specs.Fields.{times, the, right_times, nonce_bit, request_fields, setup_fields}
 use Rattle.armor.specs.InnerAnswers.{request_from, request_answer, setup_from, setup_answer, Lies}
-use Rattle.armor.specs.InnerScan.{Sound, Sizes, Ready, Noted, count_in, is_some, Scanned}
+use Rattle.armor.specs.InnerScan.{Sound, Sizes, Ready, count_in, text_in}
 use Rattle.cells.proofs.Tests.{tested, both}
 use Rattle.armor.proofs.Numerals.{first, second}
 use Rattle.armor.proofs.Keys.{from_at}
 use Rattle.armor.proofs.Value.{grammar_exactly}
 use Rattle.armor.proofs.Texts.{Written, number_room, mask_room, sized_room, either_room}
-use Rattle.armor.proofs.Fields.{noted, obeyed_once, none_held, count_bit, counted, counts_are}
+use Rattle.armor.proofs.Fields.{single, obeyed_once, none_held, count_bit, counted, counts_are}
 
 -- how often each key stands
 pub record Required (n : ℕ → ℕ) : Type 0 where
@@ -119,71 +119,75 @@ lying {run = run} fs sizes token signature one two three four =
     }
 
 -- what is ready to be read
-pub ready : {v : List ℕ} {seen : Seen} → Sound v seen → request_fields (carried v) ≡ true → Ready v seen
-ready {v} h e = record {
-  notes = h.notes;
-  noted = λ k small. noted h.notes k small (once_or_not (carried v) e k small);
-  sizes = sizes (carried v) ((grammar_exactly v (carried v)).0 h.kept).1 e;
-}
+pub ready : {seen : Seen} → Sound seen → request_fields (carried seen.value.now) ≡ true → Ready seen
+ready {seen} h e =
+    let v = seen.value.now in
+    record {
+      notes = h.notes;
+      single = single h.notes (once_or_not (carried v) e);
+      sizes = sizes (carried v) ((grammar_exactly v (carried v)).0 h.kept).1 e;
+    }
 
 -- what a value that keeps its grammar comes to
-pub request_by : (v : List ℕ) (t : Bool) → grammar v ≡ some (carried v) → request_fields (carried v) ≡ t → request_answer v ≡ cond t Answer.Good Answer.Fields
+pub request_by : (v : List ℕ) (t : Bool) → grammar v ≡ some (carried v) → request_fields (carried v) ≡ t → request_answer v ≡ cond t (Ok tt) (Err Unread.Fields)
 unfolding request_answer
-request_by v t e f = ap request_from e ∙ ap (λ (u : Bool). cond u Answer.Good Answer.Fields) f
+request_by v t e f = ap request_from e ∙ ap (λ (u : Bool). cond u (Ok tt) (Err Unread.Fields)) f
 
 pub setup_by : (v : List ℕ) (t : Bool) → grammar v ≡ some (carried v) → setup_fields (carried v) ≡ t
-    → setup_answer v ≡ cond t (SetupRead.Mask (mask_of (the key_r (carried v)))) SetupRead.Fields
+    → setup_answer v ≡ cond t (Ok (mask_of (the key_r (carried v)))) (Err Unread.Fields)
 unfolding setup_answer
-setup_by v t e f = ap setup_from e ∙ ap (λ (u : Bool). cond u (SetupRead.Mask (mask_of (the key_r (carried v)))) SetupRead.Fields) f
+setup_by v t e f = ap setup_from e ∙ ap (λ (u : Bool). cond u (Ok (mask_of (the key_r (carried v)))) (Err Unread.Fields)) f
+
+-- what was made of nothing
+pub error_is : {A : Type 0} (o : Option.Option A) (e f : Unread) → ◌≡◌ {A = Result A Unread} (Err f) (ok_or o e) → o ≡ Option.None → f ≡ e
+error_is {A} o e f p q =
+    let r : ◌≡◌ {A = Result A Unread} (Err f) (Err e) = p ∙ ap (λ (x : Option.Option A). ok_or x e) q in
+    cc
 
 -- a value that breaks its grammar
-missing : (o : Option (List Field)) → is_some o ≡ false → o ≡ none
-missing none e = refl
-missing (some fs) e = absurd (let z : ◌≡◌ {A = ℕ} 0 1 = cc in omega arith)
+pub request_breaks : (v : List ℕ) → grammar v ≡ none → request_answer v ≡ Err Unread.Grammar
+unfolding request_answer
+request_breaks v e = ap request_from e
 
-module _ (v : List ℕ) (r : ScanRead) (h : Scanned v r) (bad : not r.good ≡ true) where
-  pub broken : grammar v ≡ none
-  broken = missing (grammar v) (sym h.good ∙ not-true r.good bad)
-
-  pub request_breaks : Answer.Grammar ≡ request_answer v
-  unfolding request_answer
-  request_breaks = sym (ap request_from broken)
-
-  pub setup_breaks : SetupRead.Grammar ≡ setup_answer v
-  unfolding setup_answer
-  setup_breaks = sym (ap setup_from broken)
+pub setup_breaks : (v : List ℕ) → grammar v ≡ none → setup_answer v ≡ Err Unread.Grammar
+unfolding setup_answer
+setup_breaks v e = ap setup_from e
 
 -- one that keeps it
-module _ (v : List ℕ) (seen : Seen) (h : Sound v seen) where
+module _ (seen : Seen) (h : Sound seen) where
   -- its set of fields by the counts
-  pub request_fields_lem : request_fields (carried v) ≡ (right_times (count_in seen) && eqb (count_in seen key_n) (nonce_bit (carried v)))
+  pub request_fields_lem : request_fields (carried seen.value.now) ≡ (right_times (count_in seen) && eqb (count_in seen key_n) (nonce_bit (carried seen.value.now)))
   unfolding request_fields nonce_bit
   request_fields_lem =
-      ap₂ ◌&&◌ (sym (counts_are v seen (carried v) h.notes))
-      (sym (count_bit (count_in seen key_n) (times key_n (carried v)) (nonce_bit (carried v)) (counted v seen (carried v) h.notes key_n (lit< tt)) (omega arith)))
+      let fs = carried seen.value.now in
+      ap₂ ◌&&◌ (sym (counts_are seen fs h.notes)) (sym (count_bit (count_in seen key_n) (times key_n fs) (nonce_bit fs) (counted seen fs h.notes key_n (lit< tt)) (omega arith)))
 
-  pub setup_fields_lem : setup_fields (carried v) ≡ (eqb seen.total 1 && eqb (count_in seen key_r) 1)
+  pub setup_fields_lem : setup_fields (carried seen.value.now) ≡ (eqb seen.total 1 && eqb (count_in seen key_r) 1)
   unfolding setup_fields
   setup_fields_lem =
-      ap₂ ◌&&◌ (sym (count_bit seen.total (length (carried v)) 1 h.notes.total (lit< tt)))
-      (sym (count_bit (count_in seen key_r) (times key_r (carried v)) 1 (counted v seen (carried v) h.notes key_r (lit< tt)) (lit< tt)))
+      let fs = carried seen.value.now in
+      ap₂ ◌&&◌ (sym (count_bit seen.total (length fs) 1 h.notes.total (lit< tt)))
+      (sym (count_bit (count_in seen key_r) (times key_r fs) 1 (counted seen fs h.notes key_r (lit< tt)) (lit< tt)))
 
   -- a mask that is carried once can be read
-  mask_there : (k : ℕ) → k < 12 → rule_at k ≡ mask → times k (carried v) ≡ 1
-      → Noted v seen k × (1 ≤ length (the k (carried v))) × (length (the k (carried v)) ≤ 9)
+  mask_there : (k : ℕ) → k < 12 → rule_at k ≡ mask → times k (carried seen.value.now) ≡ 1
+      → (told (text_in seen k) ≡ the k (carried seen.value.now)) × (1 ≤ length (told (text_in seen k))) × (length (told (text_in seen k)) ≤ 9)
+  unfolding times the
   mask_there k small e one =
-      let room = mask_room (the k (carried v)) (rw e at (obeyed_once (carried v) k ((grammar_exactly v (carried v)).0 h.kept).1 one)) in
-      (noted h.notes k small (omega arith), room.0, room.1)
+      let fs = carried seen.value.now in
+      let is : told (text_in seen k) ≡ the k fs = ap held_in ((h.notes.kept k small).decodes (omega arith)) in
+      let room = mask_room (the k fs) (rw e at (obeyed_once fs k ((grammar_exactly seen.value.now fs).0 h.kept).1 one)) in
+      (is, rw is room.0, rw is room.1)
 
   pub coverage_there : right_times (count_in seen) ≡ true
-      → Noted v seen key_ah × (1 ≤ length (the key_ah (carried v))) × (length (the key_ah (carried v)) ≤ 9)
+      → (told (text_in seen key_ah) ≡ the key_ah (carried seen.value.now)) × (1 ≤ length (told (text_in seen key_ah))) × (length (told (text_in seen key_ah)) ≤ 9)
   unfolding rule_at keys
   coverage_there e =
-      mask_there key_ah (lit< tt) refl (right_parts (λ k. times k (carried v)) (sym (counts_are v seen (carried v) h.notes) ∙ e)).ah
+      mask_there key_ah (lit< tt) refl (right_parts (λ k. times k (carried seen.value.now)) (sym (counts_are seen (carried seen.value.now) h.notes) ∙ e)).ah
 
   pub client_there : (eqb seen.total 1 && eqb (count_in seen key_r) 1) ≡ true
-      → Noted v seen key_r × (1 ≤ length (the key_r (carried v))) × (length (the key_r (carried v)) ≤ 9)
+      → (told (text_in seen key_r) ≡ the key_r (carried seen.value.now)) × (1 ≤ length (told (text_in seen key_r))) × (length (told (text_in seen key_r)) ≤ 9)
   unfolding rule_at keys setup_fields
   client_there e =
-      mask_there key_r (lit< tt) refl
-      (eqb-true (times key_r (carried v)) 1 (both (eqb (length (carried v)) 1) (eqb (times key_r (carried v)) 1) (setup_fields_lem ∙ e)).1)
+      let fs = carried seen.value.now in
+      mask_there key_r (lit< tt) refl (eqb-true (times key_r fs) 1 (both (eqb (length fs) 1) (eqb (times key_r fs) 1) (setup_fields_lem ∙ e)).1)

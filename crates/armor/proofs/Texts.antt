@@ -9,39 +9,43 @@ use native.Mathlib.Nat.{zero-add}
 use native.Mathlib.Omega.{arith}
 use lib.Dec.{eqb, leb}
 use lib.ListN.{length, get_or, take, drop, length-append, length-drop, length-take, take-append-drop}
+use Rattle.std.specs.Prelude.{replicate}
+use Rattle.std.proofs.lemmas.List.{length-replicate}
 use lib.Seq.{take_at, drop_at, length-take-le}
 use borrow.Author.Tests.{eqb-true, ne_eqb, leb-true, leb-false, le-leb, lt-leb}
 use Rattle.cells.specs.Runs.{fronted, part}
 use Rattle.cells.specs.Numbers
 use Rattle.cells.proofs.Cuts.{part_part}
-use Rattle.cells.proofs.Runs.{length_fronted, length_part}
-use Rattle.base_64.specs.declared.Measured.{Measured}
-use Rattle.base_64.specs.declared.Decoded.{Decoded}
+use Rattle.cells.proofs.Runs.{length_fronted, length_part, fronted_whole}
+use Rattle.std.specs.Prelude.{Some, None, Result, Ok, Err, unwrap_or}
+use Rattle.std.specs.Result.{result_unwrap_or}
+use Rattle.base_64.specs.declared.Undecoded.{Undecoded}
+use Rattle.base_64.specs.declared.Undecoded.TheVariants.{Bad, TooLong}
 use Rattle.base_64.specs.Decoding.{Decoding, nothing, bytes, decoded}
 use Rattle.base_64.specs.InnerAnswers.{size_of, measured, Outcome, outcome, pick_outcome, into, decoded_into}
 use Rattle.armor.specs.Numerals.{is_numeral, is_number, is_mask, mask_of}
 use Rattle.armor.specs.Keys.{Rule, number, mask, sized, either, obeys}
-use Rattle.armor.specs.Value.{decoded_obeys, text_obeys, held}
+use Rattle.armor.specs.Value.{decoded_obeys, text_obeys, held, told}
 use Rattle.cells.proofs.Tests.{tested}
 use Rattle.armor.proofs.Numerals.{first, second, numeral_parts, mask_parts}
 use Rattle.armor.proofs.Value.{obeyed_parts}
 
 -- by its size
-measured_by : (rule : Rule) (d : Decoding) → size_of d ≡ Measured.Bad → decoded_obeys rule d ≡ false
+measured_by : (rule : Rule) (d : Decoding) → size_of d ≡ None → decoded_obeys rule d ≡ false
 measured_by rule nothing e = refl
 measured_by rule (bytes bs) e = absurd (let z : ◌≡◌ {A = ℕ} 0 1 = cc in omega arith)
 
-pub measured_bad : (rule : Rule) (text : List ℕ) → measured text ≡ Measured.Bad → text_obeys rule text ≡ false
+pub measured_bad : (rule : Rule) (text : List ℕ) → measured text ≡ None → text_obeys rule text ≡ false
 unfolding measured text_obeys
 measured_bad rule text e = measured_by rule (decoded text) e
 
-size_by : (rule : Rule) (f : ℕ → Bool) → ((bs : List ℕ) → obeys rule bs ≡ f (length bs)) → (d : Decoding) (n : ℕ) → size_of d ≡ Measured.Bytes n
+size_by : (rule : Rule) (f : ℕ → Bool) → ((bs : List ℕ) → obeys rule bs ≡ f (length bs)) → (d : Decoding) (n : ℕ) → size_of d ≡ Some n
     → decoded_obeys rule d ≡ (leb 1 n && f n)
 size_by rule f h nothing n e = absurd (let z : ◌≡◌ {A = ℕ} 0 1 = cc in omega arith)
 size_by rule f h (bytes bs) n e = let size : length bs ≡ n = cc in rw (h bs, size)
 
 pub measured_size : (rule : Rule) (f : ℕ → Bool) → ((bs : List ℕ) → obeys rule bs ≡ f (length bs)) → (text : List ℕ) (n : ℕ)
-    → measured text ≡ Measured.Bytes n → text_obeys rule text ≡ (leb 1 n && f n)
+    → measured text ≡ Some n → text_obeys rule text ≡ (leb 1 n && f n)
 unfolding measured text_obeys
 measured_size rule f h text n e = size_by rule f h (decoded text) n e
 
@@ -53,38 +57,65 @@ pub record Filled (text out left : List ℕ) (n : ℕ) : Type 0 where
   pub fits : length run ≤ length out
   pub front : left ≡ fronted run out
 
-filled_by : (text out left : List ℕ) (n : ℕ) (d : Decoding) → decoded text ≡ d → outcome (Decoded.Bytes n) left ≡ into d out → Filled text out left n
+filled_by : (text out left : List ℕ) (n : ℕ) (d : Decoding) → decoded text ≡ d → outcome (Ok n) left ≡ into d out → Filled text out left n
 filled_by text out left n nothing p e =
-    let answer : Decoded.Bytes n ≡ Decoded.Bad = ap (λ (o : Outcome). o.answer) e in
+    let answer : ◌≡◌ {A = Result ℕ Undecoded} (Ok n) (Err Bad) = ap (λ (o : Outcome). o.answer) e in
     absurd (let z : ◌≡◌ {A = ℕ} 0 1 = cc in omega arith)
 filled_by text out left n (bytes bs) p e =
     tested (leb (length bs) (length out))
     (λ t. let same = rw t at e in
-    let answer : Decoded.Bytes n ≡ Decoded.Bytes (length bs) = ap (λ (o : Outcome). o.answer) same in
+    let answer : ◌≡◌ {A = Result ℕ Undecoded} (Ok n) (Ok (length bs)) = ap (λ (o : Outcome). o.answer) same in
     record { run = bs; is = p; size = cc; fits = leb-true (length bs) (length out) t; front = ap (λ (o : Outcome). o.out) same })
-    (λ t. let answer : Decoded.Bytes n ≡ Decoded.TooLong = ap (λ (o : Outcome). o.answer) (rw t at e) in
+    (λ t. let answer : ◌≡◌ {A = Result ℕ Undecoded} (Ok n) (Err TooLong) = ap (λ (o : Outcome). o.answer) (rw t at e) in
     absurd (let z : ◌≡◌ {A = ℕ} 0 1 = cc in omega arith))
 
-pub filled : (text out left : List ℕ) (n : ℕ) (r : Decoded) → r ≡ Decoded.Bytes n → outcome r left ≡ decoded_into text out → Filled text out left n
+pub filled : (text out left : List ℕ) (n : ℕ) (r : Result ℕ Undecoded) → r ≡ Ok n → outcome r left ≡ decoded_into text out → Filled text out left n
 unfolding decoded_into
 filled text out left n r p e =
-    filled_by text out left n (decoded text) refl (ap (λ (d : Decoded). outcome d left) (sym p) ∙ e)
+    filled_by text out left n (decoded text) refl (ap (λ (d : Result ℕ Undecoded). outcome d left) (sym p) ∙ e)
 
 -- a text whose bytes fit is decoded
-pub decoded_fits : (text out left bs : List ℕ) (r : Decoded) → outcome r left ≡ decoded_into text out → decoded text ≡ bytes bs → length bs ≤ length out
-    → (r ≡ Decoded.Bytes (length bs)) × (left ≡ fronted bs out)
+decoded_fits : (text out left bs : List ℕ) (r : Result ℕ Undecoded) → outcome r left ≡ decoded_into text out → decoded text ≡ bytes bs → length bs ≤ length out
+    → (r ≡ Ok (length bs)) × (left ≡ fronted bs out)
 unfolding decoded_into
 decoded_fits text out left bs r e d few =
-    let whole : outcome r left ≡ outcome (Decoded.Bytes (length bs)) (fronted bs out) =
+    let whole : outcome r left ≡ outcome (Ok (length bs)) (fronted bs out) =
     e
     ∙ ap (λ (x : Decoding). into x out) d
-    ∙ ap (λ (t : Bool). pick_outcome t (outcome (Decoded.Bytes (length bs)) (fronted bs out)) (outcome Decoded.TooLong out)) (le-leb (length bs) (length out) few)
+    ∙ ap (λ (t : Bool). pick_outcome t (outcome (Ok (length bs)) (fronted bs out)) (outcome (Err TooLong) out)) (le-leb (length bs) (length out) few)
     in
     (ap (λ (o : Outcome). o.answer) whole, ap (λ (o : Outcome). o.out) whole)
 
+-- what a text encodes, if it fits, and nothing of a text that encodes nothing
+content_by : (out left : List ℕ) (d : Decoding) (r : Result ℕ Undecoded) → outcome r left ≡ into d out → length (held d) ≤ length out
+    → (result_unwrap_or r 0 ≡ length (held d)) × (left ≡ fronted (held d) out)
+unfolding fronted
+content_by out left nothing r e few = (
+  ap (λ (o : Outcome). result_unwrap_or o.answer 0) e,
+  ap (λ (o : Outcome). o.out) e,
+)
+content_by out left (bytes bs) r e few =
+    let whole : outcome r left ≡ outcome (Ok (length bs)) (fronted bs out) =
+    e ∙ ap (λ (t : Bool). pick_outcome t (outcome (Ok (length bs)) (fronted bs out)) (outcome (Err TooLong) out)) (le-leb (length bs) (length out) few)
+    in
+    (ap (λ (o : Outcome). result_unwrap_or o.answer 0) whole, ap (λ (o : Outcome). o.out) whole)
+
+pub content_is : (text out left : List ℕ) (r : Result ℕ Undecoded) → outcome r left ≡ decoded_into text out → length (told text) ≤ length out
+    → (result_unwrap_or r 0 ≡ length (told text)) × (left ≡ fronted (told text) out)
+unfolding decoded_into
+content_is text out left r e few = content_by out left (decoded text) r e few
+
+size_of_by : (d : Decoding) → unwrap_or (size_of d) 0 ≡ length (held d)
+size_of_by nothing = refl
+size_of_by (bytes bs) = refl
+
+pub size_is : (text : List ℕ) → unwrap_or (measured text) 0 ≡ length (told text)
+unfolding measured
+size_is text = size_of_by (decoded text)
+
 -- a text that was not decoded does not keep a rule by which its bytes would fit the buffer
-pub unfilled : (rule : Rule) (text out left : List ℕ) (r : Decoded) → ((b : List ℕ) → obeys rule b ≡ true → length b ≤ length out)
-    → ((n : ℕ) → r ≡ Decoded.Bytes n → ⊥) → outcome r left ≡ decoded_into text out → text_obeys rule text ≡ false
+pub unfilled : (rule : Rule) (text out left : List ℕ) (r : Result ℕ Undecoded) → ((b : List ℕ) → obeys rule b ≡ true → length b ≤ length out)
+    → ((n : ℕ) → r ≡ Ok n → ⊥) → outcome r left ≡ decoded_into text out → text_obeys rule text ≡ false
 unfolding text_obeys
 unfilled rule text out left r room not e =
     let bs = held (decoded text) in
@@ -115,6 +146,10 @@ pub front_taken : (run out : List ℕ) (n : ℕ) {left : List ℕ} → left ≡ 
 unfolding fronted
 front_taken run out n e s = ap (take n) e ∙ take_at run (drop (length run) out) n (sym s)
 
+pub filled_whole : (n : ℕ) {xs run left : List ℕ} → left ≡ fronted xs (replicate n 0) → xs ≡ run → length run ≡ n → left ≡ run
+filled_whole n {xs} {run} {left} e is size =
+    e ∙ ap (λ (l : List ℕ). fronted l (replicate n 0)) is ∙ fronted_whole run (replicate n 0) (size ∙ sym (length-replicate n 0))
+
 pub obeys_run : (rule : Rule) (text run : List ℕ) → decoded text ≡ bytes run → text_obeys rule text ≡ (leb 1 (length run) && obeys rule run)
 unfolding text_obeys
 obeys_run rule text run e = ap (decoded_obeys rule) e
@@ -138,9 +173,6 @@ mask_test (b ∷ bs) out n {left} e s more =
     simp (le-leb 1 (length (b ∷ bs)) (omega arith))
     (sym (ap₂ (λ (l : List ℕ) (k : ℕ). eqb (get_or l 0 0) k && is_numeral 8 (take k (drop 1 l))) e size
     ∙ ap (λ (l : List ℕ). eqb b (length bs) && is_numeral 8 l) (take_at bs (drop (length (b ∷ bs)) out) (length bs) refl)))
-
-pub bytes_same : {r : Decoded} {m n : ℕ} → r ≡ Decoded.Bytes m → r ≡ Decoded.Bytes n → n ≡ m
-bytes_same p q = cc
 
 pub filled_within : {text out left : List ℕ} {n : ℕ} → Filled text out left n → n ≤ length left
 filled_within {out = out} f = omega (arith, f.size, f.fits, ap length f.front, length_fronted f.run out f.fits)

@@ -1,15 +1,16 @@
 -- Invariants of the code: what a scan of a value has seen.
 -- Assumes nothing.
-use Rattle.std.specs.Prelude.{◌≡◌, ◌⊎◌, Bool, true, false, if◌then◌else◌, List, [], ℕ, ◌+◌, ◌<◌, ◌≤◌, eqb, min, length, get_or, drop, set, replicate}
+use Rattle.std.specs.Prelude.{◌≡◌, ◌⊎◌, Bool, true, false, cond, List, [], ℕ, ◌+◌, ◌<◌, ◌≤◌, eqb, min, length, get_or, drop, set, replicate}
 use Rattle.std.specs.Prelude as P
-use Rattle.std.proofs.Math.Option.{Option, none, some}
+use Rattle.std.proofs.Math.Option.{none, some}
 use Rattle.cells.specs.Runs.{cut}
 use Rattle.base_64.specs.Decoding.{bytes, decoded}
 use Rattle.armor.specs.declared.Span.{Span}
 use Rattle.armor.specs.declared.key.Key.{Key}
-use Rattle.armor.specs.declared.scanning.Tally.{Tally}
-use Rattle.armor.specs.declared.scanning.Seen.{Seen}
+use Rattle.armor.specs.declared.tally.Tally.{Tally}
+use Rattle.armor.specs.declared.seen.Seen.{Seen}
 use Rattle.armor.specs.declared.scanning.Piece.{Piece}
+use Rattle.armor.specs.InnerTallies.{no_tally}
 use Rattle.armor.specs.Pieces.{colon, semicolon, up_to}
 use Rattle.armor.specs.Keys.{key_number, key_t, key_lt, key_n, key_h, key_ah, key_r, key_s, key_c, key_iv, key_tag, key_eah, other_key}
 use Rattle.armor.specs.Value.{Field, piece_good, grammar, carried}
@@ -49,40 +50,34 @@ pub record Ends (v : List ℕ) (at r : ℕ) : Type 0 where
 -- what has been noted of contents: how many there are, up to two, and where the last one's text is; nowhere where there is none
 pub record Kept (v : List ℕ) (t : Tally) (held : List (List ℕ)) : Type 0 where
   pub counted : t.count ≡ min 2 (length held)
-  pub in_order : t.text.start ≤ t.text.end
-  pub within : t.text.end ≤ length v
   pub decodes : length held ≤ 1 → decoded (cut v t.text.start t.text.end) ≡ bytes (get_or held 0 [])
 
-abbrev pub no_tally : Tally
-no_tally = record { count = 0; text = record { start = 0; end = 0 } }
-
--- what was noted of a key: how often it was seen, up to two, and where its text stands if that was once
+-- what was noted of a key: how often it was seen, up to two, and where its text stands, if it was seen once
 abbrev pub tally_in : Seen → ℕ → Tally
 tally_in seen k = get_or seen.tallies k no_tally
 
 abbrev pub count_in : Seen → ℕ → ℕ
 count_in seen k = (tally_in seen k).count
 
-abbrev pub text_in : Seen → ℕ → P.Option Span
-text_in seen k = if eqb (count_in seen k) 1 then P.Some (tally_in seen k).text else P.None
+abbrev pub span_in : Seen → ℕ → P.Option Span
+span_in seen k = cond (eqb (count_in seen k) 1) (P.Some (tally_in seen k).text) P.None
+
+abbrev pub text_in : Seen → ℕ → List ℕ
+text_in seen k = cut seen.value.now (tally_in seen k).text.start (tally_in seen k).text.end
 
 -- what has been noted of fields
-pub record Notes (v : List ℕ) (seen : Seen) (fs : List Field) : Type 0 where
-  pub long : length seen.tallies ≡ 12
+pub record Notes (seen : Seen) (fs : List Field) : Type 0 where
   pub total : seen.total ≡ min 2 (length fs)
-  pub kept : (k : ℕ) → k < 12 → Kept v (tally_in seen k) (contents k fs)
+  pub kept : (k : ℕ) → k < 12 → Kept seen.value.now (tally_in seen k) (contents k fs)
 
 -- notes of a value that keeps its grammar
-pub record Sound (v : List ℕ) (seen : Seen) : Type 0 where
-  pub kept : grammar v ≡ some (carried v)
-  pub notes : Notes v seen (carried v)
+pub record Sound (seen : Seen) : Type 0 where
+  pub kept : grammar seen.value.now ≡ some (carried seen.value.now)
+  pub notes : Notes seen (carried seen.value.now)
 
--- a key that is carried once or not: what its text encodes is what the key holds
-pub record Noted (v : List ℕ) (seen : Seen) (k : ℕ) : Type 0 where
-  pub small : k < 12
-  pub in_order : (tally_in seen k).text.start ≤ (tally_in seen k).text.end
-  pub within : (tally_in seen k).text.end ≤ length v
-  pub decodes : decoded (cut v (tally_in seen k).text.start (tally_in seen k).text.end) ≡ bytes (the k (carried v))
+-- each key is carried once or not: what its text encodes is what the key holds
+pub record Single (seen : Seen) : Type 0 where
+  pub decodes : (k : ℕ) → k < 12 → decoded (text_in seen k) ≡ bytes (the k (carried seen.value.now))
 
 -- how long what the keys of a request hold is
 pub record Sizes (fs : List Field) : Type 0 where
@@ -97,10 +92,10 @@ pub record Sizes (fs : List Field) : Type 0 where
   pub tag : length (the key_tag fs) ≡ 16
 
 -- notes of a request whose set of fields is right
-pub record Ready (v : List ℕ) (seen : Seen) : Type 0 where
-  pub notes : Notes v seen (carried v)
-  pub noted : (k : ℕ) → k < 12 → Noted v seen k
-  pub sizes : Sizes (carried v)
+pub record Ready (seen : Seen) : Type 0 where
+  pub notes : Notes seen (carried seen.value.now)
+  pub single : Single seen
+  pub sizes : Sizes (carried seen.value.now)
 
 -- how long what the keys of a setup's reply hold is
 pub record ReplySizes (fs : List Field) : Type 0 where
@@ -113,19 +108,22 @@ pub record ReplySizes (fs : List Field) : Type 0 where
   pub eah : length (the key_eah fs) ≤ 128
 
 -- notes of a setup's reply whose set of fields is right
-pub record ReadyReply (v : List ℕ) (seen : Seen) : Type 0 where
-  pub noted : (k : ℕ) → k < 12 → Noted v seen k
-  pub sizes : ReplySizes (carried v)
+pub record ReadyReply (seen : Seen) : Type 0 where
+  pub single : Single seen
+  pub sizes : ReplySizes (carried seen.value.now)
 
 abbrev pub Scanned : List ℕ → P.Option Seen → Type 0
 Scanned v P.None = grammar v ≡ none
-Scanned v (P.Some seen) = Sound v seen
+Scanned v (P.Some seen) = (seen.value.now ≡ v) × Sound seen
 
-abbrev pub none_seen : Seen
-none_seen = record { tallies = replicate 12 no_tally; total = 0 }
+-- nothing noted of a value
+pub record NoneSeen (v : List ℕ) (seen : Seen) : Type 0 where
+  pub of : seen.value.now ≡ v
+  pub tallies : seen.tallies ≡ replicate 12 no_tally
+  pub total : seen.total ≡ 0
 
-abbrev pub noted_in : Seen → ℕ → Span → Seen
-noted_in seen key text = record {
-  tallies = set seen.tallies key (record { count = min 2 (count_in seen key + 1); text = text });
-  total = min 2 (seen.total + 1);
-}
+-- a field more
+pub record OneMore (old : Seen) (key : ℕ) (text : Span) (new : Seen) : Type 0 where
+  pub of : new.value.now ≡ old.value.now
+  pub tallies : new.tallies ≡ set old.tallies key (record { count = min 2 (count_in old key + 1); text = text })
+  pub total : new.total ≡ min 2 (old.total + 1)

@@ -5,4 +5,5 @@ pub mod Keys
 pub mod Value
 pub mod Fields
 pub mod InnerAnswers
+pub mod InnerTallies
 pub mod InnerScan

@@ -70,6 +70,10 @@ abbrev pub held : Decoding → List ℕ
 held nothing = []
 held (bytes bs) = bs
 
+-- what a text encodes, and nothing where it encodes nothing
+abbrev pub told : List ℕ → List ℕ
+told text = held (decoded text)
+
 -- whether a piece has a key, which ends at the first colon, and after it what the key's rule asks
 unfoldable pub piece_good : List ℕ → Bool
 piece_good piece = leb 1 (length (up_to colon piece)) && text_obeys (rule_of (up_to colon piece)) (after colon piece)

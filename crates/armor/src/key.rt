@@ -1,6 +1,6 @@
 // The keys that have a meaning, and the rule for what each holds.
-ghost use Rattle.std.specs.Prelude.{◌≡◌, ◌≤◌};
-ghost use Rattle.armor.specs.Keys.{key_number, number, mask, sized, either, free, rule_at};
+ghost use Rattle.std.specs.Prelude.{◌≡◌, ◌+◌, ◌≤◌, drop};
+ghost use Rattle.armor.specs.Keys.{keys, rank_of, key_number, number, mask, sized, either, free, rule_at};
 ghost use Rattle.armor.specs.Value.{text_obeys};
 ghost use Rattle.armor.specs.InnerScan.{place};
 
@@ -24,23 +24,53 @@ pub enum Key {
 }
 
 // The key of a name.
+// Kept: a match on byte strings would be plainer; tried, and the proof of its 24 cases didn't close.
+#[tactic(auto, unfolding(crate::specs::Keys::key_number, crate::specs::Keys::rank_of, crate::specs::Keys::keys, cells::specs::Text::codes))]
 pub fn named(name: &[u8]) -> Key
     ensures { place result ≡ key_number name.now }
 {
-    match name {
-        b"t" => Key::T,
-        b"lt" => Key::Lt,
-        b"n" => Key::N,
-        b"h" => Key::H,
-        b"ah" => Key::Ah,
-        b"r" => Key::R,
-        b"s" => Key::S,
-        b"c" => Key::C,
-        b"iv" => Key::Iv,
-        b"tag" => Key::Tag,
-        b"eah" => Key::Eah,
-        _ => Key::Other,
+    if cells::same(name, b"t") {
+        return Key::T;
     }
+    if cells::same(name, b"lt") {
+        return Key::Lt;
+    }
+    if cells::same(name, b"n") {
+        return Key::N;
+    }
+    if cells::same(name, b"h") {
+        return Key::H;
+    }
+    if cells::same(name, b"ah") {
+        return Key::Ah;
+    }
+    if cells::same(name, b"r") {
+        return Key::R;
+    }
+    later(name)
+}
+
+// The same for a name that is none of the first six.
+#[tactic(auto, unfolding(crate::specs::Keys::rank_of, crate::specs::Keys::keys, cells::specs::Text::codes))]
+fn later(name: &[u8]) -> Key
+    ensures { place result ≡ 6 + rank_of (drop 6 keys) name.now }
+{
+    if cells::same(name, b"s") {
+        return Key::S;
+    }
+    if cells::same(name, b"c") {
+        return Key::C;
+    }
+    if cells::same(name, b"iv") {
+        return Key::Iv;
+    }
+    if cells::same(name, b"tag") {
+        return Key::Tag;
+    }
+    if cells::same(name, b"eah") {
+        return Key::Eah;
+    }
+    Key::Other
 }
 
 // Whether a text encodes from low to high bytes.

@@ -13,6 +13,8 @@ mod contents;
 mod key;
 mod numeral;
 mod scanning;
+mod seen;
+mod tally;
 mod writing;
 
 pub use numeral::{mask_bytes, number_bytes};
@@ -68,7 +70,7 @@ pub fn read_setup(value: &[u8]) -> Result<u64, Unread>
     if !alone {
         return Err(Unread::Fields);
     }
-    Ok(contents::mask_in(value, &seen, Key::R))
+    Ok(contents::mask_in(seen.text(Key::R)))
 }
 
 // What a request carries, its byte fields in the run.
@@ -77,10 +79,10 @@ pub fn read_request(value: &[u8], fields: &mut [u8]) -> Result<Request, Unread>
     ensures { ReadsRequest value.now fields.new result }
 {
     let seen = scanning::scan_value(value).ok_or(Unread::Grammar)?;
-    if !contents::fields_good(value, &seen) {
+    if !contents::fields_good(&seen) {
         return Err(Unread::Fields);
     }
-    Ok(contents::request_of(value, &seen, fields))
+    Ok(contents::request_of(&seen, fields))
 }
 
 // What a setup's reply carries, if its set of fields is that of one.
@@ -89,8 +91,8 @@ pub fn read_reply(value: &[u8]) -> Option<Reply>
     ensures { ReadsReply value.now result }
 {
     let seen = scanning::scan_value(value)?;
-    if !contents::reply_good(value, &seen) {
+    if !contents::reply_good(&seen) {
         return None;
     }
-    Some(contents::reply_of(value, &seen))
+    Some(contents::reply_of(&seen))
 }

@@ -1,29 +1,19 @@
 // The grammar of a value, piece by piece.
-ghost use Rattle.std.specs.Prelude.{◌≡◌, ◌+◌, ◌≤◌, ◌<◌, min, length};
-ghost use Rattle.armor.specs.InnerScan.{place, Ends, PieceIs, tally_in, count_in, none_seen, noted_in, Scanned};
+ghost use Rattle.std.specs.Prelude.{◌≡◌, ◌≤◌, ◌<◌, length};
+ghost use Rattle.armor.specs.InnerTallies.{IsIn};
+ghost use Rattle.armor.specs.InnerScan.{place, Ends, PieceIs, tally_in, count_in, text_in, NoneSeen, OneMore, Scanned};
 
 use super::Span;
 use super::key::{self, Key};
+use super::seen::Seen;
+use super::tally::{self, Tally};
 
-// What a scan has seen of a key: how often, up to two, and where the text of its last field stands.
-#[derive(Clone, Copy)]
-pub struct Tally {
-    pub count: u8,
-    pub text: Span,
-}
-
-// What a scan of a value has seen, of each key by its place, and how many fields, up to two.
-#[derive(Clone, Copy)]
-pub struct Seen {
-    pub tallies: [Tally; 12],
-    pub total: u8,
-}
-
-impl Seen {
-    fn none() -> Seen
-        ensures { result ≡ none_seen }
+impl<'a> Seen<'a> {
+    fn none(value: &'a [u8]) -> Seen<'a>
+        ensures { NoneSeen value.now result }
     {
         Seen {
+            value,
             tallies: [Tally {
                 count: 0,
                 text: Span { start: 0, end: 0 },
@@ -44,26 +34,23 @@ impl Seen {
         self.tally(key).count
     }
 
+    // The text of a key's last field.
+    pub fn text(&self, key: Key) -> &'a [u8]
+        ensures { result.now ≡ text_in self.now (place key) }
+    {
+        let text = self.tally(key).text;
+        &self.value[text.start..text.end]
+    }
+
     // One field more.
     fn note(&mut self, key: Key, text: Span)
-        ensures { self.new ≡ noted_in self.old (place key) text }
+        requires { IsIn self.old.value.now text }
+        ensures { OneMore self.old (place key) text self.new }
     {
-        self.tallies[key as usize] = Tally {
-            count: more(self.count(key)),
-            text,
-        };
-        self.total = more(self.total);
+        let count = tally::more(self.count(key));
+        self.tallies[key as usize] = Tally { count, text };
+        self.total = tally::more(self.total);
     }
-}
-
-// One more, up to two.
-fn more(count: u8) -> u8
-    ensures { result ≡ min 2 (count + 1) }
-{
-    if count == 0 {
-        return 1;
-    }
-    2
 }
 
 // The key of a piece, and where its text starts.
@@ -79,7 +66,8 @@ fn read_piece(text: &[u8]) -> Option<Piece>
     let colon = cells::end(text, 0, |b| b != b':');
     let start = text.len().min(colon + 1);
     let key = key::named(&text[..colon]);
-    if (colon == 0) | !key::is_good(&text[start..], key) {
+    let good = (1 <= colon) & key::is_good(&text[start..], key);
+    if !good {
         return None;
     }
     Some(Piece { key, start })
@@ -94,14 +82,14 @@ fn piece_end(value: &[u8], at: usize) -> usize
 }
 
 // What the fields of a value are, if it keeps its grammar.
-pub fn scan_value(value: &[u8]) -> Option<Seen>
+pub fn scan_value(value: &[u8]) -> Option<Seen<'_>>
     requires { length value.now ≤ 4096 }
     ensures { Scanned value.now result }
 {
     if value.is_empty() {
         return None;
     }
-    let mut seen = Seen::none();
+    let mut seen = Seen::none(value);
     let mut at = 0;
     while at < value.len() {
         let end = piece_end(value, at);

@@ -14,7 +14,7 @@ pub returns : goal.returns
 unfolding obeys
 returns c =
     let a = c.args in
-    let n = c.in-Bytes.n in
-    let measured = sym c.measure.ensures ∙ c.in-Bytes.is in
+    let n = c.in-Some.n in
+    let measured = sym c.measure.ensures ∙ c.in-Some.is in
     sym (measured_size (either a.short a.long) (λ k. eqb k a.short || eqb k a.long) (λ bs. refl) a.text.now n measured
     ∙ either_test n a.short a.long c.requires.0 c.requires.1)

@@ -14,7 +14,7 @@ pub returns : goal.returns
 unfolding obeys
 returns c =
     let a = c.args in
-    let n = c.in-Bytes.n in
-    let measured = sym c.measure.ensures ∙ c.in-Bytes.is in
+    let n = c.in-Some.n in
+    let measured = sym c.measure.ensures ∙ c.in-Some.is in
     sym (measured_size (sized a.low a.high) (λ k. leb a.low k && leb k a.high) (λ bs. refl) a.text.now n measured
     ∙ sized_test n a.low a.high c.requires)

@@ -12,4 +12,4 @@ returns-in_default c = sym (measured_bad _ _ (sym c.measure.ensures ∙ c.in_def
 pub returns : goal.returns
 unfolding obeys
 returns c =
-    sym (measured_size free (λ k. true) (λ bs. refl) c.args.text.now c.in-Bytes.n (sym c.measure.ensures ∙ c.in-Bytes.is) ∙ and-true _)
+    sym (measured_size free (λ k. true) (λ bs. refl) c.args.text.now c.in-Some.n (sym c.measure.ensures ∙ c.in-Some.is) ∙ and-true _)

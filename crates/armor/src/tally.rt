@@ -1,0 +1,21 @@
+// What is kept of a key while a value is scanned.
+ghost use Rattle.std.specs.Prelude.{◌≡◌, ◌+◌, min};
+
+use super::Span;
+
+// How often a key was seen, up to two, and where the text of its last field stands.
+#[derive(Clone, Copy)]
+pub struct Tally {
+    pub count: u8,
+    pub text: Span,
+}
+
+// One more, up to two.
+pub fn more(count: u8) -> u8
+    ensures { result ≡ min 2 (count + 1) }
+{
+    if count == 0 {
+        return 1;
+    }
+    2
+}
