@@ -37,8 +37,9 @@ use Rattle.stages.specs.Refusals.{number_in, RefusedUnread}
 use Rattle.stages.specs.Refusals as R
 use Rattle.stages.specs.Request.{Request}
 use Rattle.orders.specs.declared.Limits.{Limits}
-use Rattle.stages.specs.Checks.{Check, check, first, missing, nowhere}
-use Rattle.table.specs.Session.{place_of, held_at}
+use Rattle.stages.specs.declared.admitting.Session.{Session}
+use Rattle.stages.specs.Checks.{Check, check, first, missing}
+use Rattle.table.specs.Session.{place_of}
 use Rattle.stages.specs.Parts.{fields_of, iv_of, hash_of, nonce_of, time_of, last_time_of, signature_of, opened_of, token_of, limits, text_of, code_under, code_of, ordered, keeps_hash, stepped, next_of, covering_part, reading_part, token_part, signature_part, vouching_part, session_part, nonce_part, admitting_part}
 use Rattle.stages.specs.InnerStages.{Opens, StandsAt, Asks, Admits, Settles}
 use Rattle.stages.proofs.Checks.{passed_by, stopped_by}
@@ -139,62 +140,61 @@ signed_by_lem q r run h lies key hash named end ends code made =
     simp (named, signature, made, h.nonce, h.time, h.last_time)
 
 -- what a session's checks come to, over what admitting is lent
-abbrev lent_part : P.Option ℕ → Record → ℕ → ℕ → ℕ → Limits → Hash → Bool → ℕ → List Check
-lent_part place held clock t lt within hash nonces n =
-    let verdict = number_of (step_of (window_of held) n).verdict in
-    check 12 (nowhere place)
-    ∷ check 8 (not (eqb held.hash (hash_mask hash)))
-    ∷ check 13 (exceeds t lt within.idle)
-    ∷ check 14 (exceeds clock t within.request_life)
-    ∷ check 21 (exceeds t clock most_ahead)
+abbrev lent_part : P.Option Session → ℕ → ArmorRequest → Limits → Bool → List Check
+lent_part P.None clock r within nonces = check 12 true ∷ []
+lent_part (P.Some s) clock r within nonces =
+    let verdict = number_of (step_of (window_of s.record) r.n.0).verdict in
+    check 8 (not (eqb s.record.hash (hash_mask (named r.h))))
+    ∷ check 13 (exceeds r.t.0 r.lt.0 within.idle)
+    ∷ check 14 (exceeds clock r.t.0 within.request_life)
+    ∷ check 21 (exceeds r.t.0 clock most_ahead)
     ∷ check 15 (nonces && eqb verdict 15)
     ∷ check 16 (nonces && eqb verdict 16)
     ∷ []
 
-pub is_there : (place : P.Option ℕ) → nowhere place ≡ not (P.is_some place)
-is_there P.None = refl
-is_there (P.Some p) = refl
-
-module _ (q : Request) (table : List ℕ) (place : P.Option ℕ) (held : Record) (clock t lt : ℕ) (within : Limits) (hash : Hash) (nonces : Bool) (n : ℕ)
-    (s : StandsAt q table place held) (a : Asks q clock t lt within hash nonces n) where
+module _ (q : Request) (table : List ℕ) (clock : ℕ) (r : ArmorRequest) (within : Limits) (nonces : Bool) (a : Asks q clock r within nonces) where
   -- the request's checks against the session are those
-  pub lent : first (admitting_part q table) ≡ first (lent_part place held clock t lt within hash nonces n)
+  pub lent : (session : P.Option Session) → StandsAt q table session → first (admitting_part q table) ≡ first (lent_part session clock r within nonces)
   unfolding session_part nonce_part keeps_hash stepped
-  lent = by (nowhere place) refl
-    where
-      by : (b : Bool) → nowhere place ≡ b → first (admitting_part q table) ≡ first (lent_part place held clock t lt within hash nonces n)
-      by true away = simp (s.at, away)
-      by false there = simp (s.at, s.holds there, a.clock, a.t, a.lt, a.within, a.hash, a.nonces, a.n)
+  lent P.None s = simp s
+  lent (P.Some session) s = simp (s.0, s.1, a.clock, a.t, a.lt, a.within, a.hash, a.nonces, a.n)
 
-  pub turned_away : (r : Refusal) → first (lent_part place held clock t lt within hash nonces n) ≡ R.number_of r → Admits q table (Err r)
-  turned_away r f = record { is = sym (lent ∙ f); next = tt }
+  module _ (session : P.Option Session) (s : StandsAt q table session) where
+    pub turned_away : (refusal : Refusal) → first (lent_part session clock r within nonces) ≡ R.number_of refusal → Admits q table (Err refusal)
+    turned_away refusal f = record { is = sym (lent session s ∙ f); next = tt }
 
-  pub let_through : first (lent_part place held clock t lt within hash nonces n) ≡ 0 → nonces ≡ false → Admits q table (Ok P.None)
-  let_through f unordered = record { is = sym (lent ∙ f); next = rw (a.nonces, unordered) refl }
+    pub let_through : first (lent_part session clock r within nonces) ≡ 0 → nonces ≡ false → Admits q table (Ok P.None)
+    let_through f unordered = record { is = sym (lent session s ∙ f); next = rw (a.nonces, unordered) refl }
 
-  -- its record with the window after the nonce
-  pub stored : first (lent_part place held clock t lt within hash nonces n) ≡ 0 → nowhere place ≡ false → nonces ≡ true → (w : Window) → w ≡ window_of held
-      → (answer : Stepped) → answer ≡ step_of w n → (next : Record) → next ≡ with_window held answer.window → Admits q table (Ok (P.Some next))
-  unfolding next_of stepped
-  stored f there ordered w window answer step next is = record {
-    is = sym (lent ∙ f);
-    next = simp (a.nonces, ordered, s.at, s.holds there, a.n, is, step, window);
-  }
+    -- its record with the window after the nonce
+    pub stored : (own : Session) → session ≡ P.Some own → first (lent_part session clock r within nonces) ≡ 0 → nonces ≡ true
+        → (w : Window) → w ≡ window_of own.record → (answer : Stepped) → answer ≡ step_of w r.n.0
+        → (next : Record) → next ≡ with_window own.record answer.window → Admits q table (Ok (P.Some next))
+    unfolding next_of stepped
+    stored own there f ordered w window answer step next is =
+        let stands : StandsAt q table (P.Some own) = rw there at s in
+        record { is = sym (lent session s ∙ f); next = simp (a.nonces, ordered, stands.0, stands.1, a.n, is, step, window) }
+
+place_at : (q : Request) (table : List ℕ) (session : P.Option Session) → StandsAt q table session
+    → (place : P.Option ℕ) → P.MatchOption session (place ≡ P.None) (λ s. place ≡ P.Some s.place) → place ≡ place_of table (iv_of q)
+place_at q table P.None s place e = e ∙ sym s
+place_at q table (P.Some session) s place e = e ∙ sym s.0
 
 -- what becomes of a request that was vouched for by this answer, by what its session answers where it was
-pub settled : (q : Request) (table : List ℕ) (place : P.Option ℕ) (held : Record) → StandsAt q table place held → (token : Held) → IsToken (token_of q) token
+pub settled : (q : Request) (table : List ℕ) (session : P.Option Session) → StandsAt q table session
+    → (place : P.Option ℕ) → P.MatchOption session (place ≡ P.None) (λ s. place ≡ P.Some s.place) → (token : Held) → IsToken (token_of q) token
     → (hash : Hash) → hash_of q ≡ hash → (vouched : Result Unit Refusal) → number_in vouched ≡ first (vouching_part q)
     → (outcome : Result (P.Option Record) Refusal) → P.MatchResult vouched (λ v. Admits q table outcome) (λ r. outcome ≡ Err r)
     → Settles q table (record { place = place; token = token; hash = hash; outcome = outcome })
-settled q table place held s token about hash named (Ok v) is outcome told = record {
+settled q table session s place at token about hash named (Ok v) is outcome told = record {
   is = told.is ∙ sym (passed_by (vouching_part q) (admitting_part q table) (vouching_numbered q) (sym is));
   knows = record { token = about; hash = sym named };
-  at = sym s.at;
+  at = place_at q table session s place at;
   next = told.next;
 }
-settled q table place held s token about hash named (Err r) is outcome told = rw told (record {
+settled q table session s place at token about hash named (Err r) is outcome told = rw told (record {
   is = is ∙ sym (stopped_by (vouching_part q) (admitting_part q table) (vouching_numbered q) (λ z. let some : 1 ≤ R.number_of r = some_number r in omega (arith, is)));
   knows = record { token = about; hash = sym named };
-  at = sym s.at;
+  at = place_at q table session s place at;
   next = tt;
 })

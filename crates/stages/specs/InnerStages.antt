@@ -4,13 +4,13 @@
 use Rattle.std.specs.Prelude.{◌≡◌, Bool, false, not, cond, ◌||◌, List, [], ◌∷◌, ◌++◌, Option, Some, None, Result, Ok, IfOk, ℕ, ◌≤◌, eqb, take}
 use Rattle.cells.specs.Runs.{same}
 use Rattle.hashes.specs.declared.Hash.{Hash}
+use Rattle.hashes.specs.Hashes.{named}
 use Rattle.armor.specs.Value.{carried}
 use Rattle.armor.specs.InnerAnswers.{Holds, Lies}
 use Rattle.armor.specs.declared.Request.{Request as ArmorRequest}
 use Rattle.names.specs.Covered.{covered_names}
 use Rattle.lines.specs.InnerNotes.{NotesOn}
-use Rattle.orders.specs.Orders.{Orders, orders}
-use Rattle.orders.specs.declared.Numbers.{Numbers}
+use Rattle.orders.specs.Orders.{Orders}
 use Rattle.orders.specs.declared.Limits.{Limits}
 use Rattle.token.specs.Token.{Token, has_token}
 use Rattle.token.specs.InnerHeld.{IsToken}
@@ -19,9 +19,10 @@ use Rattle.table.specs.declared.session.Record.{Record}
 use Rattle.stages.specs.declared.reading.Reading.{Reading}
 use Rattle.stages.specs.declared.refusal.Refusal.{Refusal}
 use Rattle.stages.specs.declared.settling.Decision.{Decision}
+use Rattle.stages.specs.declared.admitting.Session.{Session}
 use Rattle.stages.specs.Refusals.{number_in}
 use Rattle.stages.specs.Request.{Request, request_of}
-use Rattle.stages.specs.Checks.{Check, check, first, nowhere}
+use Rattle.stages.specs.Checks.{Check, check, first}
 use Rattle.table.specs.Session.{place_of, held_at}
 use Rattle.stages.specs.Parts.{iv_of, hash_of, nonce_of, time_of, last_time_of, signature_of, opened_of, code_under, token_of, limits, ordered, next_of, covering_part, reading_part, vouching_part, admitting_part, invalidates}
 
@@ -92,24 +93,24 @@ pub record Admits (q : Request) (table : List ℕ) (r : Result (Option Record) R
   pub is : number_in r ≡ first (admitting_part q table)
   pub next : IfOk r (λ next. next ≡ stored_of q table)
 
--- a request's session stands at this place of a table, or nowhere, and its record holds this
-pub record StandsAt (q : Request) (table : List ℕ) (place : Option ℕ) (held : Record) : Type 0 where
-  pub at : place_of table (iv_of q) ≡ place
-  pub holds : nowhere place ≡ false → held_at table place ≡ held
+-- a request's session stands at this place of a table and its record holds this, or it stands nowhere
+abbrev pub StandsAt : Request → List ℕ → Option Session → Type 0
+StandsAt q table (Some s) = (place_of table (iv_of q) ≡ Some s.place) × (held_at table (Some s.place) ≡ s.record)
+StandsAt q table None = place_of table (iv_of q) ≡ None
 
 -- what admitting is asked, of any request that asks it
-pub record Asks (q : Request) (now' t' lt' : ℕ) (limits' : Limits) (hash' : Hash) (nonces' : Bool) (n' : ℕ) : Type 0 where
+pub record Asks (q : Request) (now' : ℕ) (request' : ArmorRequest) (limits' : Limits) (nonces' : Bool) : Type 0 where
   pub clock : q.clock ≡ now'
-  pub t : time_of q ≡ t'
-  pub lt : last_time_of q ≡ lt'
+  pub t : time_of q ≡ request'.t.0
+  pub lt : last_time_of q ≡ request'.lt.0
   pub within : limits q ≡ limits'
-  pub hash : hash_of q ≡ hash'
+  pub hash : hash_of q ≡ named request'.h
   pub nonces : ordered q ≡ nonces'
-  pub n : nonce_of q ≡ n'
+  pub n : nonce_of q ≡ request'.n.0
 
-abbrev pub AdmitIs : Option ℕ → Record → ℕ → ℕ → ℕ → Limits → Hash → Bool → ℕ → Result (Option Record) Refusal → Type 0
-AdmitIs place held clock t lt within hash nonces n r =
-    (q : Request) (table : List ℕ) → StandsAt q table place held → Asks q clock t lt within hash nonces n → Admits q table r
+abbrev pub AdmitIs : Option Session → ℕ → ArmorRequest → Limits → Bool → Result (Option Record) Refusal → Type 0
+AdmitIs session clock request within nonces r =
+    (q : Request) (table : List ℕ) → StandsAt q table session → Asks q clock request within nonces → Admits q table r
 
 -- a number whose effect needs the session: 0, 10 and 13
 abbrev pub tells : ℕ → Bool
@@ -127,10 +128,10 @@ pub record Settles (q : Request) (table : List ℕ) (d : Decision) : Type 0 wher
   pub at : d.place ≡ place_of table (iv_of q)
   pub next : IfOk d.outcome (λ next. next ≡ stored_of q table)
 
--- of any request that was vouched for by this answer and has this token
-abbrev pub SettleIs : Numbers → ℕ → Result Unit Refusal → Held → ArmorRequest → Limits → Option ℕ → Record → Decision → Type 0
-SettleIs numbers clock vouched token request within place held d =
-    (extra server_key value method head aside path body reply table : List ℕ)
-    → let q = request_of (orders numbers extra) clock server_key value method head aside path body reply in
+-- of any request that was vouched for by this answer and has this token, under any orders that order nonces or not, as this says
+abbrev pub SettleIs : Bool → ℕ → Result Unit Refusal → Held → ArmorRequest → Limits → Option Session → Decision → Type 0
+SettleIs nonces clock vouched token request within session d =
+    (o : Orders) (server_key value method head aside path body reply table : List ℕ)
+    → let q = request_of o clock server_key value method head aside path body reply in
     Holds value (carried value) request → number_in vouched ≡ first (vouching_part q) → IsToken (token_of q) token
-    → within ≡ limits q → StandsAt q table place held → Settles q table d
+    → within ≡ limits q → nonces ≡ ordered q → StandsAt q table session → Settles q table d

@@ -2,47 +2,51 @@
 ghost use Rattle.stages.specs.InnerStages.{AdmitIs};
 
 use super::refusal::Refusal;
+use armor::Request;
 use hashes::Hash;
 use orders::Limits;
 use table::session::Record;
 use window::time::Time;
-use window::{Nonce, Verdict, time};
+use window::{Verdict, time};
+
+// Where the session stands in the table, and what its record holds.
+#[derive(Clone, Copy)]
+pub struct Session {
+    pub place: usize,
+    pub record: Record,
+}
 
 // Where nonces are ordered, the session's next record.
 pub fn admit(
-    place: Option<usize>,
-    held: &Record,
+    session: Option<Session>,
     clock: Time,
-    t: Time,
-    lt: Time,
+    request: &Request,
     limits: &Limits,
-    hash: Hash,
-    ordered: bool,
-    n: Nonce,
+    nonces: bool,
 ) -> Result<Option<Record>, Refusal>
-    ensures { AdmitIs place held.now clock.0 t.0 lt.0 limits.now hash ordered n.0 result }
+    ensures { AdmitIs session clock.0 request.now limits.now nonces result }
 {
-    if place.is_none() {
+    let Some(session) = session else {
         return Err(Refusal::NoSession);
-    }
-    if u64::from(held.hash) != hash.mask() {
+    };
+    if u64::from(session.record.hash) != Hash::named(request.h).mask() {
         return Err(Refusal::NotAsOrdered);
     }
-    if time::idle(t, lt, limits.idle) {
+    if time::idle(request.t, request.lt, limits.idle) {
         return Err(Refusal::Idle);
     }
-    if time::too_old(clock, t, limits.request_life) {
+    if time::too_old(clock, request.t, limits.request_life) {
         return Err(Refusal::TooOld);
     }
-    if time::too_far_ahead(clock, t) {
+    if time::too_far_ahead(clock, request.t) {
         return Err(Refusal::TooFarAhead);
     }
-    if !ordered {
+    if !nonces {
         return Ok(None);
     }
-    let stepped = held.window().step(n);
+    let stepped = session.record.window().step(request.n);
     match stepped.verdict {
-        Verdict::Accepted => Ok(Some(held.with_window(stepped.window))),
+        Verdict::Accepted => Ok(Some(session.record.with_window(stepped.window))),
         Verdict::TooOld => Err(Refusal::NonceTooLow),
         Verdict::Seen => Err(Refusal::NonceSeen),
     }

@@ -1,11 +1,12 @@
-// What becomes of a request that was read and whose token opened, over the record of its session.
+// What becomes of a request that was read and whose token opened, over its session.
 ghost use Rattle.stages.specs.InnerStages.{SettleIs};
 
 use super::admitting;
+use super::admitting::Session;
 use super::refusal::Refusal;
 use armor::Request;
 use hashes::Hash;
-use orders::{Limits, Numbers};
+use orders::Limits;
 use table::session::Record;
 use token::Token;
 use window::time::Time;
@@ -20,28 +21,20 @@ pub struct Decision {
 }
 
 pub fn settle(
-    numbers: Numbers,
+    nonces: bool,
     clock: Time,
     vouched: Result<(), Refusal>,
     token: &Token,
     request: &Request,
     limits: &Limits,
-    place: Option<usize>,
-    held: &Record,
+    session: Option<Session>,
 ) -> Decision
-    ensures { SettleIs numbers clock.0 vouched token.now request.now limits.now place held.now result }
+    ensures { SettleIs nonces clock.0 vouched token.now request.now limits.now session result }
 {
-    let hash = Hash::named(request.h);
-    let ordered = numbers.mask % 2 == 1;
-    let outcome = vouched.and_then(|()| {
-        admitting::admit(
-            place, held, clock, request.t, request.lt, limits, hash, ordered, request.n,
-        )
-    });
     Decision {
-        place,
+        place: session.map(|s| s.place),
         token: *token,
-        hash,
-        outcome,
+        hash: Hash::named(request.h),
+        outcome: vouched.and_then(|()| admitting::admit(session, clock, request, limits, nonces)),
     }
 }
