@@ -4,7 +4,7 @@ use Rattle.std.proofs.Common.{ℕ, zero, suc, ◌*◌, ◌^◌, ◌<◌, List, a
 use Rattle.cells.specs.Runs.{part}
 use Rattle.hashes.specs.declared.Hash.{Hash}
 use Rattle.hashes.specs.declared.Hash.TheVariants.{Sha256, Sha512}
-use Rattle.sha_2.specs.declared.Words.{Words}
+use Rattle.sha_2.specs.InnerNumbers.{Numbers}
 use Rattle.sha_2.specs.Word.{bits, ◌⊞⟨◌⟩◌}
 use Rattle.sha_2.specs.Constants.{K, initial}
 use Rattle.sha_2.specs.Block.{turns, schedule, rounds, sum_of, after_block}
@@ -15,7 +15,7 @@ sum_fits : (h : Hash) (x y : ℕ) → x ⊞⟨ h ⟩ y < 2 ^ bits h
 sum_fits Sha256 x y = omega arith
 sum_fits Sha512 x y = omega arith
 
-sums_fit : (h : Hash) (v x : Words) → Fit h (sum_of h v x)
+sums_fit : (h : Hash) (v x : Numbers) → Fit h (sum_of h v x)
 unfolding sum_of
 sums_fit h v x =
     record {

@@ -3,6 +3,8 @@ pub mod ChMaj
 pub mod Rotations
 pub mod Schedule
 pub mod Rounds
+pub mod Blocks
+pub mod Constants
 pub mod Fitting
 pub mod Output
 pub mod Streaming

@@ -7,7 +7,7 @@ use Rattle.cells.proofs.Numbers.{bytes_bytes_of, bytes_joined}
 use Rattle.hashes.specs.declared.Hash.{Hash}
 use Rattle.hashes.specs.declared.Hash.TheVariants.{Sha256, Sha512}
 use Rattle.hashes.specs.Hashes.{digest_size}
-use Rattle.sha_2.specs.declared.Words.{Words}
+use Rattle.sha_2.specs.InnerNumbers.{Numbers}
 use Rattle.sha_2.specs.Word.{width}
 use Rattle.sha_2.specs.Constants.{initial}
 use Rattle.sha_2.specs.Hash.{block_size, padded, after_blocks, digest, sha2}
@@ -16,7 +16,7 @@ use Rattle.sha_2.specs.Hash.{block_size, padded, after_blocks, digest, sha2}
 abbrev put : Hash → ℕ → ℕ → List ℕ → List ℕ
 put h i w o = spliced o (width h * i) (bytes_of (width h) w)
 
-side_by_side : (h : Hash) (v : Words)
+side_by_side : (h : Hash) (v : Numbers)
     → take (digest_size h)
     (put h 7 v.h (put h 6 v.g (put h 5 v.f (put h 4 v.e (put h 3 v.d (put h 2 v.c (put h 1 v.b (put h 0 v.a (replicate 64 0)))))))))
     ≡ digest h v
@@ -24,7 +24,7 @@ unfolding spliced bytes_of digest
 side_by_side Sha256 v = refl
 side_by_side Sha512 v = refl
 
-pub laid_out_lem : (h : Hash) (v : Words) {o1 o2 o3 o4 o5 o6 o7 o8 : List ℕ}
+pub laid_out_lem : (h : Hash) (v : Numbers) {o1 o2 o3 o4 o5 o6 o7 o8 : List ℕ}
     → o1 ≡ put h 0 v.a (replicate 64 0)
     → o2 ≡ put h 1 v.b o1
     → o3 ≡ put h 2 v.c o2
@@ -58,7 +58,7 @@ unfolding words
 bytes_words n [] = λ i. omega arith
 bytes_words n (w ∷ ws) = bytes_joined (bytes_of n w) (words n ws) (bytes_bytes_of n w) (bytes_words n ws)
 
-bytes_digest : (h : Hash) (v : Words) → Bytes (digest h v)
+bytes_digest : (h : Hash) (v : Numbers) → Bytes (digest h v)
 unfolding digest words bytes_of
 bytes_digest Sha256 v = bytes_words 4 (v.a ∷ v.b ∷ v.c ∷ v.d ∷ v.e ∷ v.f ∷ v.g ∷ v.h ∷ [])
 bytes_digest Sha512 v = bytes_words 8 (v.a ∷ v.b ∷ v.c ∷ v.d ∷ v.e ∷ v.f ∷ v.g ∷ v.h ∷ [])

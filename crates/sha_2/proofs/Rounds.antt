@@ -2,19 +2,30 @@
 -- Assumes nothing.
 use Rattle.std.proofs.Common.{◌≡◌, ℕ, suc, ◌+◌, ◌-◌, ◌%◌, ◌<◌, ◌≤◌, ◌⊎◌, List, length, get_or, set, sym, refl, ap, ◌∙◌, inl, inr, eq-or-lt_of_le, add-one, arith, length-set, get_or-set_other, get_or-set_same}
 use Rattle.hashes.specs.declared.Hash.{Hash}
-use Rattle.sha_2.specs.declared.Words.{Words}
+use Rattle.hashes.specs.declared.Hash.TheVariants.{Sha256, Sha512}
+use Rattle.sha_2.specs.InnerNumbers.{Numbers}
 use Rattle.sha_2.specs.Constants.{K}
 use Rattle.sha_2.specs.Block.{turns, M, mix, mixed, schedule, round_of, rounds, sum_of, after_block}
 use Rattle.sha_2.specs.InnerTurned.{Turned}
 use Rattle.sha_2.proofs.Schedule.{own_word, mixed_word}
 
+-- both hashes have 64 rounds
+pub early : (h : Hash) {t : ℕ} → t < 64 → t < turns h
+early Sha256 below = below
+early Sha512 below = omega arith
+
+-- and one has no more
+pub few : (h : Hash) → (turns h ≡ 80 → ⊥) → 64 ≡ turns h
+few Sha256 more = refl
+few Sha512 more = absurd (more refl)
+
 -- no round yet
-pub none_turned : (h : Hash) (block : List ℕ) (v : Words) (w : List ℕ) → length w ≡ 16 → Turned h block v 0 v w
+pub none_turned : (h : Hash) (block : List ℕ) (v : Numbers) (w : List ℕ) → length w ≡ 16 → Turned h block v 0 v w
 unfolding rounds
 none_turned h block v w long = record { long = long; words = λ i below within. absurd (omega arith); variables = refl }
 
 -- round t, with its constant k and a word x that takes its place in the array
-module _ (h : Hash) (block : List ℕ) (v0 : Words) (t : ℕ) (v r : Words) (w : List ℕ) (k x : ℕ) (before : Turned h block v0 t v w) (constant : k ≡ get_or (K h) t 0)
+module _ (h : Hash) (block : List ℕ) (v0 : Numbers) (t : ℕ) (v r : Numbers) (w : List ℕ) (k x : ℕ) (before : Turned h block v0 t v w) (constant : k ≡ get_or (K h) t 0)
     (rounded : r ≡ round_of h v k x) (within : t < turns h) where
   turned : x ≡ get_or (schedule h block (turns h)) t 0 → Turned h block v0 (t + 1) r (set w (t % 16) x)
   unfolding rounds
@@ -49,6 +60,6 @@ module _ (h : Hash) (block : List ℕ) (v0 : Words) (t : ℕ) (v r : Words) (w :
       turned (is ∙ same ∙ sym (mixed_word h block (turns h) t within later))
 
 -- the last round, and the sums
-pub all_turned : (h : Hash) (block : List ℕ) (v x r : Words) (w : List ℕ) → Turned h block v (turns h) x w → r ≡ sum_of h v x → r ≡ after_block h v block
+pub all_turned : (h : Hash) (block : List ℕ) (v : Numbers) {x r : Numbers} {w : List ℕ} {t : ℕ} → t ≡ turns h → Turned h block v t x w → r ≡ sum_of h v x → r ≡ after_block h v block
 unfolding after_block
-all_turned h block v x r w through summed = summed ∙ ap (sum_of h v) through.variables
+all_turned h block v e through summed = summed ∙ ap (sum_of h v) (rw e at through.variables)

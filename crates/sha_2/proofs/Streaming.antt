@@ -6,7 +6,7 @@ use Rattle.cells.specs.Runs.{spliced, part}
 use Rattle.cells.proofs.Runs.{front_spliced}
 use Rattle.hashes.specs.declared.Hash.{Hash}
 use Rattle.hashes.specs.declared.Hash.TheVariants.{Sha256, Sha512}
-use Rattle.sha_2.specs.declared.Words.{Words}
+use Rattle.sha_2.specs.InnerNumbers.{Numbers}
 use Rattle.sha_2.specs.declared.State.{State}
 use Rattle.sha_2.specs.Constants.{initial}
 use Rattle.sha_2.specs.Block.{after_block}
@@ -36,7 +36,7 @@ over Sha256 n k = omega arith
 over Sha512 n k = omega arith
 
 -- bytes after n whole blocks do not change what those give
-pub blocks_before : (h : Hash) (v : Words) (m rest : List ℕ) (n : ℕ) → block_size h * n ≤ length m
+pub blocks_before : (h : Hash) (v : Numbers) (m rest : List ℕ) (n : ℕ) → block_size h * n ≤ length m
     → after_blocks h v (m ++ rest) n ≡ after_blocks h v m n
 unfolding after_blocks
 blocks_before h v m rest zero fits = refl
@@ -47,7 +47,7 @@ blocks_before h v m rest (suc n) fits =
     ∙ take-append-le (block_size h) (drop (block_size h * n) m) rest (simp length-drop (omega arith)))
 
 -- blocks may be taken in two runs
-pub blocks_split : (h : Hash) (v : Words) (m : List ℕ) (n k : ℕ)
+pub blocks_split : (h : Hash) (v : Numbers) (m : List ℕ) (n k : ℕ)
     → after_blocks h v m (n + k) ≡ after_blocks h (after_blocks h v m n) (drop (block_size h * n) m) k
 unfolding after_blocks
 blocks_split h v m n zero = ap (after_blocks h v m) (add-zero n)
@@ -57,7 +57,7 @@ blocks_split h v m n (suc k) =
     (ap (λ (x : ℕ). part m x (block_size h)) (sym (over h n k)) ∙ ap (take (block_size h)) (sym (drop-drop (block_size h * k) (block_size h * n) m)))
 
 -- the hash value after a first block depends on that block alone
-first_block : (h : Hash) (v : Words) (m k : List ℕ) → take (block_size h) m ≡ take (block_size h) k → after_blocks h v m 1 ≡ after_blocks h v k 1
+first_block : (h : Hash) (v : Numbers) (m k : List ℕ) → take (block_size h) m ≡ take (block_size h) k → after_blocks h v m 1 ≡ after_blocks h v k 1
 unfolding after_blocks
 first_block h v m k same = ap (after_block h v) (rw mul-zero same)
 
@@ -111,7 +111,7 @@ took_in s r part k ek eh el ev et =
           counted = omega arith;
           hashed =
               ev fit
-              ∙ ap₂ (λ (v : Words) (l : List ℕ). after_blocks h v l k) (p.hashed ∙ sym (blocks_before h (initial h) m part q numbers.whole)) (sym rest)
+              ∙ ap₂ (λ (v : Numbers) (l : List ℕ). after_blocks h v l k) (p.hashed ∙ sym (blocks_before h (initial h) m part q numbers.whole)) (sym rest)
               ∙ sym (blocks_split h (initial h) all q k)
               ∙ ap (after_blocks h (initial h) all) (sym more);
           kept =
@@ -120,7 +120,7 @@ took_in s r part k ek eh el ev et =
         }
 
 -- the hash value after whole blocks that l begins with: the one that was begun, and what was pending
-pub closed_by : (h : Hash) (s : State) (part m l : List ℕ) (v : Words) (k : ℕ) → block_size s.hash * k ≡ s.length % block_size s.hash + length part
+pub closed_by : (h : Hash) (s : State) (part m l : List ℕ) (v : Numbers) (k : ℕ) → block_size s.hash * k ≡ s.length % block_size s.hash + length part
     → length s.tail ≡ 128
     → take (block_size s.hash * k) l ≡ pending s part
     → (Fit s.hash s.value → v ≡ after_blocks s.hash s.value l k)

@@ -5,7 +5,7 @@ use Rattle.cells.specs.Numbers.{number}
 use Rattle.cells.specs.Runs.{part}
 use Rattle.hashes.specs.declared.Hash.{Hash}
 use Rattle.hashes.specs.declared.Hash.TheVariants.{Sha256, Sha512}
-use Rattle.sha_2.specs.declared.Words.{Words}
+use Rattle.sha_2.specs.InnerNumbers.{Numbers}
 use Rattle.sha_2.specs.Word.{width, ◌⊞⟨◌⟩◌, Ch, Maj, Σ0, Σ1, σ0, σ1}
 use Rattle.sha_2.specs.Constants.{K}
 
@@ -36,23 +36,23 @@ schedule h block zero = []
 schedule h block (suc t) = schedule h block t ++ (pick (nat_lt t 16) (M h block t) (mixed h (schedule h block t) t) ∷ [])
 
 -- step 3: one round, with K t and W t
-unfoldable pub T1 : Hash → Words → ℕ → ℕ → ℕ
+unfoldable pub T1 : Hash → Numbers → ℕ → ℕ → ℕ
 T1 h v k w = v.h ⊞⟨ h ⟩ Σ1 h v.e ⊞⟨ h ⟩ Ch h v.e v.f v.g ⊞⟨ h ⟩ k ⊞⟨ h ⟩ w
 
-unfoldable pub T2 : Hash → Words → ℕ
+unfoldable pub T2 : Hash → Numbers → ℕ
 T2 h v = Σ0 h v.a ⊞⟨ h ⟩ Maj v.a v.b v.c
 
-unfoldable pub round_of : Hash → Words → ℕ → ℕ → Words
+unfoldable pub round_of : Hash → Numbers → ℕ → ℕ → Numbers
 round_of h v k w =
     record { a = T1 h v k w ⊞⟨ h ⟩ T2 h v; b = v.a; c = v.b; d = v.c; e = v.d ⊞⟨ h ⟩ T1 h v k w; f = v.e; g = v.f; h = v.g }
 
 -- the rounds 0 to t - 1
-unfoldable pub rounds : Hash → List ℕ → List ℕ → Words → ℕ → Words
+unfoldable pub rounds : Hash → List ℕ → List ℕ → Numbers → ℕ → Numbers
 rounds h ks ws v zero = v
 rounds h ks ws v (suc t) = round_of h (rounds h ks ws v t) (slice_index ks t) (slice_index ws t)
 
 -- step 4: the working variables added to the hash value
-unfoldable pub sum_of : Hash → Words → Words → Words
+unfoldable pub sum_of : Hash → Numbers → Numbers → Numbers
 sum_of h v x =
     record {
       a = v.a ⊞⟨ h ⟩ x.a;
@@ -66,5 +66,5 @@ sum_of h v x =
     }
 
 -- the hash value v after a block
-unfoldable pub after_block : Hash → Words → List ℕ → Words
+unfoldable pub after_block : Hash → Numbers → List ℕ → Numbers
 after_block h v block = sum_of h v (rounds h (K h) (schedule h block (turns h)) v (turns h))

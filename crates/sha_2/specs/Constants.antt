@@ -3,7 +3,7 @@
 use Rattle.std.specs.Prelude.{ℕ, List, [], ◌∷◌}
 use Rattle.hashes.specs.declared.Hash.{Hash}
 use Rattle.hashes.specs.declared.Hash.TheVariants.{Sha256, Sha512}
-use Rattle.sha_2.specs.declared.Words.{Words}
+use Rattle.sha_2.specs.InnerNumbers.{Numbers}
 
 -- 4.2.2: the first 32 bits of the fractional parts of the cube roots of the first sixty-four primes; 4.2.3: the first 64 bits, for eighty
 unfoldable pub K : Hash → List ℕ
@@ -39,7 +39,7 @@ K Sha512 =
     0x4cc5d4becb3e42b6 ∷ 0x597f299cfc657e2a ∷ 0x5fcb6fab3ad6faec ∷ 0x6c44198c4a475817 ∷ []
 
 -- 5.3.3 and 5.3.5: the initial hash value
-unfoldable pub initial : Hash → Words
+unfoldable pub initial : Hash → Numbers
 initial Sha256 =
     record {
       a = 0x6a09e667;

@@ -5,7 +5,7 @@ use Rattle.cells.specs.Numbers.{bytes_of}
 use Rattle.cells.specs.Runs.{part}
 use Rattle.hashes.specs.declared.Hash.{Hash}
 use Rattle.hashes.specs.declared.Hash.TheVariants.{Sha256, Sha512}
-use Rattle.sha_2.specs.declared.Words.{Words}
+use Rattle.sha_2.specs.InnerNumbers.{Numbers}
 use Rattle.sha_2.specs.Word.{width}
 use Rattle.sha_2.specs.Constants.{initial}
 use Rattle.sha_2.specs.Block.{after_block}
@@ -28,12 +28,12 @@ abbrev pub padded : Hash → List ℕ → List ℕ
 padded h m = m ++ padding h (length m)
 
 -- 5.2, 6.2.2 and 6.4.2: the hash value v after the first n blocks of m
-unfoldable pub after_blocks : Hash → Words → List ℕ → ℕ → Words
+unfoldable pub after_blocks : Hash → Numbers → List ℕ → ℕ → Numbers
 after_blocks h v m zero = v
 after_blocks h v m (suc n) = after_block h (after_blocks h v m n) (part m (block_size h * n) (block_size h))
 
 -- the hash value as bytes
-unfoldable pub digest : Hash → Words → List ℕ
+unfoldable pub digest : Hash → Numbers → List ℕ
 digest h v =
     bytes_of (width h) v.a ++ bytes_of (width h) v.b ++ bytes_of (width h) v.c ++ bytes_of (width h) v.d
     ++ bytes_of (width h) v.e

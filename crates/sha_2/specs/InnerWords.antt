@@ -2,15 +2,11 @@
 -- Assumes nothing.
 use Rattle.std.specs.Prelude.{◌^◌, ◌<◌}
 use Rattle.hashes.specs.declared.Hash.{Hash}
-use Rattle.sha_2.specs.declared.Words.{Words}
-use Rattle.sha_2.specs.declared.block256.Narrow.{Narrow}
+use Rattle.sha_2.specs.InnerNumbers.{Numbers}
 use Rattle.sha_2.specs.Word.{bits}
 
-abbrev pub wide : Narrow → Words
-wide v = record { a = v.a; b = v.b; c = v.c; d = v.d; e = v.e; f = v.f; g = v.g; h = v.h }
-
 -- each is a word of the hash
-pub record Fit (hash : Hash) (v : Words) : Type 0 where
+pub record Fit (hash : Hash) (v : Numbers) : Type 0 where
   pub a : v.a < 2 ^ bits hash
   pub b : v.b < 2 ^ bits hash
   pub c : v.c < 2 ^ bits hash

@@ -11,29 +11,17 @@ ghost use Rattle.sha_2.specs.InnerWords.{Fit};
 
 use hashes::Hash;
 
-mod block256;
-mod block512;
-mod word256;
-mod word512;
+mod block;
+mod word;
+mod words;
 
-// Eight words: a hash value, or the working variables. Those of SHA-256 have 32 bits.
-#[derive(Clone, Copy)]
-pub struct Words {
-    pub a: u64,
-    pub b: u64,
-    pub c: u64,
-    pub d: u64,
-    pub e: u64,
-    pub f: u64,
-    pub g: u64,
-    pub h: u64,
-}
+pub use words::Words;
 
 // The hash value after the whole blocks of a message, the bytes after them, and the message's length.
 #[derive(Clone, Copy)]
 pub struct State {
     pub hash: Hash,
-    pub value: Words,
+    pub value: Words<u64>,
     pub tail: [u8; 128],
     pub length: u64,
 }
@@ -79,7 +67,8 @@ fn zeros(hash: Hash, length: u64) -> usize
 }
 
 // 5.3.3 and 5.3.5.
-fn initial(hash: Hash) -> Words
+#[tactic(auto, unfolding(crate::specs::Constants::initial))]
+fn initial(hash: Hash) -> Words<u64>
     ensures { result ≡ initial hash }
 {
     match hash {
@@ -107,23 +96,23 @@ fn initial(hash: Hash) -> Words
 }
 
 // The hash value v after the first n blocks of m.
-fn after_blocks(hash: Hash, v: Words, m: &[u8], n: usize) -> Words
+fn after_blocks(hash: Hash, v: Words<u64>, m: &[u8], n: usize) -> Words<u64>
     requires { block_size hash * n ≤ length m.now }
     ensures { Fit hash v → result ≡ after_blocks hash v m.now n }
 {
     match hash {
-        Hash::Sha256 => block256::after_blocks(v, m, n),
-        Hash::Sha512 => block512::after_blocks(v, m, n),
+        Hash::Sha256 => block::after_blocks::<u32>(v, m, n),
+        Hash::Sha512 => block::after_blocks::<u64>(v, m, n),
     }
 }
 
 // The hash value as bytes, at the front.
-fn digest(hash: Hash, v: Words) -> [u8; 64]
+fn digest(hash: Hash, v: Words<u64>) -> [u8; 64]
     ensures { Fit hash v → take (digest_size hash) result ≡ digest hash v }
 {
     match hash {
-        Hash::Sha256 => block256::digest(v),
-        Hash::Sha512 => block512::digest(v),
+        Hash::Sha256 => block::digest::<u32>(v),
+        Hash::Sha512 => block::digest::<u64>(v),
     }
 }
 

@@ -1,0 +1,17 @@
+use Rattle.std.proofs.Common.{◌≡◌, ℕ, length, refl, ap, ◌∙◌, arith, rules}
+use Rattle.cells.specs.Runs.{spliced}
+use Rattle.sha_2.proofs.Streaming.{counts, took_kept}
+use Rattle.sha_2.proofs.State.keep.Goals as goal
+
+pub put_at-requires : goal.put_at-requires
+put_at-requires c =
+    let self = c.args.self.now in
+    let full : length self.tail ≡ 128 = search rules in
+    omega (arith, c.begun-begun.ensures, c.requires.0, (counts self.hash self.length 0).fits)
+
+pub returns : goal.returns
+returns c =
+    let self = c.args.self.now in
+    let full : length self.tail ≡ 128 = search rules in
+    took_kept self _ c.args.part.now full refl refl c.requires.0 refl
+    (c.put_at.ensures.is ∙ ap (λ (x : ℕ). spliced self.tail x c.args.part.now) c.begun-begun.ensures)

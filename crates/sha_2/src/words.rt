@@ -1,0 +1,12 @@
+// Eight words of a hash: a hash value, or the working variables.
+#[derive(Clone, Copy)]
+pub struct Words<W> {
+    pub a: W,
+    pub b: W,
+    pub c: W,
+    pub d: W,
+    pub e: W,
+    pub f: W,
+    pub g: W,
+    pub h: W,
+}
