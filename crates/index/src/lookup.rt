@@ -1,5 +1,5 @@
 // Finding a session through the index.
-ghost use Rattle.std.specs.Prelude.{◌≡◌, length};
+ghost use Rattle.std.specs.Prelude.{◌≡◌};
 ghost use Rattle.table.specs.Table.{places, records, found, Placed};
 ghost use Rattle.index.specs.Index.{Indexed};
 ghost use Rattle.index.specs.InnerEntries.{Ordered, Ranks};
@@ -9,8 +9,8 @@ use table::place;
 use table::session::SIZE;
 
 // How many entries are of lower IVs than this.
-pub fn rank(table: &[u8], index: &[u8], iv: &[u8]) -> usize
-    requires { (length iv.now ≡ 12) × Ordered (records table.now) index.now }
+pub fn rank(table: &[u8], index: &[u8], iv: &[u8; 12]) -> usize
+    requires { Ordered (records table.now) index.now }
     ensures { Ranks (records table.now) index.now iv.now result }
 {
     let mut low: usize = 0;
@@ -27,8 +27,8 @@ pub fn rank(table: &[u8], index: &[u8], iv: &[u8]) -> usize
 }
 
 // The place of the used record with this IV.
-pub fn find(table: &[u8], index: &[u8], iv: &[u8]) -> Option<usize>
-    requires { (length iv.now ≡ 12) × Indexed table.now index.now }
+pub fn find(table: &[u8], index: &[u8], iv: &[u8; 12]) -> Option<usize>
+    requires { Indexed table.now index.now }
     ensures { Placed (found (records table.now) iv.now) (places table.now) result }
 {
     let n = table.len() / SIZE;

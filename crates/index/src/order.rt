@@ -27,8 +27,7 @@ pub fn is_used(table: &[u8], place: usize) -> bool
 }
 
 // And whether its IV is lower than this.
-pub fn is_low(table: &[u8], place: usize, iv: &[u8]) -> bool
-    requires { length iv.now ≡ 12 }
+pub fn is_low(table: &[u8], place: usize, iv: &[u8; 12]) -> bool
     ensures { result ≡ low_at (records table.now) iv.now place }
 {
     is_used(table, place) && key_at(table, SIZE * place + 1) < key_at(iv, 0)

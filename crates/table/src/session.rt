@@ -103,15 +103,12 @@ pub fn put(table: &mut [u8], place: Option<usize>, record: Record)
 }
 
 // The record of a new session.
-pub fn begin(iv: &[u8], expiry: Time, hash: u8) -> Record
-    requires { length iv.now ≡ 12 }
+pub fn begin(iv: &[u8; 12], expiry: Time, hash: u8) -> Record
     ensures { result ≡ begun iv.now expiry.0 hash }
 {
-    let mut own = [0; 12];
-    own.copy_from_slice(iv);
     Record {
         used: 1,
-        iv: own,
+        iv: *iv,
         expiry,
         hash,
         ..freed()

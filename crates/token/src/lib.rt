@@ -27,8 +27,8 @@ pub struct SealedToken {
 }
 
 // The text of a token at the front of out, and its length.
-fn lay(key: &[u8], id: &[u8], expiry: Time, out: &mut [u8]) -> usize
-    requires { (length key.now ≡ 32) × (1 ≤ length id.now) × (length id.now ≤ 64) × (118 ≤ length out.old) }
+fn lay(key: &[u8; 32], id: &[u8], expiry: Time, out: &mut [u8; 118]) -> usize
+    requires { (1 ≤ length id.now) × (length id.now ≤ 64) }
     ensures { Laid out.old out.new 0 result (token_text (record { key = key.now; id = id.now; expiry = expiry.0 })) }
 {
     let digits = decimal::digits(u64::from(expiry.0));
@@ -38,8 +38,14 @@ fn lay(key: &[u8], id: &[u8], expiry: Time, out: &mut [u8]) -> usize
 }
 
 // The token of a new session, sealed under the server's key and the session's IV.
-pub fn seal(server_key: &[u8], iv: &[u8], key: &[u8], id: &[u8], expiry: Time) -> SealedToken
-    requires { (length server_key.now ≡ 32) × (length iv.now ≡ 12) × (length key.now ≡ 32) × (1 ≤ length id.now) × (length id.now ≤ 64) }
+pub fn seal(
+    server_key: &[u8; 32],
+    iv: &[u8; 12],
+    key: &[u8; 32],
+    id: &[u8],
+    expiry: Time,
+) -> SealedToken
+    requires { (1 ≤ length id.now) × (length id.now ≤ 64) }
     ensures { SealsTo (sealed_token server_key.now iv.now (record { key = key.now; id = id.now; expiry = expiry.0 })) result }
 {
     let mut text = [0; 118];
@@ -82,8 +88,8 @@ fn token_in(text: &[u8]) -> Option<Token>
 }
 
 // The token of s, if its tag is right and it is three netstrings as document 01 has them.
-pub fn unseal(server_key: &[u8], iv: &[u8], s: &[u8], tag: &[u8]) -> Option<Token>
-    requires { (length server_key.now ≡ 32) × (length iv.now ≡ 12) × (length s.now ≤ 118) × (length tag.now ≡ 16) }
+pub fn unseal(server_key: &[u8; 32], iv: &[u8; 12], s: &[u8], tag: &[u8; 16]) -> Option<Token>
+    requires { length s.now ≤ 118 }
     ensures { Unseals (opened_token server_key.now iv.now s.now tag.now) result }
 {
     let mut text = [0; 118];
