@@ -13,25 +13,29 @@ use Rattle.cells.specs.Runs.{Bytes, cut, same}
 use Rattle.cells.proofs.Equality.{same_self, same_not, same_equal}
 use Rattle.base_64.specs.Encoding.{encoded}
 use Rattle.base_64.proofs.Exactly.{encoded_injective}
-use Rattle.armor.specs.declared.Answer.{Answer}
+use Rattle.std.specs.Prelude.{Result, Ok, Err, is_some, IfSome}
+use Rattle.std.specs.Prelude as Prelude
+use Rattle.armor.specs.declared.Unread.{Unread}
+use Rattle.armor.specs.declared.Span.{Span}
 use Rattle.armor.specs.declared.Request.{Request}
 use Rattle.hashes.specs.Hashes.{digest_size, named, allowed_one}
 use Rattle.armor.specs.Numerals.{mask_bytes, mask_of}
 use Rattle.armor.specs.Keys.{key_ah, key_eah}
 use Rattle.armor.specs.Value.{Field, grammar, carried}
 use Rattle.armor.specs.Fields.{contents, times, the, right_times, request_fields}
-use Rattle.armor.specs.InnerAnswers.{request_from, request_answer, Holds}
+use Rattle.armor.specs.InnerAnswers.{request_from, request_answer, Encodes, Holds}
 use Rattle.armor.proofs.Numerals.{mask_of_mask_bytes}
 use Rattle.armor.proofs.Carried.{request_given, request_has, coverage_bytes, carried_bytes}
 use Rattle.coverage.specs.Coverage.{extra_as_ordered, as_ordered}
+use Rattle.coverage.specs.InnerTold.{told}
 
 -- fields that are those of a request come of a value that keeps its grammar
-good_from : (o : Option (List Field)) → request_fields (get_or o []) ≡ true → request_from o ≡ Answer.Good
+good_from : (o : Option (List Field)) → request_fields (get_or o []) ≡ true → request_from o ≡ Ok tt
 unfolding request_fields right_times times contents
 good_from none h = absurd (false≢true h)
-good_from (some fs) h = ap (λ (t : Bool). cond t Answer.Good Answer.Fields) h
+good_from (some fs) h = let picked : Bool → Result Unit Unread = λ t. cond t (Ok tt) (Err Unread.Fields) in ap picked h
 
-request_good : (v : List ℕ) → request_fields (carried v) ≡ true → request_answer v ≡ Answer.Good
+request_good : (v : List ℕ) → request_fields (carried v) ≡ true → request_answer v ≡ Ok tt
 unfolding carried request_answer
 request_good v h = good_from (grammar v) h
 
@@ -58,18 +62,11 @@ none_test n true few e = ne_eqb n 0 (let one : n ≡ 1 = eqb-true n 1 (sym e) in
 none_test n false few e = eq-eqb n 0 (let more : n ≡ 1 → ⊥ = eqb-false n 1 (sym e) in omega arith)
 
 module _ (v : List ℕ) (q : Request) (good : request_fields (carried v) ≡ true) (holds : Holds v (carried v) q) where
-  answer : request_answer v ≡ Answer.Good
+  answer : request_answer v ≡ Ok tt
   answer = request_good v good
 
   coverage_test : (m : ℕ) → m < 2 ^ 64 → same (the key_ah (carried v)) (mask_bytes m) ≡ eqb q.ah m
   coverage_test m fits = mask_test (the key_ah (carried v)) q.ah m (coverage_bytes v answer) holds.coverage fits
-
-  -- what stands where eah's text is
-  extra_test : (b : List ℕ) → Bytes b
-      → same (the key_eah (carried v)) b ≡ same (cut v q.eah_start q.eah_end) (encoded b)
-  extra_test b h =
-      text_test (the key_eah (carried v)) b (carried_bytes v (carried v) key_eah (request_given v answer).0) h
-      ∙ ap (λ (l : List ℕ). same l (encoded b)) (sym holds.extra)
 
   pub ordered : (hashes mask : ℕ) (extra : List ℕ) {allowed covered : Bool} {size : ℕ} → mask < 2 ^ 64
       → allowed ≡ allowed_one hashes q.h → size ≡ digest_size (named q.h) → covered ≡ extra_as_ordered extra (carried v)
@@ -77,12 +74,16 @@ module _ (v : List ℕ) (q : Request) (good : request_fields (carried v) ≡ tru
   unfolding as_ordered
   ordered hashes mask extra fits a s e = rw (a, s, e, holds.hash, holds.signature_size, coverage_test mask fits)
 
-  pub no_extra : (extra : List ℕ) → length extra ≡ 0 → extra_as_ordered extra (carried v) ≡ not q.with_eah
-  no_extra [] e = none_test (times key_eah (carried v)) q.with_eah (request_has v answer).eah holds.with_extra
-  no_extra (b ∷ bs) e = absurd (omega arith)
+  -- what stands where eah's text is
+  by_text : (o : Prelude.Option Span) → is_some o ≡ eqb (times key_eah (carried v)) 1 → IfSome o (λ t. Encodes v (the key_eah (carried v)) t)
+      → (extra : List ℕ) → Bytes extra → told v o extra ≡ extra_as_ordered extra (carried v)
+  by_text Prelude.None e h [] b = sym (none_test (times key_eah (carried v)) false (request_has v answer).eah e)
+  by_text Prelude.None e h (x ∷ xs) b = rw (← e) (ne_eqb (length (x ∷ xs)) 0 (λ z. omega arith))
+  by_text (Prelude.Some t) e h [] b = sym (none_test (times key_eah (carried v)) true (request_has v answer).eah e)
+  by_text (Prelude.Some t) e h (x ∷ xs) b =
+      rw (← e, ne_eqb (length (x ∷ xs)) 0 (λ z. omega arith))
+      (ap (λ (l : List ℕ). same l (encoded (x ∷ xs))) h.text
+      ∙ sym (text_test (the key_eah (carried v)) (x ∷ xs) (carried_bytes v (carried v) key_eah (request_given v answer).0) b))
 
-  pub some_extra : (extra : List ℕ) → Bytes extra → (length extra ≡ 0 → ⊥)
-      → extra_as_ordered extra (carried v)
-      ≡ (q.with_eah && same (cut v q.eah_start q.eah_end) (encoded extra))
-  some_extra [] h more = absurd (more refl)
-  some_extra (b ∷ bs) h more = ap₂ ◌&&◌ (sym holds.with_extra) (extra_test (b ∷ bs) h)
+  pub extra_told : (extra : List ℕ) → Bytes extra → told v q.eah extra ≡ extra_as_ordered extra (carried v)
+  extra_told extra b = by_text q.eah holds.with_extra holds.extra extra b

@@ -21,7 +21,7 @@ pub fn as_ordered(value: &[u8], request: &Request, hashes: u64, mask: u64, extra
     let size = Hash::named(request.h).size();
     let hash_good = hashes::allowed_one(hashes, request.h) & (request.c_len == size);
     let mask_good = request.ah == mask;
-    hash_good & mask_good & extra_good(value, request.eah, extra)
+    hash_good & (mask_good & extra_good(value, request.eah, extra))
 }
 
 // Whether the text of eah, where it is carried, is that of the extra names, and it is carried exactly if there are any.
