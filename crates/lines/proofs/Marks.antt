@@ -38,8 +38,8 @@ pub data Noting (block name : List ℕ) (at note : ℕ) : Type 0 where
   one : (place : ℕ) → First block name place → note ≡ place + 1 → from block name 0 ≡ front_at block place ∷ from block name at → Noting block name at note
   more : (place : ℕ) → First block name place → note ≡ place + 32769 → 1 < length (from block name 0) → Noting block name at note
 
-pub noting_start : {block name notes : List ℕ} {i : ℕ} → notes ≡ replicate 64 0 → i < 64 → Noting block name 0 (get_or notes i 0)
-noting_start {i} empty h = rw (empty, get_or-replicate {A = ℕ} 64 i 0 0 h) (none refl refl)
+pub noting_start : {block name : List ℕ} {i : ℕ} → i < 64 → Noting block name 0 (get_or (replicate 64 0) i 0)
+noting_start {i} h = rw (get_or-replicate {A = ℕ} 64 i 0 0 h) (none refl refl)
 
 found : {block name : List ℕ} {place note : ℕ} → First block name place → note % 32768 ≡ place + 1
     → leb 32768 note ≡ ltb 1 (length (from block name 0)) → NoteIs block name note

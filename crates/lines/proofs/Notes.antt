@@ -10,14 +10,10 @@ use lib.Dec.{eqb, leb, ltb}
 use lib.ListN.{length, get_or, take, drop, get_or-eq_default}
 use lib.Seq.{length-take-le, get_or-take}
 use Rattle.cells.specs.Runs.{cut}
-use Rattle.names.specs.Extra.{good_extra}
-use Rattle.names.specs.Covered.{covered_names}
-use Rattle.names.proofs.Sizes.{names_few}
-use Rattle.lines.specs.declared.noting.Noted.{Noted}
 use Rattle.lines.specs.Lines.{lines_in}
 use Rattle.lines.specs.Values.{values_in, repeated, joined, or_else, covered_value}
 use Rattle.lines.specs.InnerPlaces.{Stands, front_at}
-use Rattle.lines.specs.InnerNotes.{place_of, NoteIs, Notes, NotesOn, note_value, value_by, values_by, Placed, NotedOf}
+use Rattle.lines.specs.InnerNotes.{place_of, NoteIs, Notes, NotesOn, note_value, value_by, values_by, Placed}
 use Rattle.lines.proofs.Joined.{joined_one, own_more}
 
 -- joined values of which there is one
@@ -85,20 +81,15 @@ noted_front : (block : List ℕ) (ns : List (List ℕ)) (notes : List ℕ) → N
 noted_front block ns notes h i l = rw (get_or-take (length ns) notes i 0 l) (h i l)
 
 -- the notes that a look at both blocks leaves, where they are lines
-pub notes_on : (mask : ℕ) (extra head aside in_head in_aside : List ℕ) (n : Noted) → good_extra extra ≡ true → 64 ≤ length in_head → 64 ≤ length in_aside
-    → NotedOf (covered_names mask extra) head aside in_head in_aside n
-    → (n.covered ≤ 64) × NotesOn (covered_names mask extra) head aside (take n.covered in_head) (take n.covered in_aside)
-notes_on mask extra head aside in_head in_aside n good long long_aside is =
-    let names = covered_names mask extra in
-    let few = names_few mask extra good in (
-      omega (arith, is.covered, few),
-      rw is.covered (record {
-        long_head = length-take-le (length names) in_head (omega arith);
-        long_aside = length-take-le (length names) in_aside (omega arith);
-        of_head = noted_front head names in_head is.of_head;
-        of_aside = noted_front aside names in_aside is.of_aside;
-      }),
-    )
+pub notes_of : {ns : List (List ℕ)} {head aside : List ℕ} {count : ℕ} (in_head in_aside : List ℕ) → count ≡ length ns → length ns ≤ 64 → length in_head ≡ 64
+    → length in_aside ≡ 64 → Notes head ns in_head → Notes aside ns in_aside → NotesOn ns head aside (take count in_head) (take count in_aside)
+notes_of {ns} {head} {aside} in_head in_aside many few long long_aside of_head of_aside =
+    rw many (record {
+      long_head = length-take-le (length ns) in_head (omega arith);
+      long_aside = length-take-le (length ns) in_aside (omega arith);
+      of_head = noted_front head ns in_head of_head;
+      of_aside = noted_front aside ns in_aside of_aside;
+    })
 
 -- without lines no name stands twice
 pub unrepeated : (names : List (List ℕ)) → repeated names [] ≡ false

@@ -1,13 +1,15 @@
 -- Notes on a block: where each covered name stands, and whether on several lines: how the code's contracts say it. A note is 0 where no line bears
 -- the name; otherwise 1 more than where the first that does starts, and 32768 more if others do too.
 -- Assumes nothing.
-use Rattle.std.specs.Prelude.{ℕ, ◌+◌, ◌-◌, ◌%◌, ◌≤◌, ◌<◌, ◌≡◌, List, [], ◌∷◌, Bool, true, false, cond, ◌&&◌, ◌||◌, length, get_or, set, replicate, eqb, leb, ltb, Option, None, Some}
+use Rattle.std.specs.Prelude.{ℕ, ◌+◌, ◌-◌, ◌%◌, ◌≤◌, ◌<◌, ◌≡◌, List, [], ◌∷◌, Bool, true, false, cond, ◌&&◌, ◌||◌, length, get_or, set, take, eqb, leb, ltb, Option, None, Some, Result, Ok, Err}
 use Rattle.names.specs.Names.{same_name}
 use Rattle.names.specs.InnerSheet.{Sheet}
 use Rattle.lines.specs.Lines.{lines_in, good_block}
 use Rattle.lines.specs.Values.{values_in, repeated, joined}
 use Rattle.lines.specs.InnerPlaces.{Stands, front_at, own_at}
-use Rattle.lines.specs.declared.noting.Noted.{Noted}
+use Rattle.lines.specs.declared.remarks.Notes as Declared
+use Rattle.lines.specs.declared.noting.Unnoted.{Unnoted}
+use Rattle.lines.specs.declared.noting.Unnoted.TheVariants.{NotLines, Twice}
 
 abbrev pub place_of : ℕ → ℕ
 place_of note = note % 32768 - 1
@@ -72,11 +74,10 @@ marked_in notes None at = notes
 abbrev pub Apart : List (List ℕ) → Type 0
 Apart ns = (i j : ℕ) → i < length ns → j < length ns → (i ≡ j → ⊥) → same_name (get_or ns i []) (get_or ns j []) ≡ false
 
--- whether a block is lines, and then what notes are left where there were none
-abbrev pub NotesTaken : List ℕ → List ℕ → List ℕ → List ℕ → List ℕ → List ℕ → Bool → Type 0
-NotesTaken known extra sheet block notes after r =
-    (r ≡ good_block block)
-    × ((ns : List (List ℕ)) → Sheet known extra sheet ns → Apart ns → notes ≡ replicate 64 0 → r ≡ true → Notes block ns after)
+-- whether a block is lines, and then the notes on it
+abbrev pub NotesTaken : List ℕ → List ℕ → List ℕ → List ℕ → List ℕ → Bool → Type 0
+NotesTaken known extra sheet block notes r =
+    (r ≡ good_block block) × ((ns : List (List ℕ)) → Sheet known extra sheet ns → Apart ns → r ≡ true → Notes block ns notes)
 
 -- count names stand on a sheet
 pub record Counted (known extra sheet : List ℕ) (count : ℕ) : Type 0 where
@@ -89,15 +90,17 @@ abbrev pub RepeatsIs : List ℕ → List ℕ → List ℕ → List ℕ → ℕ �
 RepeatsIs known extra sheet notes count r =
     (ns : List (List ℕ)) (block : List ℕ) → Sheet known extra sheet ns → length ns ≡ count → Notes block ns notes → r ≡ repeated ns (lines_in block)
 
--- what is noted of both blocks, which are lines
-pub record NotedOf (ns : List (List ℕ)) (head aside in_head in_aside : List ℕ) (r : Noted) : Type 0 where
-  pub good : (good_block head && good_block aside) ≡ true
-  pub covered : r.covered ≡ length ns
-  pub twice : r.twice ≡ (repeated ns (lines_in head) || repeated ns (lines_in aside))
-  pub of_head : Notes head ns in_head
-  pub of_aside : Notes aside ns in_aside
+-- the notes on names in both blocks
+abbrev pub NotesOf : List (List ℕ) → List ℕ → List ℕ → Declared.Notes → Type 0
+NotesOf ns head aside notes = NotesOn ns head aside (take notes.count notes.head) (take notes.count notes.aside)
 
--- nothing where they are not
-abbrev pub NotedIs : List (List ℕ) → List ℕ → List ℕ → List ℕ → List ℕ → Option Noted → Type 0
-NotedIs ns head aside in_head in_aside (Some r) = NotedOf ns head aside in_head in_aside r
-NotedIs ns head aside in_head in_aside None = (good_block head && good_block aside) ≡ false
+-- both blocks are lines, with the notes on them, and whether a name is repeated in one
+pub record Told (ns : List (List ℕ)) (head aside : List ℕ) (notes : Declared.Notes) (twice : Bool) : Type 0 where
+  pub good : (good_block head && good_block aside) ≡ true
+  pub twice_is : (repeated ns (lines_in head) || repeated ns (lines_in aside)) ≡ twice
+  pub are : NotesOf ns head aside notes
+
+abbrev pub NotedIs : List (List ℕ) → List ℕ → List ℕ → Declared.Notes → Result (Unit {0}) Unnoted → Type 0
+NotedIs ns head aside notes (Ok u) = Told ns head aside notes false
+NotedIs ns head aside notes (Err Twice) = Told ns head aside notes true
+NotedIs ns head aside notes (Err NotLines) = (good_block head && good_block aside) ≡ false

@@ -10,7 +10,11 @@ ghost use Rattle.lines.specs.InnerNotes.{place_of, PlaceIn, first_by};
 
 use names::token;
 
+mod blocks;
 pub mod noting;
+mod remarks;
+
+pub use blocks::Blocks;
 
 // Whether a block is lines, and nothing else.
 pub fn good_block(block: &[u8]) -> bool

@@ -1,12 +1,11 @@
 // The extra names, which a site adds to the 55.
 ghost use Rattle.std.specs.Prelude.{◌≡◌};
 ghost use Rattle.names.specs.Extra.{allowed, good_names, good_extra};
-ghost use Rattle.names.specs.InnerWalk.{Known, names_left};
+ghost use Rattle.names.specs.InnerWalk.{names_left};
 
-use super::{Names, has_name, same_name, token};
+use super::{KnownNames, Names, same_name, token};
 
-pub fn good_extra(known: &[u8], extra: &[u8]) -> bool
-    requires { Known known.now }
+pub fn good_extra(known: &KnownNames, extra: &[u8]) -> bool
     ensures { result ≡ good_extra extra.now }
 {
     // Saves going through the names of a long run.
@@ -17,8 +16,7 @@ pub fn good_extra(known: &[u8], extra: &[u8]) -> bool
     (names.count() <= 8) & good_names(known, names)
 }
 
-fn good_names(known: &[u8], names: Names) -> bool
-    requires { Known known.now }
+fn good_names(known: &KnownNames, names: Names) -> bool
     ensures { result ≡ good_names (names_left names.entry) }
 {
     let mut after = names;
@@ -30,9 +28,8 @@ fn good_names(known: &[u8], names: Names) -> bool
     true
 }
 
-fn is_allowed(known: &[u8], name: &[u8]) -> bool
-    requires { Known known.now }
+fn is_allowed(known: &KnownNames, name: &[u8]) -> bool
     ensures { result ≡ allowed name.now }
 {
-    token::is_token(name) & !has_name(known, 0, name) & !same_name(b"X-S-Armor", name)
+    token::is_token(name) & !Names::of(&known.run).have(name) & !same_name(b"X-S-Armor", name)
 }

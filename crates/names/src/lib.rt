@@ -4,78 +4,18 @@
 ghost use Rattle.std.specs.Prelude.{◌≡◌, ◌≤◌, length};
 ghost use Rattle.cells.specs.Spans.{Spans};
 ghost use Rattle.names.specs.Names.{same_name, has_name};
-ghost use Rattle.names.specs.InnerWalk.{no_comma, names_from, Known};
+ghost use Rattle.names.specs.InnerWalk.{no_comma, names_from};
 
+mod covered;
 mod each;
 pub mod extra;
+mod mask;
 pub mod sheet;
 pub mod token;
 
+pub use covered::Covered;
 pub use each::Names;
-
-// The names of the mask's bits 1 to 55 in order, joined by commas as the extra names are.
-const NAMES: [u8; 632] = *b"Host,\
-    User-Agent,\
-    Accept,\
-    Connection,\
-    Accept-Encoding,\
-    Accept-Language,\
-    Referer,\
-    Cookie,\
-    Accept-Charset,\
-    If-Modified-Since,\
-    If-None-Match,\
-    Range,\
-    Date,\
-    Authorization,\
-    Cache-Control,\
-    Origin,\
-    Pragma,\
-    DNT,\
-    X-Csrftoken,\
-    Sec-WebSocket-Version,\
-    Sec-WebSocket-Protocol,\
-    Sec-WebSocket-Key,\
-    Sec-WebSocket-Extensions,\
-    TE,\
-    X-Requested-With,\
-    X-Forwarded-For,\
-    X-Forwarded-Proto,\
-    Forwarded,\
-    From,\
-    HTTP2-Settings,\
-    Upgrade,\
-    Proxy-Authorization,\
-    If,\
-    If-Match,\
-    If-Range,\
-    If-Unmodified-Since,\
-    Max-Forwards,\
-    Prefer,\
-    Via,\
-    ALPN,\
-    Expect,\
-    Alt-Used,\
-    CalDAV-Timezones,\
-    Schedule-Reply,\
-    If-Schedule-Tag-Match,\
-    Destination,\
-    Lock-Token,\
-    Timeout,\
-    Ordering-Type,\
-    Overwrite,\
-    Position,\
-    Depth,\
-    SLUG,\
-    Trailer,\
-    MIME-Version";
-
-// The 55 names, joined by commas: a run to go through as Names.
-pub fn known() -> [u8; 632]
-    ensures { Known result }
-{
-    NAMES
-}
+pub use mask::{KnownNames, known};
 
 // Where the name that starts at byte at ends.
 pub fn name_end(run: &[u8], at: usize) -> usize

@@ -1,57 +1,93 @@
 // The covered names on a sheet, so that a line's name is found among them without going through all of them. Names are numbered from 0 on. A
 // sheet has for each of 64 keys the last name that has it; from 64 on, for each name, the one before it that has its key, each as 1 more than its
 // number, or 0 for none; and from 128 on where each name starts, an extra one 1024 further on.
-ghost use Rattle.std.specs.Prelude.{◌≡◌, true, not, ◌+◌, ◌≤◌, ◌<◌, length, replicate, get_or};
-ghost use Rattle.names.specs.Names.{same_name};
-ghost use Rattle.names.specs.Extra.{names_in, extra_names, good_extra};
+ghost use Rattle.std.specs.Prelude.{◌≡◌, not, ◌+◌, ◌≤◌, ◌<◌, length, get_or};
+ghost use Rattle.names.specs.Extra.{names_in, extra_names};
 ghost use Rattle.names.specs.Lists.{list_names, is_list};
 ghost use Rattle.names.specs.Covered.{chosen, covered_names};
-ghost use Rattle.names.specs.InnerWalk.{Known};
-ghost use Rattle.names.specs.InnerSheet.{key_of, name_at, named, Start, Sheet, Entered, NumberOn, Enters, with_name};
+ghost use Rattle.names.specs.InnerSheet as I;
+ghost use Rattle.names.specs.InnerSheet.{key_of, name_at, named, Start, Entered, NumberOn, Enters, with_name};
 
-use super::{Names, has_name, name_end, same_name};
+use super::{Covered, KnownNames, Names, has_name, name_end, same_name};
 
-// The covered names on an empty sheet, which then has as many.
-pub fn fill(known: &[u8], mask: u64, extra: &[u8], sheet: &mut [u16]) -> usize
-    requires { Known known.now × (good_extra extra.now ≡ true) × (sheet.old ≡ replicate 192 0) }
-    ensures { Sheet known.now extra.now sheet.new (covered_names mask extra.now) × (result ≡ length (covered_names mask extra.now)) }
-{
-    let count = enter(known, mask / 2, 0, sheet, 0);
-    enter(extra, u64::MAX, 1024, sheet, count)
+#[derive(Drop)]
+pub struct Sheet<'a> {
+    pub known: &'a [u8],
+    pub extra: &'a [u8],
+    pub entries: [u16; 192],
+    // How many names there are.
+    pub count: usize,
 }
 
-// The number of a name on a sheet.
-pub fn number(known: &[u8], extra: &[u8], sheet: &[u16], name: &[u8]) -> Option<usize>
-    requires { Entered known.now extra.now sheet.now }
-    ensures { NumberOn known.now extra.now sheet.now name.now result }
-{
-    let mut entry = sheet[key(name)] as usize;
-    while entry != 0 {
-        let number = entry - 1;
-        if bears(known, extra, sheet[128 + number] as usize, name) {
-            return Some(number);
+impl<'a> Sheet<'a> {
+    // The covered names on a sheet.
+    pub fn of(known: &'a KnownNames, covered: &Covered<'a>) -> Sheet<'a>
+        ensures names { I.Sheet result.known.now result.extra.now result.entries (covered_names covered.now.mask covered.now.extra.now) }
+        ensures count { result.count ≡ length (covered_names covered.now.mask covered.now.extra.now) }
+    {
+        let mut entries = [0; 192];
+        let first = enter(&known.run, covered.mask / 2, 0, &mut entries, 0);
+        let count = enter(covered.extra, u64::MAX, 1024, &mut entries, first);
+        Sheet {
+            known: &known.run,
+            extra: covered.extra,
+            entries,
+            count,
         }
-        entry = sheet[64 + number] as usize;
     }
-    None
+
+    // The number of a name.
+    pub fn number(&self, name: &[u8]) -> Option<usize>
+        requires { Entered self.now.known.now self.now.extra.now self.now.entries }
+        ensures { NumberOn self.now.known.now self.now.extra.now self.now.entries name.now result }
+    {
+        let mut entry = self.entries[key(name)] as usize;
+        while entry != 0 {
+            let number = entry - 1;
+            if same_name(name, self.name_from(self.entries[128 + number] as usize)) {
+                return Some(number);
+            }
+            entry = self.entries[64 + number] as usize;
+        }
+        None
+    }
+
+    // Whether the name with this number may stand on one line only: it is no list field.
+    pub fn single(&self, number: usize) -> bool
+        requires { (number < 64) × Start self.now.known.now self.now.extra.now (get_or self.now.entries (128 + number) 0) }
+        ensures { result ≡ not (is_list (named self.now.known.now self.now.extra.now (get_or self.now.entries (128 + number) 0))) }
+    {
+        !has_name(
+            &list_names(),
+            0,
+            self.name_from(self.entries[128 + number] as usize),
+        )
+    }
+
+    // The name that starts there.
+    fn name_from(&self, start: usize) -> &'a [u8]
+        requires { Start self.now.known.now self.now.extra.now start }
+        ensures { result.now ≡ named self.now.known.now self.now.extra.now start }
+    {
+        if start < 1024 {
+            return name_at(self.known, start);
+        }
+        name_at(self.extra, start - 1024)
+    }
 }
 
-// Whether the name with this number may stand on one line only: it is no list field.
-pub fn single(known: &[u8], extra: &[u8], sheet: &[u16], number: usize) -> bool
-    requires { (number < 64) × (length sheet.now ≡ 192) × Start known.now extra.now (get_or sheet.now (128 + number) 0) }
-    ensures { result ≡ not (is_list (named known.now extra.now (get_or sheet.now (128 + number) 0))) }
+// The name of a run that starts at byte at.
+fn name_at<'a>(run: &'a [u8], at: usize) -> &'a [u8]
+    requires { at ≤ length run.now }
+    ensures { result.now ≡ name_at run.now at }
 {
-    let start = sheet[128 + number] as usize;
-    if start < 1024 {
-        return !lists(known, start);
-    }
-    !lists(extra, start - 1024)
+    &run[at..name_end(run, at)]
 }
 
 // The names of a run whose bits are set in wanted, the lowest bit for the first, entered after count others; those of the run start at base and on.
-fn enter(run: &[u8], wanted: u64, base: usize, sheet: &mut [u16], count: usize) -> usize
-    requires { (length run.now < 1024) × (base ≤ 1024) × (length sheet.old ≡ 192) × (count + length (chosen wanted (extra_names run.now)) ≤ 64) }
-    ensures { (result ≡ count + length (chosen wanted (extra_names run.now))) × Enters run.now (chosen wanted (extra_names run.now)) base count sheet.old sheet.new }
+fn enter(run: &[u8], wanted: u64, base: usize, entries: &mut [u16; 192], count: usize) -> usize
+    requires { (length run.now < 1024) × (base ≤ 1024) × (count + length (chosen wanted (extra_names run.now)) ≤ 64) }
+    ensures { (result ≡ count + length (chosen wanted (extra_names run.now))) × Enters run.now (chosen wanted (extra_names run.now)) base count entries.old entries.new }
 {
     let mut entered = count;
     let mut left = wanted;
@@ -62,7 +98,7 @@ fn enter(run: &[u8], wanted: u64, base: usize, sheet: &mut [u16], count: usize) 
             break;
         }
         if left % 2 == 1 {
-            put(sheet, key(name), entered, start);
+            put(entries, key(name), entered, start);
             entered += 1;
         }
         left /= 2;
@@ -71,13 +107,13 @@ fn enter(run: &[u8], wanted: u64, base: usize, sheet: &mut [u16], count: usize) 
     entered
 }
 
-fn put(sheet: &mut [u16], key: usize, entered: usize, start: usize)
-    requires { (length sheet.old ≡ 192) × (key < 64) × (entered < 64) × (start < 65536) }
-    ensures { sheet.new ≡ with_name sheet.old key entered start }
+fn put(entries: &mut [u16; 192], key: usize, entered: usize, start: usize)
+    requires { (key < 64) × (entered < 64) × (start < 65536) }
+    ensures { entries.new ≡ with_name entries.old key entered start }
 {
-    sheet[64 + entered] = sheet[key];
-    sheet[128 + entered] = start as u16;
-    sheet[key] = (entered + 1) as u16;
+    entries[64 + entered] = entries[key];
+    entries[128 + entered] = start as u16;
+    entries[key] = (entered + 1) as u16;
 }
 
 fn key(name: &[u8]) -> usize
@@ -87,33 +123,6 @@ fn key(name: &[u8]) -> usize
         return 0;
     }
     (name.len() % 64 + 20 * (name[0].to_ascii_lowercase() as usize)) % 64
-}
-
-// Whether the name that starts there on the sheet is this one.
-fn bears(known: &[u8], extra: &[u8], start: usize, name: &[u8]) -> bool
-    requires { Start known.now extra.now start }
-    ensures { result ≡ same_name name.now (named known.now extra.now start) }
-{
-    if start < 1024 {
-        return stands(known, start, name);
-    }
-    stands(extra, start - 1024, name)
-}
-
-fn stands(run: &[u8], at: usize, name: &[u8]) -> bool
-    requires { at ≤ length run.now }
-    ensures { result ≡ same_name name.now (name_at run.now at) }
-{
-    let end = name_end(run, at);
-    same_name(name, &run[at..end])
-}
-
-fn lists(run: &[u8], at: usize) -> bool
-    requires { at ≤ length run.now }
-    ensures { result ≡ is_list (name_at run.now at) }
-{
-    let end = name_end(run, at);
-    has_name(&list_names(), 0, &run[at..end])
 }
 
 // The names of document 02, K10, joined by commas.

@@ -7,5 +7,5 @@ use Rattle.lines.specs.InnerNotes.{Notes}
 use Rattle.lines.proofs.noting.repeats.Given as goal
 
 abbrev pub invariant-loop-i : goal.invariant-loop-i
-invariant-loop-i l = (ns : List (List ℕ)) (block : List ℕ) → Sheet l.known l.extra l.sheet ns → length ns ≡ l.count → Notes block ns l.notes
+invariant-loop-i l = (ns : List (List ℕ)) (block : List ℕ) → Sheet l.sheet.known.now l.sheet.extra.now l.sheet.entries ns → length ns ≡ l.sheet.count → Notes block ns l.notes
     → repeated ns (lines_in block) ≡ repeated (drop l.i ns) (lines_in block)

@@ -22,7 +22,7 @@ pub put-requires : goal.put-requires
 put-requires c =
     let first : chosen c.loop-name.left (names_left c.loop-name.name-iterator) ≡ c.in-Some.name.now ∷ chosen (c.loop-name.left / 2) (names_left c.next.new.self) =
     ap (chosen c.loop-name.left) c.in-Some.ensures.steps ∙ chosen_set _ _ _ (eq-eqb _ _ c.if-left-eq1.true) in
-    (search rules, search rules, omega (arith, ap length first, c.loop-name.invariant.2), omega (arith, c.loop-name.invariant.1.within))
+    (search rules, omega (arith, ap length first, c.loop-name.invariant.2), omega (arith, c.loop-name.invariant.1.within))
 
 pub loop-name-preserved : goal.loop-name-preserved
 loop-name-preserved c =
@@ -37,14 +37,14 @@ loop-name-preserved c =
             on,
             omega (arith, ap length fewer, w.entered-is, inv.2),
             λ after rest. inv.3 after (rw fewer (enters_then _ _ _ _ _ _ _ _ _ _ after come w.key.ensures (omega (arith, ap length fewer, inv.2))
-                w.put.ensures (rw (w.sheet-is, w.entered-is) at rest))),
+                w.put.ensures (rw (w.entries-is, w.entered-is) at rest))),
           )
       | else-left-eq1 w ↦
           let same = first ∙ chosen_clear _ _ _ (ne_eqb _ _ w.if-left-eq1.false) in (
             search rules,
             on,
             omega (arith, ap length same, w.entered-is, inv.2),
-            λ after rest. inv.3 after (rw same (rw (w.sheet-is, w.entered-is) at rest)),
+            λ after rest. inv.3 after (rw same (rw (w.entries-is, w.entered-is) at rest)),
           )
     ]
 

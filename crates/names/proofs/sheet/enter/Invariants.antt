@@ -9,7 +9,7 @@ use Rattle.names.proofs.sheet.enter.Given as goal
 
 abbrev pub invariant-loop-name : goal.invariant-loop-name
 invariant-loop-name l =
-    (length l.sheet ≡ 192)
+    (length l.entries ≡ 192)
     × ComeTo l.run (names_left l.name-iterator) l.base l.start
     × (l.entered + length (chosen l.left (names_left l.name-iterator)) ≡ l.count + length (chosen l.wanted (extra_names l.run)))
-    × ((after : List ℕ) → Enters l.run (chosen l.left (names_left l.name-iterator)) l.base l.entered l.sheet after → Enters l.run (chosen l.wanted (extra_names l.run)) l.base l.count l.initial.sheet after)
+    × ((after : List ℕ) → Enters l.run (chosen l.left (names_left l.name-iterator)) l.base l.entered l.entries after → Enters l.run (chosen l.wanted (extra_names l.run)) l.base l.count l.initial.entries after)

@@ -3,8 +3,8 @@ use Rattle.std.proofs.Common.{refl}
 use Rattle.names.specs.Names.{header_names}
 use Rattle.names.specs.Extra.{names_in}
 use Rattle.cells.specs.Text.{codes}
-use Rattle.names.proofs.known.Goals as goal
+use Rattle.names.proofs.mask.known.Goals as goal
 
-pub returns : goal.returns
+pub invariant_of-result : goal.invariant_of-result
 unfolding names_in header_names codes
-returns c = refl
+invariant_of-result c = record { known = refl }

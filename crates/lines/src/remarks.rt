@@ -1,0 +1,22 @@
+// Notes on the covered names. A note is 0 where no line of a block bears the name; otherwise 1 more than where the first that does starts, and
+// 32768 more if others do too.
+ghost use Rattle.std.specs.Prelude.{◌≤◌};
+
+// Those of either block, as many as names are covered, in their order.
+#[derive(Drop)]
+pub struct Notes {
+    pub head: [u16; 64],
+    pub aside: [u16; 64],
+    pub count: usize,
+    pub ghost few: { count ≤ 64 },
+}
+
+impl Notes {
+    pub fn new() -> Notes {
+        Notes {
+            head: [0; 64],
+            aside: [0; 64],
+            count: 0,
+        }
+    }
+}
