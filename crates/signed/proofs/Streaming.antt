@@ -9,9 +9,8 @@ use Rattle.sha_2.specs.declared.State.{State}
 use Rattle.sha_2.specs.InnerTaken.{TookIn}
 use Rattle.sha_2.proofs.Streaming.{took_in_turn}
 use Rattle.netstring.specs.Netstring.{comma, netstring, netstrings}
-use Rattle.netstring.specs.InnerOpening.{Opens}
-use Rattle.netstring.specs.declared.Prefix.{Prefix}
-use Rattle.netstring.proofs.Laid.{netstring_pieces, length_pieces, opening_piece}
+use Rattle.netstring.specs.InnerOpening.{opening}
+use Rattle.netstring.proofs.Laid.{netstring_pieces, length_pieces}
 use Rattle.netstring.proofs.Determined.{netstrings_append}
 use Rattle.hashes.specs.declared.Hash.{Hash}
 use Rattle.hashes.specs.Hashes.{hash_mask}
@@ -50,17 +49,14 @@ pub size_one : (part : List ℕ) → size (part ∷ []) ≡ length (netstring pa
 size_one part = ap length (netstrings_one part)
 
 -- a netstring's three pieces, as they are taken in, and how long they are
-module _ (part : List ℕ) (made : Prefix) (opens : Opens (length part) made) where
-  abbrev pub piece : List ℕ
-  piece = take (21 - made.start) (drop made.start made.all)
-
+module _ (part : List ℕ) {piece : List ℕ} (opens : piece ≡ opening (length part)) where
   pub pieces_size : size (part ∷ []) ≡ length piece + length part + 1
-  pieces_size = size_one part ∙ length_pieces part (opening_piece _ made opens)
+  pieces_size = size_one part ∙ length_pieces part opens
 
-  pub took_netstring : (s t u r : State) → TookIn s piece t → TookIn t part u → TookIn u (comma ∷ []) r → TookParts s (part ∷ []) r
-  took_netstring s t u r p q e =
+  pub took_netstring : {s t u r : State} → TookIn s piece t → TookIn t part u → TookIn u (comma ∷ []) r → TookParts s (part ∷ []) r
+  took_netstring {s} {t} {u} {r} p q e =
       subst (λ (l : List ℕ). TookIn s l r)
-      (ap (λ (l : List ℕ). (l ++ part) ++ (comma ∷ [])) (opening_piece _ made opens) ∙ netstring_pieces part ∙ sym (netstrings_one part))
+      (ap (λ (l : List ℕ). (l ++ part) ++ (comma ∷ [])) opens ∙ netstring_pieces part ∙ sym (netstrings_one part))
       (took_in_turn s u r (piece ++ part) (comma ∷ []) (took_in_turn s t u piece part p q) e)
 
 pub opening_size : (hash : Hash) (mask n t lt : ℕ) (method extra : List ℕ) → size (opening_parts method hash mask extra n t lt)
