@@ -1,6 +1,6 @@
 -- What callers need of the cipher beside its definition.
 -- Assumes nothing.
-use mathlib.Core.List.{List, ◌++◌}
+use mathlib.Core.List.{List}
 use mathlib.Core.Path.{◌≡◌, refl, ap, ap₂, ◌∙◌}
 use Prim.Native.Nat.{ℕ, suc, ◌+◌, ◌-◌, ◌≤◌}
 use native.Mathlib.Omega.{arith}
@@ -20,10 +20,6 @@ length_cipher w block = refl
 pub length_aes256 : (key block : List ℕ) → length (aes256 key block) ≡ 16
 unfolding aes256
 length_aes256 key block = length_cipher (key_expansion key) block
-
--- a state by its columns
-pub columns : {a b c d e f g h : List ℕ} → a ≡ e → b ≡ f → c ≡ g → d ≡ h → a ++ (b ++ (c ++ d)) ≡ e ++ (f ++ (g ++ h))
-columns p q r s = ap₂ ◌++◌ p (ap₂ ◌++◌ q (ap₂ ◌++◌ r s))
 
 -- a turn of the loop over the full rounds
 pub round_more : (w s : List ℕ) (n : ℕ) {t : List ℕ} → 1 ≤ n → t ≡ rounds w s (n - 1) → full_round t w n ≡ rounds w s (n + 1 - 1)

@@ -1,10 +1,9 @@
 -- The key schedule grows by a word at its end.
 -- Assumes nothing.
-use mathlib.Core.List.{List, [], ◌∷◌, ◌++◌}
+use mathlib.Core.List.{List, ◌++◌}
 use mathlib.Core.Path.{◌≡◌, refl, sym, ap, ap₂, ◌∙◌}
 use Prim.Native.Nat.{ℕ, suc, ◌+◌, ◌-◌, ◌*◌, ◌%◌, ◌^◌, ◌≤◌, ◌<◌}
 use native.Mathlib.Omega.{arith}
-use lib.Bits.{bit_xor, xor_zero_r}
 use borrow.Author.Tests.{eqb-true}
 use lib.Dec.{eqb}
 use lib.ListN.{length, take, drop}
@@ -52,11 +51,6 @@ extended key w i lo hi h =
     front_spliced w (next_word w i) (4 * i) (4 * (i + 1)) (omega arith) (omega (arith, length_next w i))
     ∙ grown key w (i - 8) i (omega arith) h
     ∙ ap (expanded key) e
-
--- a round constant is added to the first byte of a word
-pub constant_added : (a b c d k : ℕ) → bit_xor a k ∷ b ∷ c ∷ d ∷ [] ≡ xor_word (a ∷ b ∷ c ∷ d ∷ []) (k ∷ 0 ∷ 0 ∷ 0 ∷ [])
-unfolding xor_word
-constant_added a b c d k = simp xor_zero_r
 
 -- the schedule before its first turn, and after its last
 pub begun : (key w : List ℕ) → length key ≡ 32 → take 32 (fronted key w) ≡ expanded key 0

@@ -1,20 +1,15 @@
--- Names for what the code holds: an invariant of its table, and its columns and states as lists.
+-- Names for what the code holds: a state as its four columns, and steps of a column.
 -- Assumes nothing.
-use Rattle.std.specs.Prelude.{List, [], ◌∷◌, ◌++◌, ◌≡◌, ℕ, ◌+◌, ◌%◌, ◌<◌, get_or}
+use Rattle.std.specs.Prelude.{List, [], ℕ, ◌+◌, ◌%◌, get_or}
 use Rattle.aes.specs.Sbox.{sub_byte}
-use Rattle.aes.specs.Cipher.{word_of, mixed}
-use Rattle.aes.specs.declared.Column.{Column}
-use Rattle.aes.specs.declared.State.{State}
+use Rattle.aes.specs.Cipher.{state, word_of, mixed}
 
--- entry b of the table is what b is substituted by
-pub record Substitutes (table : List ℕ) : Type 0 where
-  pub at : (b : ℕ) → b < 256 → get_or table b 0 ≡ sub_byte b
+abbrev pub listed : List (List ℕ) → List ℕ
+listed s = state (λ r c. get_or (get_or s c []) r 0)
 
-abbrev pub bytes : Column → List ℕ
-bytes w = w.a ∷ w.b ∷ w.c ∷ w.d ∷ []
-
-abbrev pub listed : State → List ℕ
-listed s = bytes s.c0 ++ (bytes s.c1 ++ (bytes s.c2 ++ bytes s.c3))
+-- column c after the substitution and the row shifts
+unfoldable pub shifted_word : List (List ℕ) → ℕ → List ℕ
+shifted_word s c = word_of (λ r. sub_byte (get_or (get_or s ((c + r) % 4) []) r 0))
 
 -- one column mixed
 unfoldable pub mix_word : List ℕ → List ℕ

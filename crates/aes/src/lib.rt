@@ -1,32 +1,16 @@
 // AES-256 (FIPS 197): the key schedule and the cipher of one block.
 #![tactic(auto)]
 
-ghost use Rattle.std.specs.Prelude.{◌≡◌, [], ◌∷◌, ◌-◌, ◌*◌, ◌≤◌, ◌<◌, length};
-ghost use Rattle.cells.specs.Runs.{spliced};
+ghost use Rattle.std.specs.Prelude.{◌≡◌, ◌+◌, ◌-◌, ◌*◌, ◌≤◌, ◌<◌, length};
 ghost use Rattle.aes.specs.Field.{xtimes, power_of_x};
-ghost use Rattle.aes.specs.Sbox.{sub_byte};
+ghost use Rattle.aes.specs.Sbox as S;
 ghost use Rattle.aes.specs.Cipher as C;
-ghost use Rattle.aes.specs.InnerCode.{Substitutes, bytes, listed, mix_word};
+ghost use Rattle.aes.specs.InnerCode.{listed, shifted_word, mix_word};
 
-// Four bytes: a column of a state, or a word of a schedule.
-#[derive(Clone, Copy)]
-struct Column {
-    a: u8,
-    b: u8,
-    c: u8,
-    d: u8,
-}
-
-#[derive(Clone, Copy)]
-struct State {
-    c0: Column,
-    c1: Column,
-    c2: Column,
-    c3: Column,
-}
+use std::array;
 
 // FIPS 197, 5.1.1, Table 4.
-const SBOX: [u8; 256] = [
+static SBOX: [u8; 256] = [
     0x63, 0x7c, 0x77, 0x7b, 0xf2, 0x6b, 0x6f, 0xc5, 0x30, 0x01, 0x67, 0x2b, 0xfe, 0xd7, 0xab, 0x76,
     0xca, 0x82, 0xc9, 0x7d, 0xfa, 0x59, 0x47, 0xf0, 0xad, 0xd4, 0xa2, 0xaf, 0x9c, 0xa4, 0x72, 0xc0,
     0xb7, 0xfd, 0x93, 0x26, 0x36, 0x3f, 0xf7, 0xcc, 0x34, 0xa5, 0xe5, 0xf1, 0x71, 0xd8, 0x31, 0x15,
@@ -45,29 +29,10 @@ const SBOX: [u8; 256] = [
     0x8c, 0xa1, 0x89, 0x0d, 0xbf, 0xe6, 0x42, 0x68, 0x41, 0x99, 0x2d, 0x0f, 0xb0, 0x54, 0xbb, 0x16,
 ];
 
-fn sbox() -> [u8; 256]
-    ensures { Substitutes result }
+fn sub_byte(b: u8) -> u8
+    ensures { result ≡ S.sub_byte b }
 {
-    SBOX
-}
-
-fn sub(table: &[u8; 256], b: u8) -> u8
-    requires { Substitutes table.now }
-    ensures { result ≡ sub_byte b }
-{
-    table[b as usize]
-}
-
-fn sub_word(table: &[u8; 256], w: Column) -> Column
-    requires { Substitutes table.now }
-    ensures { bytes result ≡ C.sub_word (bytes w) }
-{
-    Column {
-        a: sub(table, w.a),
-        b: sub(table, w.b),
-        c: sub(table, w.c),
-        d: sub(table, w.d),
-    }
+    SBOX[b as usize]
 }
 
 fn double(b: u8) -> u8
@@ -82,124 +47,108 @@ fn mixed(a: u8, b: u8, c: u8, d: u8) -> u8
     double(a) ^ (double(b) ^ b) ^ c ^ d
 }
 
-fn mix(w: Column) -> Column
-    ensures { bytes result ≡ mix_word (bytes w) }
+// 5.1.3, of one column.
+fn mix_column(w: [u8; 4]) -> [u8; 4]
+    ensures { result ≡ mix_word w }
 {
-    Column {
-        a: mixed(w.a, w.b, w.c, w.d),
-        b: mixed(w.b, w.c, w.d, w.a),
-        c: mixed(w.c, w.d, w.a, w.b),
-        d: mixed(w.d, w.a, w.b, w.c),
-    }
+    array::from_fn(|r| mixed(w[r], w[(r + 1) % 4], w[(r + 2) % 4], w[(r + 3) % 4]))
 }
 
-fn xor(v: Column, w: Column) -> Column
-    ensures { bytes result ≡ C.xor_word (bytes v) (bytes w) }
+// Column c after 5.1.1 and 5.1.2.
+fn shifted(s: &[[u8; 4]; 4], c: usize) -> [u8; 4]
+    requires { c < 4 }
+    ensures { result ≡ shifted_word s.now c }
 {
-    Column {
-        a: v.a ^ w.a,
-        b: v.b ^ w.b,
-        c: v.c ^ w.c,
-        d: v.d ^ w.d,
-    }
+    array::from_fn(|r| sub_byte(s[(c + r) % 4][r]))
 }
 
-// Word i of a schedule.
-fn word(w: &[u8; 240], i: usize) -> Column
-    requires { i < 60 }
-    ensures { bytes result ≡ C.word_at w.now i }
+// Column c of a full round.
+fn full_column(s: &[[u8; 4]; 4], c: usize, key: [u8; 4]) -> [u8; 4]
+    requires { c < 4 }
+    ensures { result ≡ C.xor_word (mix_word (shifted_word s.now c)) key }
 {
-    Column {
-        a: w[4 * i],
-        b: w[4 * i + 1],
-        c: w[4 * i + 2],
-        d: w[4 * i + 3],
-    }
+    xor_word(mix_column(shifted(s, c)), key)
 }
 
-// A column of a full round, from the four bytes that the row shifts bring together.
-fn full_column(a: u8, b: u8, c: u8, d: u8, keys: &[u8; 240], i: usize, table: &[u8; 256]) -> Column
-    requires { (i < 60) × Substitutes table.now }
-    ensures { bytes result ≡ C.xor_word (mix_word (C.sub_word (a ∷ b ∷ c ∷ d ∷ []))) (C.word_at keys.now i) }
+// Column c of the last round, which does not mix.
+fn last_column(s: &[[u8; 4]; 4], c: usize, key: [u8; 4]) -> [u8; 4]
+    requires { c < 4 }
+    ensures { result ≡ C.xor_word (shifted_word s.now c) key }
 {
-    let w = Column { a, b, c, d };
-    xor(mix(sub_word(table, w)), word(keys, i))
+    xor_word(shifted(s, c), key)
 }
 
-// A column of the last round, which does not mix.
-fn last_column(a: u8, b: u8, c: u8, d: u8, keys: &[u8; 240], i: usize, table: &[u8; 256]) -> Column
-    requires { (i < 60) × Substitutes table.now }
-    ensures { bytes result ≡ C.xor_word (C.sub_word (a ∷ b ∷ c ∷ d ∷ [])) (C.word_at keys.now i) }
-{
-    let w = Column { a, b, c, d };
-    xor(sub_word(table, w), word(keys, i))
-}
-
-fn round(s: State, keys: &[u8; 240], n: usize, table: &[u8; 256]) -> State
-    requires { (n < 14) × Substitutes table.now }
-    ensures { listed result ≡ C.full_round (listed s) keys.now n }
-{
-    State {
-        c0: full_column(s.c0.a, s.c1.b, s.c2.c, s.c3.d, keys, 4 * n, table),
-        c1: full_column(s.c1.a, s.c2.b, s.c3.c, s.c0.d, keys, 4 * n + 1, table),
-        c2: full_column(s.c2.a, s.c3.b, s.c0.c, s.c1.d, keys, 4 * n + 2, table),
-        c3: full_column(s.c3.a, s.c0.b, s.c1.c, s.c2.d, keys, 4 * n + 3, table),
-    }
-}
-
-fn last_round(s: State, keys: &[u8; 240], table: &[u8; 256]) -> State
-    requires { Substitutes table.now }
-    ensures { listed result ≡ C.add_round_key (C.shift_rows (C.sub_bytes (listed s))) keys.now 14 }
-{
-    State {
-        c0: last_column(s.c0.a, s.c1.b, s.c2.c, s.c3.d, keys, 56, table),
-        c1: last_column(s.c1.a, s.c2.b, s.c3.c, s.c0.d, keys, 57, table),
-        c2: last_column(s.c2.a, s.c3.b, s.c0.c, s.c1.d, keys, 58, table),
-        c3: last_column(s.c3.a, s.c0.b, s.c1.c, s.c2.d, keys, 59, table),
-    }
-}
-
-// Column i of a block.
-fn loaded(block: &[u8; 16], i: usize) -> Column
-    requires { i < 4 }
-    ensures { bytes result ≡ C.word_at block.now i }
-{
-    Column {
-        a: block[4 * i],
-        b: block[4 * i + 1],
-        c: block[4 * i + 2],
-        d: block[4 * i + 3],
-    }
-}
-
-fn first_round(keys: &[u8; 240], block: &[u8; 16]) -> State
+// The state before the rounds, as its four columns.
+fn first_round(keys: &[u8; 240], block: &[u8; 16]) -> [[u8; 4]; 4]
     ensures { listed result ≡ C.add_round_key block.now keys.now 0 }
 {
-    State {
-        c0: xor(loaded(block, 0), word(keys, 0)),
-        c1: xor(loaded(block, 1), word(keys, 1)),
-        c2: xor(loaded(block, 2), word(keys, 2)),
-        c3: xor(loaded(block, 3), word(keys, 3)),
-    }
+    [
+        xor_word(word(block, 0), word(keys, 0)),
+        xor_word(word(block, 1), word(keys, 1)),
+        xor_word(word(block, 2), word(keys, 2)),
+        xor_word(word(block, 3), word(keys, 3)),
+    ]
+}
+
+fn round(s: &[[u8; 4]; 4], keys: &[u8; 240], n: usize) -> [[u8; 4]; 4]
+    requires { n < 14 }
+    ensures { listed result ≡ C.full_round (listed s.now) keys.now n }
+{
+    [
+        full_column(s, 0, word(keys, 4 * n)),
+        full_column(s, 1, word(keys, 4 * n + 1)),
+        full_column(s, 2, word(keys, 4 * n + 2)),
+        full_column(s, 3, word(keys, 4 * n + 3)),
+    ]
+}
+
+fn last_round(s: &[[u8; 4]; 4], keys: &[u8; 240]) -> [[u8; 4]; 4]
+    ensures { listed result ≡ C.add_round_key (C.shift_rows (C.sub_bytes (listed s.now))) keys.now 14 }
+{
+    [
+        last_column(s, 0, word(keys, 56)),
+        last_column(s, 1, word(keys, 57)),
+        last_column(s, 2, word(keys, 58)),
+        last_column(s, 3, word(keys, 59)),
+    ]
 }
 
 // The cipher of one block under a schedule.
 pub fn encrypt(keys: &[u8; 240], block: [u8; 16]) -> [u8; 16]
     ensures { result ≡ C.cipher keys.now block }
 {
-    let table = sbox();
     let mut s = first_round(keys, &block);
-    let mut n = 1;
-    while n < 14 {
-        s = round(s, keys, n, &table);
-        n += 1;
+    for n in 1..14 {
+        s = round(&s, keys, n);
     }
-    let z = last_round(s, keys, &table);
-    [
-        z.c0.a, z.c0.b, z.c0.c, z.c0.d, z.c1.a, z.c1.b, z.c1.c, z.c1.d, z.c2.a, z.c2.b, z.c2.c, z
-            .c2
-            .d, z.c3.a, z.c3.b, z.c3.c, z.c3.d,
-    ]
+    let z = last_round(&s, keys);
+    array::from_fn(|i| z[i / 4][i % 4])
+}
+
+// Word i of a schedule, or column i of a block.
+fn word(w: &[u8], i: usize) -> [u8; 4]
+    requires { 4 * i + 4 ≤ length w.now }
+    ensures { result ≡ C.word_at w.now i }
+{
+    [w[4 * i], w[4 * i + 1], w[4 * i + 2], w[4 * i + 3]]
+}
+
+fn xor_word(v: [u8; 4], w: [u8; 4]) -> [u8; 4]
+    ensures { result ≡ C.xor_word v w }
+{
+    array::from_fn(|r| v[r] ^ w[r])
+}
+
+fn rot_word(w: [u8; 4]) -> [u8; 4]
+    ensures { result ≡ C.rot_word w }
+{
+    [w[1], w[2], w[3], w[0]]
+}
+
+fn sub_word(w: [u8; 4]) -> [u8; 4]
+    ensures { result ≡ C.sub_word w }
+{
+    w.map(sub_byte)
 }
 
 fn round_constant(j: usize) -> u8
@@ -210,41 +159,17 @@ fn round_constant(j: usize) -> u8
 }
 
 // What is added to word i - 8 to give word i, from the word before.
-fn temp(w: Column, i: usize, table: &[u8; 256]) -> Column
-    requires { (8 ≤ i) × (i < 60) × Substitutes table.now }
-    ensures { bytes result ≡ C.temp (bytes w) i }
+fn temp(w: [u8; 4], i: usize) -> [u8; 4]
+    requires { (8 ≤ i) × (i < 60) }
+    ensures { result ≡ C.temp w i }
 {
     if i % 8 == 0 {
-        let turned = Column {
-            a: w.b,
-            b: w.c,
-            c: w.d,
-            d: w.a,
-        };
-        let s = sub_word(table, turned);
-        return Column {
-            a: s.a ^ round_constant(i / 8),
-            b: s.b,
-            c: s.c,
-            d: s.d,
-        };
+        return xor_word(sub_word(rot_word(w)), [round_constant(i / 8), 0, 0, 0]);
     }
     if i % 8 == 4 {
-        return sub_word(table, w);
+        return sub_word(w);
     }
     w
-}
-
-// Word i of the schedule, from the words before.
-fn extend(w: &mut [u8; 240], i: usize, table: &[u8; 256])
-    requires { (8 ≤ i) × (i < 60) × (length w.old ≡ 240) × Substitutes table.now }
-    ensures { w.new ≡ spliced w.old (4 * i) (C.next_word w.old i) }
-{
-    let x = xor(word(w, i - 8), temp(word(w, i - 1), i, table));
-    w[4 * i] = x.a;
-    w[4 * i + 1] = x.b;
-    w[4 * i + 2] = x.c;
-    w[4 * i + 3] = x.d;
 }
 
 // The schedule of a key.
@@ -252,13 +177,11 @@ pub fn expand(key: &[u8]) -> [u8; 240]
     requires { length key.now ≡ 32 }
     ensures { result ≡ C.key_expansion key.now }
 {
-    let table = sbox();
-    let mut w = [0u8; 240];
+    let mut w = [0; 240];
     cells::put_front(&mut w, key);
-    let mut i = 8;
-    while i < 60 {
-        extend(&mut w, i, &table);
-        i += 1;
+    for i in 8..60 {
+        let next = xor_word(word(&w, i - 8), temp(word(&w, i - 1), i));
+        cells::put_at(&mut w, 4 * i, &next);
     }
     w
 }
