@@ -1,3 +1,2 @@
--- The modules that belong to no one function.
-pub mod Digests
+-- What belongs to no one function.
 pub mod Sealing

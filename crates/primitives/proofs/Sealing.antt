@@ -1,17 +1,16 @@
 -- What the test of the sizes says of each, and what an answer of `unseal` says of the text.
 -- Assumes nothing.
-use mathlib.Core.Path.{◌≡◌, ap}
-use mathlib.Core.Bool.{true, and-eq-true_iff}
-use mathlib.Core.List.{List}
-use mathlib.Core.Option.{Option, none, some}
-use Prim.Native.Nat.{ℕ, ◌-◌, ◌^◌, ◌≤◌}
+use Rattle.std.proofs.Common.{◌≡◌, ℕ, ◌-◌, ◌^◌, ◌≤◌, List, true, ap, leb, eqb, refl, Result, Ok, Err}
+use mathlib.Core.Bool.{and-eq-true_iff}
 use borrow.Author.Tests.{eqb-true, leb-true}
-use native.Mathlib.Omega.{arith}
-use lib.Dec.{eqb, leb}
+use Rattle.std.proofs.Math.Option.{Option, none, some}
+use Rattle.gcm.specs.declared.WrongTag.{WrongTag}
 use Rattle.gcm.specs.InnerCode.{left}
 use Rattle.gcm.specs.InnerCode as C
-use Rattle.gcm.specs.declared.Opened.TheVariants.{Text, Wrong}
-use Rattle.primitives.specs.Answer.{answer}
+use Rattle.std.specs.Result.{IsErrAnd}
+use Rattle.primitives.specs.declared.Undone.{Undone}
+use Rattle.primitives.specs.declared.Undone.TheVariants.{Size, Tag}
+use Rattle.primitives.specs.Answer.{answer, number_of}
 use Rattle.primitives.specs.Sealing.{sizes_fit, opening}
 
 -- the lengths of key, IV, text, tag and buffer fit
@@ -37,10 +36,16 @@ fit key iv text tag out e =
       out_size = eqb-true out text e₄.1;
     }
 
-pub opened_text : (o : Option (List ℕ)) (old now : List ℕ) → Text ≡ C.answer o → now ≡ left o old → answer 0 now ≡ opening o old
-opened_text none old now e f = let z : ◌≡◌ {A = ℕ} 0 1 = cc in absurd (omega arith)
+pub opened_text : (o : Option (List ℕ)) (old now : List ℕ) → Ok tt ≡ C.answer o → now ≡ left o old → answer 0 now ≡ opening o old
+opened_text none old now e f = absurd cc
 opened_text (some text) old now e f = ap (answer 0) f
 
-pub opened_wrong : (o : Option (List ℕ)) (old now : List ℕ) → Wrong ≡ C.answer o → now ≡ left o old → answer 2 now ≡ opening o old
+pub opened_wrong : (o : Option (List ℕ)) (old now : List ℕ) {w : WrongTag} → Err w ≡ C.answer o → now ≡ left o old → answer 2 now ≡ opening o old
 opened_wrong none old now e f = ap (answer 2) f
-opened_wrong (some text) old now e f = let z : ◌≡◌ {A = ℕ} 0 1 = cc in absurd (omega arith)
+opened_wrong (some text) old now e f = absurd cc
+
+-- the number of an answer that says so
+pub wrong_number : (r : Result (Unit {0}) Undone) → IsErrAnd r (λ u. u ≡ Tag) → number_of r ≡ 2
+wrong_number (Ok done) h = absurd h
+wrong_number (Err Size) h = absurd cc
+wrong_number (Err Tag) h = refl

@@ -4,109 +4,139 @@
 
 ghost use Rattle.std.specs.Prelude.{◌≡◌};
 ghost use Rattle.hashes.specs.declared.Hash.TheVariants.{Sha256, Sha512};
-ghost use Rattle.primitives.specs.Answer.{answer};
+ghost use Rattle.primitives.specs.Answer.{answer, number_of};
 ghost use Rattle.primitives.specs.Digests.{digest_call, hmac_call};
 ghost use Rattle.primitives.specs.Sealing.{sizes_fit, seal_answer, seal_call, open_call};
 
-use gcm::Opened;
+use gcm::WrongTag;
 use hashes::Hash;
 use sha_2::State;
+
+// Why a call is not done.
+#[derive(Clone, Copy, PartialEq, Eq)]
+enum Undone {
+    Size,
+    Tag,
+}
+
+impl From<WrongTag> for Undone {
+    ghost use Rattle.primitives.specs.declared.Undone.TheVariants as Undone;
+
+    ghost from_gives = { λ _ undone. undone ≡ Undone.Tag };
+
+    fn from(_: WrongTag) -> Undone {
+        Undone::Tag
+    }
+}
+
+// A call's answer.
+fn number(done: Result<(), Undone>) -> u32
+    ensures { result ≡ number_of done }
+{
+    match done {
+        Ok(()) => 0,
+        Err(Undone::Size) => 1,
+        Err(Undone::Tag) => 2,
+    }
+}
 
 // 2 ^ 60: a text to hash is shorter, which is far above what memory holds.
 const LIMIT: usize = 1152921504606846976;
 
 // The hash of text into out, which has as many bytes.
-fn digest(hash: Hash, text: &[u8], out: &mut [u8]) -> u32
-    ensures { answer result out.new ≡ digest_call hash text.now out.old }
+fn digest(hash: Hash, text: &[u8], out: &mut [u8]) -> Result<(), Undone>
+    ensures { answer (number_of result) out.new ≡ digest_call hash text.now out.old }
 {
-    let size = hash.size();
-    if out.len() != size {
-        return 1;
-    }
-    if LIMIT <= text.len() {
-        return 1;
+    if out.len() != hash.size() || LIMIT <= text.len() {
+        return Err(Undone::Size);
     }
     let mut state = State::new(hash);
     state.absorb(text);
-    cells::put_front(out, &state.finish()[..size]);
-    0
+    out.copy_from_slice(&state.finish()[..hash.size()]);
+    Ok(())
 }
 
 // SHA-256 of text into out, which has 32 bytes.
 pub fn prim_sha256(text: &[u8], out: &mut [u8]) -> u32
     ensures { answer result out.new ≡ digest_call Sha256 text.now out.old }
 {
-    digest(Hash::Sha256, text, out)
+    number(digest(Hash::Sha256, text, out))
 }
 
 // SHA-512 of text into out, which has 64 bytes.
 pub fn prim_sha512(text: &[u8], out: &mut [u8]) -> u32
     ensures { answer result out.new ≡ digest_call Sha512 text.now out.old }
 {
-    digest(Hash::Sha512, text, out)
+    number(digest(Hash::Sha512, text, out))
 }
 
 // The HMAC of text under key into out, which has as many bytes.
-fn code(hash: Hash, key: &[u8], text: &[u8], out: &mut [u8]) -> u32
-    ensures { answer result out.new ≡ hmac_call hash key.now text.now out.old }
+fn code(hash: Hash, key: &[u8], text: &[u8], out: &mut [u8]) -> Result<(), Undone>
+    ensures { answer (number_of result) out.new ≡ hmac_call hash key.now text.now out.old }
 {
-    let size = hash.size();
-    if out.len() != size {
-        return 1;
-    }
-    if LIMIT <= key.len() {
-        return 1;
-    }
-    if LIMIT <= text.len() {
-        return 1;
+    if out.len() != hash.size() || LIMIT <= key.len() || LIMIT <= text.len() {
+        return Err(Undone::Size);
     }
     let mut state = hmac::begin(hash, key);
     state.absorb(text);
-    cells::put_front(out, &hmac::finish(key, &state)[..size]);
-    0
+    out.copy_from_slice(&hmac::finish(key, &state)[..hash.size()]);
+    Ok(())
 }
 
 // HMAC-SHA-256 of text under key into out, which has 32 bytes.
 pub fn prim_hmac_sha256(key: &[u8], text: &[u8], out: &mut [u8]) -> u32
     ensures { answer result out.new ≡ hmac_call Sha256 key.now text.now out.old }
 {
-    code(Hash::Sha256, key, text, out)
+    number(code(Hash::Sha256, key, text, out))
 }
 
 // HMAC-SHA-512 of text under key into out, which has 64 bytes.
 pub fn prim_hmac_sha512(key: &[u8], text: &[u8], out: &mut [u8]) -> u32
     ensures { answer result out.new ≡ hmac_call Sha512 key.now text.now out.old }
 {
-    code(Hash::Sha512, key, text, out)
+    number(code(Hash::Sha512, key, text, out))
 }
 
 // Whether runs of these lengths can be sealed or opened.
+#[tactic(auto, unfolding(crate::specs::Sealing::sizes_fit))]
 fn sizes_fit(key: usize, iv: usize, text: usize, tag: usize, out: usize) -> bool
     ensures { result ≡ sizes_fit key iv text tag out }
 {
-    (key == 32) & ((iv == 12) & ((text <= 68719476704) & ((tag == 16) & (out == text))))
+    key == 32 && iv == 12 && text <= 68719476704 && tag == 16 && out == text
+}
+
+// The sealed text into out, which is as long as text, and the tag's 16 bytes.
+fn seal(key: &[u8], iv: &[u8], text: &[u8], out: &mut [u8], tag: &mut [u8]) -> Result<(), Undone>
+    ensures { seal_answer (number_of result) out.new tag.new ≡ seal_call key.now iv.now text.now out.old tag.old }
+{
+    if !sizes_fit(key.len(), iv.len(), text.len(), tag.len(), out.len()) {
+        return Err(Undone::Size);
+    }
+    gcm::seal(key, iv, text, out, tag);
+    Ok(())
 }
 
 // AES-256-GCM with no associated data: the sealed text into out, which is as long as text, and the tag's 16 bytes.
 pub fn prim_gcm_seal(key: &[u8], iv: &[u8], text: &[u8], out: &mut [u8], tag: &mut [u8]) -> u32
     ensures { seal_answer result out.new tag.new ≡ seal_call key.now iv.now text.now out.old tag.old }
 {
+    number(seal(key, iv, text, out, tag))
+}
+
+// The text of a sealed one into out, which is as long.
+fn open(key: &[u8], iv: &[u8], text: &[u8], tag: &[u8], out: &mut [u8]) -> Result<(), Undone>
+    ensures { answer (number_of result) out.new ≡ open_call key.now iv.now text.now tag.now out.old }
+{
     if !sizes_fit(key.len(), iv.len(), text.len(), tag.len(), out.len()) {
-        return 1;
+        return Err(Undone::Size);
     }
-    gcm::seal(key, iv, text, out, tag);
-    0
+    gcm::unseal(key, iv, text, tag, out)?;
+    Ok(())
 }
 
 // The text of a sealed one into out, which is as long; 2 where the tag is wrong, with every byte as it was.
 pub fn prim_gcm_open(key: &[u8], iv: &[u8], text: &[u8], tag: &[u8], out: &mut [u8]) -> u32
     ensures { answer result out.new ≡ open_call key.now iv.now text.now tag.now out.old }
 {
-    if !sizes_fit(key.len(), iv.len(), text.len(), tag.len(), out.len()) {
-        return 1;
-    }
-    match gcm::unseal(key, iv, text, tag, out) {
-        Opened::Text => 0,
-        Opened::Wrong => 2,
-    }
+    number(open(key, iv, text, tag, out))
 }
