@@ -10,8 +10,8 @@ use lib.ListN.{length, get_or, take}
 use lib.Seq.{take-suc}
 use Rattle.cells.specs.Decimal.{decimal, value_after}
 use Rattle.cells.proofs.Digits.{value_append, value_decimal, decimal_injective}
-use Rattle.token.specs.declared.expiry.Expiry.{Expiry}
-use Rattle.token.specs.declared.expiry.Expiry.TheVariants as E
+use Rattle.std.specs.Prelude.{Option, Some, None}
+use Rattle.window.specs.declared.time.Time.{Time}
 use Rattle.token.specs.InnerExpiry.{ExpiryIs}
 
 pub one_more : (digits : List ℕ) (i v : ℕ) → i < length digits → v ≡ value_after 0 (take i digits)
@@ -31,8 +31,8 @@ pub only_number : (digits : List ℕ) (n : ℕ) → digits ≡ decimal n → val
 only_number digits n e = ap (value_after 0) e ∙ value_decimal n
 
 -- two answers that `expiry::read` may give are one
-pub expiry_determined : (digits : List ℕ) (a b : Expiry) → ExpiryIs digits a → ExpiryIs digits b → a ≡ b
-expiry_determined digits (E.Is s) (E.Is t) p q = ap (λ (n : ℕ). E.Is (record { 0 = n })) (decimal_injective s.0 t.0 (sym p.0 ∙ q.0))
-expiry_determined digits (E.Is s) E.Bad p q = absurd (q s.0 p.1 p.0)
-expiry_determined digits E.Bad (E.Is t) p q = absurd (p t.0 q.1 q.0)
-expiry_determined digits E.Bad E.Bad p q = refl
+pub expiry_determined : (digits : List ℕ) (a b : Option Time) → ExpiryIs digits a → ExpiryIs digits b → a ≡ b
+expiry_determined digits (Some s) (Some t) p q = ap (λ (n : ℕ). Some (record { 0 = n })) (decimal_injective s.0 t.0 (sym p.0 ∙ q.0))
+expiry_determined digits (Some s) None p q = absurd (q s.0 p.1 p.0)
+expiry_determined digits None (Some t) p q = absurd (p t.0 q.1 q.0)
+expiry_determined digits None None p q = refl

@@ -1,10 +1,13 @@
 -- The three netstrings of a token: how long they are, and where they stand.
 -- Assumes nothing.
-use mathlib.Core.List.{List, [], ◌∷◌, ◌++◌}
-use mathlib.Core.Path.{◌≡◌}
+use mathlib.Core.List.{List, [], ◌∷◌, ◌++◌, append_assoc, append-nil}
+use mathlib.Core.Path.{◌≡◌, ap, ◌∙◌}
 use Prim.Native.Nat.{ℕ, ◌+◌, ◌^◌, ◌≤◌, ◌<◌}
 use native.Mathlib.Omega.{arith}
-use lib.ListN.{length, length-append}
+use lib.ListN.{length, take, length-append}
+use Rattle.cells.specs.InnerLaid.{Laid}
+use Rattle.cells.proofs.Laid.{laid_more}
+use Rattle.cells.proofs.Runs.{front_spliced}
 use Rattle.cells.specs.Runs.{Bytes}
 use Rattle.cells.specs.Decimal.{decimal}
 use Rattle.netstring.specs.Netstring.{netstring, netstrings}
@@ -50,5 +53,15 @@ bytes_text t h k =
     (bytes_joined (netstring t.id) (netstrings (decimal t.expiry ∷ [])) (bytes_netstring t.id k)
     (bytes_joined (netstring (decimal t.expiry)) [] (bytes_netstring (decimal t.expiry) (bytes_decimal t.expiry)) (λ i. omega arith)))
 
-pub within_front : (xs ys : List ℕ) (n : ℕ) → length xs ≡ n → n ≤ length (xs ++ ys)
-within_front xs ys n e = omega (arith, length-append xs ys)
+-- three netstrings laid one after the other at the front of a buffer
+pub laid_text : (t : Token) (digits : List ℕ) {out first second third : List ℕ} {key_end id_end end : ℕ} → Sized t.key t.id t.expiry → length out ≡ 118
+    → digits ≡ decimal t.expiry → Laid out first 0 key_end (netstring t.key) → Laid first second key_end id_end (netstring t.id)
+    → Laid second third id_end end (netstring digits) → take end third ≡ token_text t
+unfolding token_text netstrings
+laid_text t digits {out} {first} {second} {third} {key_end} {id_end} {end} s long shown p q r =
+    let room = short t.key t.id t.expiry s in
+    let last : Laid second third id_end end (netstring (decimal t.expiry)) = rw shown at r in
+    let all = laid_more (laid_more p q (omega (arith, p.ends, q.ends))) last (omega (arith, p.ends, q.ends, last.ends)) in
+    let joined : (netstring t.key ++ netstring t.id) ++ netstring (decimal t.expiry) ≡ netstrings (t.key ∷ t.id ∷ decimal t.expiry ∷ []) =
+    simp (append_assoc, append-nil) in
+    ap (take end) all.is ∙ front_spliced out _ 0 end (omega arith) (omega (arith, all.ends)) ∙ joined

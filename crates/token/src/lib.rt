@@ -2,7 +2,7 @@
 #![tactic(auto)]
 
 ghost use Rattle.std.specs.Prelude.{◌≡◌, [], ◌∷◌, ◌≤◌, length};
-ghost use Rattle.cells.specs.InnerLaid.{Laid};
+ghost use Rattle.cells.specs.Run.{run_of};
 ghost use Rattle.netstring.specs.Netstring.{netstrings};
 ghost use Rattle.token.specs.Token.{token_text, token_in, sealed_token, opened_token};
 ghost use Rattle.token.specs.InnerHeld.{Unseals, SealsTo};
@@ -26,15 +26,17 @@ pub struct SealedToken {
     pub tag: [u8; 16],
 }
 
-// The text of a token at the front of out, and its length.
-fn lay(key: &[u8; 32], id: &[u8], expiry: Time, out: &mut [u8; 118]) -> usize
+// The text of a token.
+fn text_of(key: &[u8; 32], id: &[u8], expiry: Time) -> Run<118>
     requires { (1 ≤ length id.now) × (length id.now ≤ 64) }
-    ensures { Laid out.old out.new 0 result (token_text (record { key = key.now; id = id.now; expiry = expiry.0 })) }
+    ensures { run_of result ≡ token_text (record { key = key.now; id = id.now; expiry = expiry.0 }) }
 {
     let digits = decimal::digits(u64::from(expiry.0));
-    let key_end = netstring::write(key, out, 0);
-    let id_end = netstring::write(id, out, key_end);
-    netstring::write(digits.as_slice(), out, id_end)
+    let mut text = [0; 118];
+    let key_end = netstring::write(key, &mut text, 0);
+    let id_end = netstring::write(id, &mut text, key_end);
+    let end = netstring::write(digits.as_slice(), &mut text, id_end);
+    Run::of(&text[..end])
 }
 
 // The token of a new session, sealed under the server's key and the session's IV.
@@ -48,15 +50,12 @@ pub fn seal(
     requires { (1 ≤ length id.now) × (length id.now ≤ 64) }
     ensures { SealsTo (sealed_token server_key.now iv.now (record { key = key.now; id = id.now; expiry = expiry.0 })) result }
 {
-    let mut text = [0; 118];
-    let size = lay(key, id, expiry, &mut text);
+    let text = text_of(key, id, expiry);
     let mut s = [0; 118];
+    let s = &mut s[..text.len()];
     let mut tag = [0; 16];
-    gcm::seal(server_key, iv, &text[..size], &mut s[..size], &mut tag);
-    SealedToken {
-        s: Run::of(&s[..size]),
-        tag,
-    }
+    gcm::seal(server_key, iv, text.as_slice(), s, &mut tag);
+    SealedToken { s: Run::of(s), tag }
 }
 
 // The token of three parts, if each is within its size or range.
