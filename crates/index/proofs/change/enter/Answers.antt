@@ -1,5 +1,5 @@
 -- The entry is put at the rank of the record's IV.
-use Rattle.std.proofs.Common.{arith, rules}
+use Rattle.std.proofs.Common.{arith}
 use Rattle.table.proofs.Records.{length_records}
 use Rattle.index.proofs.Held.{holds_long}
 use Rattle.index.proofs.Changed.{room_made, entry_made, ranks_of}
@@ -9,7 +9,7 @@ pub read-record-requires : goal.read-record-requires
 read-record-requires c = omega (arith, c.requires.used, length_records c.args.table.now)
 
 pub rank-at-requires : goal.rank-at-requires
-rank-at-requires c = (search rules, record { ps = c.requires.ps; holds = c.requires.holds })
+rank-at-requires c = record { ps = c.requires.ps; holds = c.requires.holds }
 
 pub slice_bounds-open-count : goal.slice_bounds-open-count
 slice_bounds-open-count c = omega (arith, c.rank-at.ensures.within, holds_long c.requires.holds)

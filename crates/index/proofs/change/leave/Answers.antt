@@ -1,5 +1,5 @@
 -- The entry that goes is the one at the rank of the record's IV.
-use Rattle.std.proofs.Common.{sym, ap, ◌∙◌, arith, rules}
+use Rattle.std.proofs.Common.{sym, ap, ◌∙◌, arith}
 use Rattle.table.specs.declared.session.Record.{Record}
 use Rattle.table.proofs.Records.{length_records, records_at}
 use Rattle.index.proofs.Held.{indexed_holds, holds_long}
@@ -13,7 +13,7 @@ returns-then-record-ne1 c =
     freed_unused _ _ c.requires.0 c.requires.1 (λ u. c.if-record-ne1.true (ap (λ (r : Record). r.used) (sym here) ∙ u))
 
 pub rank-at-requires : goal.rank-at-requires
-rank-at-requires c = (search rules, record { ps = _; holds = indexed_holds c.requires.1 })
+rank-at-requires c = record { ps = _; holds = indexed_holds c.requires.1 }
 
 pub overflow_mul-at : goal.overflow_mul-at
 overflow_mul-at c = omega (arith, c.rank-at.ensures.within, c.requires.1.few, length_records c.args.table.now)

@@ -10,22 +10,22 @@ use Rattle.index.proofs.lookup.find.Goals as goal
 use Rattle.index.proofs.lookup.find.Goals.{then-place-n, else-place-n}
 
 pub rank-at-requires : goal.rank-at-requires
-rank-at-requires c = (c.requires.0, record { ps = _; holds = indexed_holds c.requires.1 })
+rank-at-requires c = record { ps = _; holds = indexed_holds c.requires }
 
 pub returns-then-n-at : goal.returns-then-n-at
 returns-then-n-at c = record {
-  is = sym (missing c.requires.1 _ c.rank-at.ensures (λ l m e. absurd (omega (arith, c.if-n-at.true, length_records c.args.table.now))));
+  is = sym (missing c.requires _ c.rank-at.ensures (λ l m e. absurd (omega (arith, c.if-n-at.true, length_records c.args.table.now))));
   within = tt;
 }
 
 pub read-place-requires : goal.read-place-requires
 read-place-requires c =
-    omega (arith, c.if-n-at.false, holds_long (indexed_holds c.requires.1), length_records c.args.table.now)
+    omega (arith, c.if-n-at.false, holds_long (indexed_holds c.requires), length_records c.args.table.now)
 
 pub returns : goal.returns
 returns c =
     let long = length_records c.args.table.now in
-    let answer = answered c.requires.1 c.args.iv.now c.rank-at.ensures c.read-place.result c.if-place-n.then_some c.read-place.ensures in
+    let answer = answered c.requires c.args.iv.now c.rank-at.ensures c.read-place.result c.if-place-n.then_some c.read-place.ensures in
     rw c.then_some.ensures (elim c.if-place-n.branch [
       | then-place-n w ↦
           let here = ap (holds c.args.iv.now) (records_at c.args.table.now _ w.if-place-n.true) ∙ sym w.has_iv.ensures ∙ sym w.then_some-is in

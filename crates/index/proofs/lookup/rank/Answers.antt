@@ -16,18 +16,18 @@ loop-low-init c = record {
 }
 
 pub read-requires : goal.read-requires
-read-requires c = omega (arith, c.loop-low.invariant.within, c.loop-low-test.true, holds_long c.requires.1.holds)
+read-requires c = omega (arith, c.loop-low.invariant.within, c.loop-low-test.true, holds_long c.requires.holds)
 
 pub loop-low-preserved-then-is_low : goal.loop-low-preserved-then-is_low
 loop-low-preserved-then-is_low c =
     let loop = c.loop-low in
-    bracket_up c.requires.1.holds c.args.iv.now loop.invariant (loop.low + (loop.high - loop.low) / 2) (omega arith) (omega (arith, c.loop-low-test.true))
+    bracket_up c.requires.holds c.args.iv.now loop.invariant (loop.low + (loop.high - loop.low) / 2) (omega arith) (omega (arith, c.loop-low-test.true))
     (ap (low_at (records c.args.table.now) c.args.iv.now) (sym c.read.ensures) ∙ sym c.is_low.ensures ∙ c.if-is_low.true)
 
 pub loop-low-preserved : goal.loop-low-preserved
 loop-low-preserved c =
     let loop = c.loop-low in
-    bracket_down c.requires.1.holds c.args.iv.now loop.invariant (loop.low + (loop.high - loop.low) / 2) (omega arith) (omega (arith, c.loop-low-test.true))
+    bracket_down c.requires.holds c.args.iv.now loop.invariant (loop.low + (loop.high - loop.low) / 2) (omega arith) (omega (arith, c.loop-low-test.true))
     (ap (low_at (records c.args.table.now) c.args.iv.now) (sym c.read.ensures) ∙ sym c.is_low.ensures ∙ c.if-is_low.false)
 
 pub returns : goal.returns

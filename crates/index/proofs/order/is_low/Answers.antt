@@ -22,5 +22,5 @@ returns-then-is_used c =
     let inside = told_within _ _ c.is_used.ensures c.if-is_used.true in
     c.lt.ensures ∙ keys_lt c.key_at.result c.key_at-then-is_used.result (omega arith) (omega arith)
     ∙ ap₂ ltb c.key_at.ensures c.key_at-then-is_used.ensures
-    ∙ sym (precedes_twelve table iv (size * c.args.place + 1) 0 (λ i. (c.type_inv.table i).fits) (λ i. (c.type_inv.iv i).fits) (omega arith) (omega arith))
+    ∙ sym (precedes_twelve table iv (size * c.args.place + 1) 0 (λ i. (c.type_inv.table i).fits) c.fits-iv (omega arith) (omega arith))
     ∙ rw (← c.is_used.ensures, c.if-is_used.true, iv_bytes _ _ inside, take_all 12 iv (omega arith))
