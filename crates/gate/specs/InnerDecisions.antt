@@ -8,23 +8,25 @@ use Rattle.table.specs.Table.{places, Within}
 use Rattle.table.specs.Session.{place_of, held_at, with_record}
 use Rattle.index.specs.Index.{Indexed}
 use Rattle.stages.specs.declared.refusal.Refusal.{Refusal}
+use Rattle.stages.specs.declared.admitting.Session.{Session}
 use Rattle.stages.specs.declared.settling.Decision.{Decision}
 use Rattle.stages.specs.Refusals.{number_of, number_in}
 use Rattle.stages.specs.Request.{Request}
 use Rattle.stages.specs.Checks.{Check, first, nowhere}
 use Rattle.stages.specs.Parts.{iv_of, hash_of, token_of, reading_part, vouching_part, admitting_part, invalidates}
 use Rattle.stages.specs.InnerStages.{tells, About, stored_of, Settles}
-use Rattle.orders.specs.Orders.{Orders}
+use Rattle.orders.specs.Orders.{Orders, orders_good, OrderedBy}
+use Rattle.orders.specs.declared.Ordered.{Ordered}
 use Rattle.gate.specs.declared.asked.Asked.{Asked}
 use Rattle.gate.specs.Sizes.{request_fits}
 use Rattle.gate.specs.InnerSizes.{request_by}
 use Rattle.gate.specs.State.{State, holding, indexed, Outcome, outcome}
 use Rattle.gate.specs.Judge.{request_checks, answered}
 
--- an IV's session stands at this place of a table, or nowhere, and its record holds this
-pub record StandsIn (table iv : List ℕ) (place : Option ℕ) (held : Record) : Type 0 where
-  pub at : place_of table iv ≡ place
-  pub holds : nowhere place ≡ false → held_at table place ≡ held
+-- the session of an IV in a table: where it stands, and what its record holds
+abbrev pub StandsIn : List ℕ → List ℕ → Option Session → Type 0
+StandsIn table iv (Some s) = (place_of table iv ≡ Some s.place) × (held_at table (Some s.place) ≡ s.record)
+StandsIn table iv None = place_of table iv ≡ None
 
 -- a refusal by some checks that touches nothing
 pub record Refuses (checks : List Check) (e : Refusal) : Type 0 where
@@ -52,10 +54,16 @@ pub record DecidesAs (q : Request) (s : State) (d : Decision) : Type 0 where
 abbrev pub Decides : Request → State → Result Decision Refusal → Type 0
 Decides q s r = MatchResult r (DecidesAs q s) (Refuses (request_checks q s))
 
--- of any request with these parts that passes check 1
-abbrev pub DecidesRequest : Orders → ℕ → List ℕ → Asked → State → Result Decision Refusal → Type 0
-DecidesRequest o clock server_key a s r =
-    (reply : List ℕ) → let q = request_by o clock server_key a reply in request_fits q s ≡ true → Decides q s r
+-- of any request with these parts, under good orders that say this, that passes check 1
+abbrev pub DecidesRequest : Ordered → ℕ → List ℕ → Asked → State → Result Decision Refusal → Type 0
+DecidesRequest ordered clock server_key a s r =
+    (o : Orders) (reply : List ℕ) → orders_good o ≡ true → OrderedBy o ordered
+    → let q = request_by o clock server_key a reply in request_fits q s ≡ true → Decides q s r
+
+-- and from 4 on, of any table in which the session stands so
+abbrev pub JudgesRequest : Ordered → ℕ → List ℕ → Asked → List ℕ → Result Decision Refusal → Type 0
+JudgesRequest ordered clock server_key a table r =
+    (o : Orders) (reply : List ℕ) → OrderedBy o ordered → Judges (request_by o clock server_key a reply) table r
 
 -- the state after an outcome at a place
 abbrev pub left_at : Result (Option Record) Refusal → Option ℕ → State → State

@@ -14,11 +14,11 @@ use Rattle.gate.specs.Trial.{trial_of, trial_fits}
 -- the parts of what a request brings
 pub record Brings (value' method' head' aside' path' body' : List ℕ) (r : Asked) : Type 0 where
   pub value : r.value.now ≡ value'
-  pub method : r.method.now ≡ method'
-  pub head : r.head.now ≡ head'
-  pub aside : r.aside.now ≡ aside'
-  pub path : r.path.now ≡ path'
-  pub body : r.body.now ≡ body'
+  pub method : r.brought.method.now ≡ method'
+  pub head : r.brought.lines.head.now ≡ head'
+  pub aside : r.brought.lines.aside.now ≡ aside'
+  pub path : r.brought.path.now ≡ path'
+  pub body : r.brought.body.now ≡ body'
 
 -- what a request brings, whatever numbers it comes with
 abbrev pub AskedFits : List ℕ → List ℕ → List ℕ → List ℕ → List ℕ → List ℕ → Option Asked → Type 0
@@ -58,7 +58,8 @@ SetupFits server_key session_key iv session_id value table index reply r =
 
 -- a request and a setup with these parts
 abbrev pub request_by : Orders → ℕ → List ℕ → Asked → List ℕ → Request
-request_by o clock server_key a reply = request_of o clock server_key a.value.now a.method.now a.head.now a.aside.now a.path.now a.body.now reply
+request_by o clock server_key a reply =
+    let b = a.brought in request_of o clock server_key a.value.now b.method.now b.lines.head.now b.lines.aside.now b.path.now b.body.now reply
 
 abbrev pub setup_by : Orders → ℕ → Lent → List ℕ → Setup
 setup_by o clock l reply = setup_of o clock l.server_key.now l.session_key.now l.iv.now l.session_id.now l.value.now reply

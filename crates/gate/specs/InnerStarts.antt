@@ -9,7 +9,9 @@ use Rattle.table.specs.Record.{size, record_bytes, begun}
 use Rattle.table.specs.Table.{places, records, taken}
 use Rattle.table.specs.Session.{place_of}
 use Rattle.token.specs.Token.{sealed_token}
-use Rattle.orders.specs.Orders.{Orders}
+use Rattle.names.specs.declared.covered.Covered.{Covered}
+use Rattle.orders.specs.Orders.{Orders, orders_good, OrderedBy}
+use Rattle.orders.specs.declared.Ordered.{Ordered}
 use Rattle.gate.specs.declared.lent.Lent.{Lent}
 use Rattle.gate.specs.declared.setup.Start.{Start}
 use Rattle.gate.specs.declared.setup.Offer.{Offer}
@@ -68,14 +70,15 @@ pub record Starts (s : Setup) (state : State) (r : Start) : Type 0 where
 abbrev pub StartIs : Setup → State → Result Start Refusal → Type 0
 StartIs s state r = MatchResult r (Starts s state) (RefusedBy (setup_checks s state))
 
--- of any setup with these parts that passes check 1
-abbrev pub DecidesStart : Orders → ℕ → Lent → State → Result Start Refusal → Type 0
-DecidesStart o clock l state r =
-    (reply : List ℕ) → let s = setup_by o clock l reply in setup_fits s state ≡ true → StartIs s state r
+-- of any setup with these parts, under good orders that say this, that passes check 1
+abbrev pub DecidesStart : Ordered → ℕ → Lent → State → Result Start Refusal → Type 0
+DecidesStart ordered clock l state r =
+    (o : Orders) (reply : List ℕ) → orders_good o ≡ true → OrderedBy o ordered
+    → let s = setup_by o clock l reply in setup_fits s state ≡ true → StartIs s state r
 
 -- the effect of a setup that takes a place
-unfoldable pub start_at : ℕ → List ℕ → Lent → Start → List ℕ → List ℕ → Outcome
-start_at mask extra lent start table reply =
+unfoldable pub start_at : Covered → Lent → Start → List ℕ → List ℕ → Outcome
+start_at covered lent start table reply =
     let token = sealed_token lent.server_key.now lent.iv.now (record { key = lent.session_key.now; id = lent.session_id.now; expiry = start.expiry.0 }) in
-    replied 0 (setup_reply token.cipher lent.iv.now token.tag lent.session_key.now start.hash mask extra) reply
+    replied 0 (setup_reply token.cipher lent.iv.now token.tag lent.session_key.now start.hash covered.mask covered.extra.now) reply
     (indexed (spliced table (size * start.place) (record_bytes (begun lent.iv.now start.expiry.0 (hash_mask start.hash)))))

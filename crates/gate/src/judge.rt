@@ -1,7 +1,5 @@
 // Judging a request: a decision that writes nothing, and its effect.
-ghost use Rattle.std.specs.Prelude.{◌≡◌, true, ◌≤◌, ◌<◌, ℕ, List, length};
-ghost use Rattle.names.specs.InnerWalk.{Known};
-ghost use Rattle.orders.specs.Orders.{orders, limits_of, orders_good};
+ghost use Rattle.std.specs.Prelude.{◌≡◌, true, ◌≤◌, List, ℕ, length};
 ghost use Rattle.table.specs.Table.{places, Within};
 ghost use Rattle.index.specs.Index.{Indexed};
 ghost use Rattle.stages.specs.Parts.{invalidates};
@@ -9,112 +7,81 @@ ghost use Rattle.stages.specs.Refusals.{number_of, number_in};
 ghost use Rattle.stages.specs.InnerStages.{tells};
 ghost use Rattle.gate.specs.State.{holding};
 ghost use Rattle.gate.specs.Sizes.{state_fits};
-ghost use Rattle.gate.specs.InnerSizes.{request_by};
-ghost use Rattle.gate.specs.InnerDecisions.{DecidesRequest, Judges, StandsIn, left_by, AnswerIs};
+ghost use Rattle.gate.specs.InnerDecisions.{DecidesRequest, JudgesRequest, StandsIn, left_by, AnswerIs};
 
 use super::asked::Asked;
 use super::entry;
+use armor::fields::Fields;
 use index::{change, lookup};
-use orders::{Limits, Numbers};
+use lines::noting::Notes;
+use names::KnownNames;
+use orders::Ordered;
+use stages::admitting::Session;
 use stages::refusal::Refusal;
 use stages::settling::Decision;
 use stages::{reading, settling, vouching};
 use table::session;
-use table::session::Record;
 use window::time::Time;
 
 pub fn decide(
-    known: &[u8],
-    numbers: Numbers,
-    extra: &[u8],
+    known: &KnownNames,
+    ordered: &Ordered,
     clock: Time,
     server_key: &[u8; 32],
     asked: &Asked,
     table: &[u8],
     index: &[u8],
 ) -> Result<Decision, Refusal>
-    requires { Known known.now × (state_fits (holding table.now index.now) ≡ true) }
-    ensures { DecidesRequest (orders numbers extra.now) clock.0 server_key.now asked.now (holding table.now index.now) result }
+    requires { state_fits (holding table.now index.now) ≡ true }
+    ensures { DecidesRequest ordered.now clock.0 server_key.now asked.now (holding table.now index.now) result }
 {
-    let limits = orders::check(known, numbers, extra).ok_or(Refusal::BadOrders)?;
     entry::state(table, index)?;
-    judged(
-        known,
-        numbers,
-        extra,
-        limits,
-        clock,
-        server_key,
-        asked,
-        |iv| {
-            let place = lookup::find(table, index, iv);
-            (place, session::held_at(table, place))
-        },
-    )
+    judged(known, ordered, clock, server_key, asked, |iv| {
+        lookup::find(table, index, iv).map(|place| Session {
+            place,
+            record: session::read(table, place),
+        })
+    })
 }
 
-// The stages from reading on, over the session that `find` tells of an IV: its place, and what its record holds.
-pub fn judged<F: Fn(&[u8; 12]) -> (Option<usize>, Record)>(
-    known: &[u8],
-    numbers: Numbers,
-    extra: &[u8],
-    limits: Limits,
+// The stages from reading on, over the session that `find` finds by its IV.
+pub fn judged<F: Fn(&[u8; 12]) -> Option<Session>>(
+    known: &KnownNames,
+    ordered: &Ordered,
     clock: Time,
     server_key: &[u8; 32],
     asked: &Asked,
     find: F,
 ) -> Result<Decision, Refusal>
-    requires known { Known known.now }
-    requires good { orders_good (orders numbers extra.now) ≡ true }
-    requires limits { limits ≡ limits_of (orders numbers extra.now) }
-    requires callable { F.IsAlwaysCallable find }
-    ensures { (reply table : List ℕ) → ((iv : _) (r : _) → F.post find iv r → StandsIn table iv.now r.0 r.1) → Judges (request_by (orders numbers extra.now) clock.0 server_key.now asked.now reply) table result }
+    requires { F.IsAlwaysCallable find }
+    ensures { (table : List ℕ) → ((iv : _) (session : _) → F.post find iv session → StandsIn table iv.now session) → JudgesRequest ordered.now clock.0 server_key.now asked.now table result }
 {
-    // The request's byte fields lie here as armor::Request tells, for every stage.
-    let mut fields = [0u8; 210];
-    // And the notes on the covered names in either block, as many as there are names: lines::noting.
-    let mut in_head = [0u16; 64];
-    let mut in_aside = [0u16; 64];
-    let read = reading::read(
+    let mut fields = Fields::new();
+    let mut notes = Notes::new();
+    let brought = &asked.brought;
+    let request = reading::read(
         known,
-        numbers,
-        extra,
+        ordered,
         asked.value,
-        asked.method,
-        asked.head,
-        asked.aside,
+        brought.method,
+        &brought.lines,
         &mut fields,
-        &mut in_head,
-        &mut in_aside,
+        &mut notes,
     )?;
-    let token = vouching::unseal(server_key, &read.request, &fields)?;
-    let mut iv = [0u8; 12];
-    iv.copy_from_slice(&fields[182..194]);
-    let (place, held) = find(&iv);
+    let token = vouching::unseal(server_key, &fields)?;
+    let session = find(&fields.iv);
+    let covered = &ordered.covered;
     let vouched = vouching::vouch(
-        numbers,
-        extra,
-        clock,
-        &token,
-        &read.request,
-        &fields,
-        asked.method,
-        asked.head,
-        asked.aside,
-        &in_head[..read.covered],
-        &in_aside[..read.covered],
-        asked.path,
-        asked.body,
+        covered, clock, &token, &request, &fields, brought, &notes,
     );
     Ok(settling::settle(
-        numbers,
+        covered.mask % 2 == 1,
         clock,
         vouched,
         &token,
-        &read.request,
-        &limits,
-        place,
-        &held,
+        &request,
+        &ordered.limits,
+        session,
     ))
 }
 

@@ -8,7 +8,7 @@ pub struct Lent<'a> {
     pub iv: &'a [u8; 12],
     pub session_id: &'a [u8],
     pub value: &'a [u8],
-    ghost some_id: { 1 ≤ length session_id.now },
-    ghost id_fits: { length session_id.now ≤ 64 },
-    ghost value_fits: { length value.now ≤ 4096 },
+    pub ghost some_id: { 1 ≤ length session_id.now },
+    pub ghost id_fits: { length session_id.now ≤ 64 },
+    pub ghost value_fits: { length value.now ≤ 4096 },
 }

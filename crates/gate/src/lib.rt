@@ -72,8 +72,11 @@ pub fn gate_setup(
         idle,
         session_life,
     };
-    match setup::decide(&known, numbers, extra, Time(clock), &lent, table, index) {
-        Ok(start) => setup::apply(&lent, &start, mask, extra, table, index, reply),
+    let Some(ordered) = orders::check(&known, numbers, extra) else {
+        return Refusal::BadOrders.number();
+    };
+    match setup::decide(&ordered, Time(clock), &lent, table, index) {
+        Ok(start) => setup::apply(&ordered.covered, &lent, &start, table, index, reply),
         Err(refusal) => refusal.number(),
     }
 }
@@ -114,10 +117,12 @@ pub fn gate_judge<'a>(
         idle,
         session_life,
     };
+    let Some(ordered) = orders::check(&known, numbers, extra) else {
+        return Refusal::BadOrders.number();
+    };
     match judge::decide(
         &known,
-        numbers,
-        extra,
+        &ordered,
         Time(clock),
         server_key,
         &asked,
@@ -166,10 +171,12 @@ pub fn gate_judge_one<'a>(
         idle,
         session_life,
     };
+    let Some(ordered) = orders::check(&known, numbers, extra) else {
+        return Refusal::BadOrders.number();
+    };
     match one::decide(
         &known,
-        numbers,
-        extra,
+        &ordered,
         Time(clock),
         server_key,
         &asked,

@@ -1,19 +1,20 @@
 // Setting up a session: a decision that writes nothing, and its effect.
-ghost use Rattle.std.specs.Prelude.{◌≡◌, true, ◌+◌, ◌<◌, ◌≤◌, ◌^◌, length};
+ghost use Rattle.std.specs.Prelude.{◌≡◌, true, ◌+◌, ◌<◌, ◌≤◌, length};
 ghost use Rattle.table.specs.Session.{place_of};
 ghost use Rattle.table.specs.Table.{places};
 ghost use Rattle.index.specs.Index.{Indexed};
-ghost use Rattle.names.specs.InnerWalk.{Known};
-ghost use Rattle.orders.specs.Orders.{orders};
 ghost use Rattle.gate.specs.State.{holding, outcome};
 ghost use Rattle.gate.specs.Sizes.{state_fits};
 ghost use Rattle.gate.specs.InnerStarts.{DecidesStart, UntilIs, OfferIs, RoomIs, start_at};
 
 use super::entry;
 use super::lent::Lent;
+use armor::Reply;
+use cells::Run;
 use hashes::Hash;
 use index::{change, lookup};
-use orders::Numbers;
+use names::Covered;
+use orders::Ordered;
 use stages::refusal::Refusal;
 use table::{place, session};
 use window::time::Time;
@@ -27,20 +28,22 @@ pub struct Start {
 }
 
 pub fn decide(
-    known: &[u8],
-    numbers: Numbers,
-    extra: &[u8],
+    ordered: &Ordered,
     clock: Time,
     lent: &Lent,
     table: &[u8],
     index: &[u8],
 ) -> Result<Start, Refusal>
-    requires { Known known.now × (state_fits (holding table.now index.now) ≡ true) }
-    ensures { DecidesStart (orders numbers extra.now) clock.0 lent.now (holding table.now index.now) result }
+    requires { state_fits (holding table.now index.now) ≡ true }
+    ensures { DecidesStart ordered.now clock.0 lent.now (holding table.now index.now) result }
 {
-    let limits = orders::check(known, numbers, extra).ok_or(Refusal::BadOrders)?;
     entry::state(table, index)?;
-    let offer = offered(lent.value, numbers.hashes, clock, limits.session_life)?;
+    let offer = offered(
+        lent.value,
+        ordered.hashes,
+        clock,
+        ordered.limits.session_life,
+    )?;
     let place = room(table, index, lent.iv, clock)?;
     Ok(Start {
         place,
@@ -89,16 +92,15 @@ fn room(table: &[u8], index: &[u8], iv: &[u8; 12], clock: Time) -> Result<usize,
 
 // The effect of a setup that nothing refuses.
 pub fn apply(
+    covered: &Covered,
     lent: &Lent,
     start: &Start,
-    mask: u64,
-    extra: &[u8],
     table: &mut [u8],
     index: &mut [u8],
     reply: &mut [u8],
 ) -> u32
-    requires { (mask < 2 ^ 56) × (length extra.now ≤ 128) × (start.now.place < places table.old) × (1024 ≤ length reply.old) × Indexed table.old index.old × (place_of table.old lent.now.iv.now ≡ None) }
-    ensures { outcome result reply.new (holding table.new index.new) ≡ start_at mask extra.now lent.now start.now table.old reply.old }
+    requires { (start.now.place < places table.old) × (1024 ≤ length reply.old) × Indexed table.old index.old × (place_of table.old lent.now.iv.now ≡ None) }
+    ensures { outcome result reply.new (holding table.new index.new) ≡ start_at covered.now lent.now start.now table.old reply.old }
 {
     let sealed = token::seal(
         lent.server_key,
@@ -107,16 +109,16 @@ pub fn apply(
         lent.session_id,
         start.expiry,
     );
-    let len = reply::setup(
-        reply,
-        sealed.s.as_slice(),
-        lent.iv,
-        &sealed.tag,
-        lent.session_key,
-        start.hash,
-        mask,
-        extra,
-    );
+    let told = Reply {
+        s: sealed.s,
+        iv: *lent.iv,
+        tag: sealed.tag,
+        key: *lent.session_key,
+        h: start.hash.mask(),
+        ah: covered.mask,
+        eah: Run::of(covered.extra),
+    };
+    let len = reply::setup(reply, &told);
     let session = session::begin(lent.iv, start.expiry, start.hash.mask() as u8);
     change::take(table, index, start.place, session);
     256 * (len as u32)

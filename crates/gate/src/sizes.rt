@@ -6,6 +6,8 @@ ghost use Rattle.gate.specs.InnerSizes.{SetupFits, RequestFits, AskedFits, Trial
 
 use super::asked::Asked;
 use super::lent::Lent;
+use lines::Blocks;
+use signed::Brought;
 use table::session::SIZE;
 
 // Records in a table, bytes in what a request brings, and bytes in a reply buffer.
@@ -137,11 +139,12 @@ fn asked<'a>(
     {
         return Some(Asked {
             value,
-            method,
-            head,
-            aside,
-            path,
-            body,
+            brought: Brought {
+                method,
+                lines: Blocks { head, aside },
+                path,
+                body,
+            },
         });
     }
     None

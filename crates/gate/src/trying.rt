@@ -1,19 +1,19 @@
 // A request held against the reply to a setup, by the stages that judge a request.
-ghost use Rattle.std.specs.Prelude.{◌≡◌, true, ◌≤◌, length};
-ghost use Rattle.names.specs.Extra.{good_extra};
-ghost use Rattle.names.specs.InnerWalk.{Known};
-ghost use Rattle.orders.specs.Orders.{orders};
+ghost use Rattle.std.specs.Prelude.{◌≡◌};
 ghost use Rattle.stages.specs.Refusals.{number_in};
 ghost use Rattle.gate.specs.Trial.{trial_of, tried};
 ghost use Rattle.gate.specs.InnerTrials.{SameTokenIs, AgainstIs};
 
 use super::asked::Asked;
 use super::sizes;
-use armor::{Reply, Request};
-use hashes::Hash;
-use orders::Numbers;
+use armor::Reply;
+use armor::fields::Fields;
+use lines::noting::Notes;
+use names::KnownNames;
+use orders::{Numbers, Ordered};
+use reply::reading;
 use stages::refusal::Refusal;
-use stages::{reading, vouching};
+use stages::vouching;
 
 // Whether a client's request fits the reply to its setup: checks 1, 23, 4 to 8 and 11.
 pub fn fits<'a>(
@@ -29,8 +29,8 @@ pub fn fits<'a>(
 {
     let asked = sizes::trial(setup_reply, value, method, head, aside, path, body)
         .ok_or(Refusal::WrongSize)?;
-    let reply = reply::reading::read(setup_reply).ok_or(Refusal::BadReply)?;
-    let extra = reply.eah.as_slice();
+    let reply = reading::read(setup_reply).ok_or(Refusal::BadReply)?;
+    let known = names::known();
     let numbers = Numbers {
         mask: reply.ah,
         hashes: reply.h,
@@ -38,55 +38,42 @@ pub fn fits<'a>(
         idle: 0,
         session_life: 0,
     };
-    let known = names::known();
-    orders::check(&known, numbers, extra).ok_or(Refusal::BadReply)?;
-    against(&known, numbers, extra, &reply, &asked)
+    let ordered =
+        orders::check(&known, numbers, reply.eah.as_slice()).ok_or(Refusal::BadReply)?;
+    against(&known, &ordered, &reply, &asked)
 }
 
 // Checks 4 to 8 and 11, by the orders and the key of a reply.
 fn against(
-    known: &[u8],
-    numbers: Numbers,
-    extra: &[u8],
+    known: &KnownNames,
+    ordered: &Ordered,
     reply: &Reply,
     asked: &Asked,
 ) -> Result<(), Refusal>
-    requires { Known known.now × (good_extra extra.now ≡ true) }
-    ensures { AgainstIs (orders numbers extra.now) reply.now asked.now result }
+    ensures { AgainstIs ordered.now reply.now asked.now result }
 {
-    // As in judge::judged.
-    let mut fields = [0u8; 210];
-    let mut in_head = [0u16; 64];
-    let mut in_aside = [0u16; 64];
-    let read = reading::read(
+    let mut fields = Fields::new();
+    let mut notes = Notes::new();
+    let brought = &asked.brought;
+    let request = stages::reading::read(
         known,
-        numbers,
-        extra,
+        ordered,
         asked.value,
-        asked.method,
-        asked.head,
-        asked.aside,
+        brought.method,
+        &brought.lines,
         &mut fields,
-        &mut in_head,
-        &mut in_aside,
+        &mut notes,
     )?;
-    if !same_token(&read.request, &fields, reply) {
+    if !same_token(&fields, reply) {
         return Err(Refusal::NotAsOrdered);
     }
     if !vouching::signs(
-        numbers,
-        extra,
+        &ordered.covered,
         &reply.key,
-        &read.request,
+        &request,
         &fields,
-        Hash::named(read.request.h),
-        asked.method,
-        asked.head,
-        asked.aside,
-        &in_head[..read.covered],
-        &in_aside[..read.covered],
-        asked.path,
-        asked.body,
+        brought,
+        &notes,
     ) {
         return Err(Refusal::WrongSignature);
     }
@@ -94,11 +81,9 @@ fn against(
 }
 
 // Whether a request's s, iv and tag are the reply's.
-fn same_token(request: &Request, fields: &[u8], reply: &Reply) -> bool
-    requires { (request.now.s_len ≤ 118) × (length fields.now ≡ 210) }
-    ensures { SameTokenIs request.now fields.now reply.now result }
+fn same_token(fields: &Fields, reply: &Reply) -> bool
+    ensures { SameTokenIs fields.now reply.now result }
 {
-    // Where they lie in the run: armor::Request.
-    cells::same(&fields[..request.s_len], reply.s.as_slice())
-        & (cells::same(&fields[182..194], &reply.iv) & cells::same(&fields[194..210], &reply.tag))
+    cells::same(fields.s.as_slice(), reply.s.as_slice())
+        & (cells::same(&fields.iv, &reply.iv) & cells::same(&fields.tag, &reply.tag))
 }
