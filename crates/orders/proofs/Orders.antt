@@ -10,7 +10,7 @@ use lib.Dec.{ltb}
 use Rattle.cells.proofs.Tests.{both}
 use Rattle.hashes.specs.Hashes.{good_allowed}
 use Rattle.names.specs.Extra.{good_extra}
-use Rattle.orders.specs.Orders.{Orders, orders_good, limits_of, checked_orders}
+use Rattle.orders.specs.Orders.{Orders, orders_good, limits_of}
 use Rattle.orders.specs.declared.Limits.{Limits}
 
 module _ (o : Orders) (h : orders_good o ≡ true) where
@@ -28,23 +28,6 @@ module _ (o : Orders) (h : orders_good o ≡ true) where
 
   pub good_extra_lem : good_extra o.extra ≡ true
   good_extra_lem = parts.1
-
--- what the answer of `check` says
-pub checked_good : (o : Orders) (l : Limits) → checked_orders o ≡ Some l → (orders_good o ≡ true) × (l ≡ limits_of o)
-unfolding checked_orders
-checked_good o l h = go (orders_good o) refl h
-  where
-    go : (b : Bool) → orders_good o ≡ b → cond b (Some (limits_of o)) None ≡ Some l → (orders_good o ≡ true) × (l ≡ limits_of o)
-    go true e k = (e, cc)
-    go false e k = cc
-
-pub checked_bad : (o : Orders) → checked_orders o ≡ None → orders_good o ≡ false
-unfolding checked_orders
-checked_bad o h = go (orders_good o) refl h
-  where
-    go : (b : Bool) → orders_good o ≡ b → cond b (Some (limits_of o)) None ≡ None → orders_good o ≡ false
-    go true e k = cc
-    go false e k = e
 
 -- the request life: 60 seconds where the orders leave it at 0, else what they name
 pub life_default : (o : Orders) → o.numbers.request_life ≡ 0 → (limits_of o).request_life ≡ 60

@@ -1,11 +1,13 @@
 -- Orders, the site's settings: document 01, 'Orders, records and sizes', and document 02, K1, for the default request life, and K2, for the
 -- allowed hashes.
 -- Assumes nothing.
-use Rattle.std.specs.Prelude.{ℕ, ◌^◌, List, Option, Some, None, Bool, cond, ◌&&◌, leb, ltb, eqb}
+use Rattle.std.specs.Prelude.{◌≡◌, ℕ, ◌^◌, List, Option, Some, None, Bool, true, false, cond, ◌&&◌, leb, ltb, eqb}
 use Rattle.hashes.specs.Hashes.{good_allowed}
 use Rattle.names.specs.Extra.{good_extra}
 use Rattle.orders.specs.declared.Numbers.{Numbers}
+use Rattle.names.specs.declared.covered.Covered.{Covered}
 use Rattle.orders.specs.declared.Limits.{Limits}
+use Rattle.orders.specs.declared.Ordered.{Ordered}
 
 pub record Orders : Type 0 where
   pub numbers : Numbers
@@ -38,6 +40,17 @@ limits_of o = record {
   session_life = or_default 1209600 o.numbers.session_life;
 }
 
--- the limits where the orders are good
-unfoldable pub checked_orders : Orders → Option Limits
-checked_orders o = cond (orders_good o) (Some (limits_of o)) None
+-- what the code holds of the header fields that orders cover, and of good orders
+pub record CoveredBy (o : Orders) (r : Covered) : Type 0 where
+  pub mask : r.mask ≡ o.numbers.mask
+  pub extra : r.extra.now ≡ o.extra
+
+pub record OrderedBy (o : Orders) (r : Ordered) : Type 0 where
+  pub covered : CoveredBy o r.covered
+  pub hashes : r.hashes ≡ o.numbers.hashes
+  pub limits : r.limits ≡ limits_of o
+
+-- what there is of orders that are good; of others nothing
+abbrev pub OrderedIs : Orders → Option Ordered → Type 0
+OrderedIs o (Some r) = (orders_good o ≡ true) × OrderedBy o r
+OrderedIs o None = orders_good o ≡ false

@@ -2,10 +2,9 @@
 #![tactic(auto)]
 
 ghost use Rattle.std.specs.Prelude.{◌≡◌};
-ghost use Rattle.names.specs.InnerWalk.{Known};
-ghost use Rattle.orders.specs.Orders.{orders, or_default, checked_orders};
+ghost use Rattle.orders.specs.Orders.{orders, or_default, OrderedIs};
 
-use names::extra;
+use names::{Covered, KnownNames, extra};
 
 // The orders, the extra names apart, as a host lends them: a limit of 0 stands for its default.
 #[derive(Clone, Copy, PartialEq, Eq)]
@@ -25,20 +24,33 @@ pub struct Limits {
     pub session_life: u32,
 }
 
-// The limits of good orders, with each default put in.
-pub fn check(known: &[u8], numbers: Numbers, extra: &[u8]) -> Option<Limits>
-    requires { Known known.now }
-    ensures { result ≡ checked_orders (orders numbers extra.now) }
+// What good orders say, each default put in.
+#[derive(Clone, Copy)]
+pub struct Ordered<'a> {
+    pub covered: Covered<'a>,
+    pub hashes: u64,
+    pub limits: Limits,
+}
+
+pub fn check<'a>(known: &KnownNames, numbers: Numbers, extra: &'a [u8]) -> Option<Ordered<'a>>
+    ensures { OrderedIs (orders numbers extra.now) result }
 {
-    if (numbers.mask < 72057594037927936)
-        & hashes::good_allowed(numbers.hashes)
-        & extra::good_extra(known, extra)
-        & (numbers.session_life <= 2592000)
+    if numbers.mask < 1 << 56
+        && hashes::good_allowed(numbers.hashes)
+        && extra::good_extra(known, extra)
+        && numbers.session_life <= 2592000
     {
-        return Some(Limits {
-            request_life: or_default(60, numbers.request_life),
-            idle: or_default(1800, numbers.idle),
-            session_life: or_default(1209600, numbers.session_life),
+        return Some(Ordered {
+            covered: Covered {
+                mask: numbers.mask,
+                extra,
+            },
+            hashes: numbers.hashes,
+            limits: Limits {
+                request_life: or_default(60, numbers.request_life),
+                idle: or_default(1800, numbers.idle),
+                session_life: or_default(1209600, numbers.session_life),
+            },
         });
     }
     None

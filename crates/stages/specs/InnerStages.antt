@@ -1,59 +1,70 @@
 -- What the code's stages answer for a request, by the parts of its checks. A stage is lent only what it looks at; what it answers holds
 -- whatever the rest of the request is.
 -- Assumes nothing.
-use Rattle.std.specs.Prelude.{◌≡◌, Bool, false, not, cond, ◌||◌, List, [], ◌∷◌, ◌++◌, Option, Some, None, Result, Ok, IfOk, ℕ, ◌≤◌, eqb, take}
+use Rattle.std.specs.Prelude.{◌≡◌, Bool, not, cond, ◌||◌, List, [], ◌∷◌, ◌++◌, Option, Some, None, Result, Ok, IfOk, OnOk, ℕ, eqb}
 use Rattle.cells.specs.Runs.{same}
 use Rattle.hashes.specs.declared.Hash.{Hash}
 use Rattle.hashes.specs.Hashes.{named}
 use Rattle.armor.specs.Value.{carried}
 use Rattle.armor.specs.InnerAnswers.{Holds, Lies}
+use Rattle.armor.specs.declared.Fields.{Fields}
 use Rattle.armor.specs.declared.Request.{Request as ArmorRequest}
 use Rattle.names.specs.Covered.{covered_names}
-use Rattle.lines.specs.InnerNotes.{NotesOn}
-use Rattle.orders.specs.Orders.{Orders}
+use Rattle.names.specs.declared.covered.Covered.{Covered}
+use Rattle.lines.specs.InnerNotes.{NotesOf}
+use Rattle.lines.specs.declared.remarks.Notes.{Notes}
+use Rattle.orders.specs.Orders.{Orders, CoveredBy, OrderedBy}
 use Rattle.orders.specs.declared.Limits.{Limits}
+use Rattle.orders.specs.declared.Ordered.{Ordered}
+use Rattle.signed.specs.declared.Brought.{Brought}
 use Rattle.token.specs.Token.{Token, has_token}
 use Rattle.token.specs.InnerHeld.{IsToken}
 use Rattle.token.specs.declared.Token.{Token as Held}
+use Rattle.table.specs.Session.{place_of, held_at}
 use Rattle.table.specs.declared.session.Record.{Record}
-use Rattle.stages.specs.declared.reading.Reading.{Reading}
+use Rattle.stages.specs.declared.admitting.Session.{Session}
 use Rattle.stages.specs.declared.refusal.Refusal.{Refusal}
 use Rattle.stages.specs.declared.settling.Decision.{Decision}
-use Rattle.stages.specs.declared.admitting.Session.{Session}
 use Rattle.stages.specs.Refusals.{number_in}
 use Rattle.stages.specs.Request.{Request, request_of}
 use Rattle.stages.specs.Checks.{Check, check, first}
-use Rattle.table.specs.Session.{place_of, held_at}
 use Rattle.stages.specs.Parts.{iv_of, hash_of, nonce_of, time_of, last_time_of, signature_of, opened_of, code_under, token_of, limits, ordered, next_of, covering_part, reading_part, vouching_part, admitting_part, invalidates}
 
--- notes on the covered names, as many as there are names
-pub record CoveredNotes (o : Orders) (head aside in_head in_aside : List ℕ) (count : ℕ) : Type 0 where
-  pub fits : count ≤ 64
-  pub notes : NotesOn (covered_names o.numbers.mask o.extra) head aside (take count in_head) (take count in_aside)
+-- a request that brings this
+abbrev pub brought_as : Orders → ℕ → List ℕ → List ℕ → Brought → List ℕ → Request
+brought_as o clock server_key value b reply =
+    request_of o clock server_key value b.method.now b.lines.head.now b.lines.aside.now b.path.now b.body.now reply
+
+-- notes on the names that are covered, in the lines of a request
+abbrev pub CoveredNotes : Covered → List ℕ → List ℕ → Notes → Type 0
+CoveredNotes covered head aside notes = NotesOf (covered_names covered.mask covered.extra.now) head aside notes
 
 -- 6 to 8: the number, and where none holds the notes
-pub record Covers (q : Request) (in_head in_aside : List ℕ) (r : Result ℕ Refusal) : Type 0 where
+pub record Covers (q : Request) (covered : Covered) (notes : Notes) (r : Result Unit Refusal) : Type 0 where
   pub is : number_in r ≡ first (covering_part q)
-  pub noted : IfOk r (λ covered. CoveredNotes q.orders q.head q.aside in_head in_aside covered)
+  pub noted : OnOk r (CoveredNotes covered q.head q.aside notes)
 
-abbrev pub CoversIs : Orders → List ℕ → List ℕ → List ℕ → List ℕ → List ℕ → List ℕ → Result ℕ Refusal → Type 0
-CoversIs o value method head aside in_head in_aside r =
-    (clock : ℕ) (server_key path body reply : List ℕ) → Covers (request_of o clock server_key value method head aside path body reply) in_head in_aside r
+-- of any request with this value, method and lines, under any orders that these are of
+abbrev pub CoversIs : Ordered → List ℕ → List ℕ → List ℕ → List ℕ → Notes → Result Unit Refusal → Type 0
+CoversIs ordered value method head aside notes r =
+    (o : Orders) → OrderedBy o ordered → (clock : ℕ) (server_key path body reply : List ℕ)
+    → Covers (request_of o clock server_key value method head aside path body reply) ordered.covered notes r
 
--- what the value carries and the notes
-pub record HasRead (q : Request) (run in_head in_aside : List ℕ) (r : Reading) : Type 0 where
-  pub holds : Holds q.value (carried q.value) r.request
-  pub lies : Lies (carried q.value) r.request run
-  pub noted : CoveredNotes q.orders q.head q.aside in_head in_aside r.covered
+-- what the value carries, and the notes
+pub record HasRead (q : Request) (covered : Covered) (fields : Fields) (notes : Notes) (r : ArmorRequest) : Type 0 where
+  pub holds : Holds q.value (carried q.value) r
+  pub lies : Lies (carried q.value) fields
+  pub noted : CoveredNotes covered q.head q.aside notes
 
 -- 4 to 8: the number, and where none holds what was read
-pub record Reads (q : Request) (run in_head in_aside : List ℕ) (r : Result Reading Refusal) : Type 0 where
+pub record Reads (q : Request) (covered : Covered) (fields : Fields) (notes : Notes) (r : Result ArmorRequest Refusal) : Type 0 where
   pub is : number_in r ≡ first (reading_part q)
-  pub read : IfOk r (λ reading. HasRead q run in_head in_aside reading)
+  pub read : IfOk r (λ request. HasRead q covered fields notes request)
 
-abbrev pub ReadIs : Orders → List ℕ → List ℕ → List ℕ → List ℕ → List ℕ → List ℕ → List ℕ → Result Reading Refusal → Type 0
-ReadIs o value method head aside run in_head in_aside r =
-    (clock : ℕ) (server_key path body reply : List ℕ) → Reads (request_of o clock server_key value method head aside path body reply) run in_head in_aside r
+abbrev pub ReadIs : Ordered → List ℕ → List ℕ → List ℕ → List ℕ → Fields → Notes → Result ArmorRequest Refusal → Type 0
+ReadIs ordered value method head aside fields notes r =
+    (o : Orders) → OrderedBy o ordered → (clock : ℕ) (server_key path body reply : List ℕ)
+    → Reads (request_of o clock server_key value method head aside path body reply) ordered.covered fields notes r
 
 -- the first of the token's checks
 abbrev pub opening_part : Request → List Check
@@ -64,25 +75,24 @@ pub record Opens (q : Request) (r : Result Held Refusal) : Type 0 where
   pub is : number_in r ≡ first (opening_part q)
   pub holds : IfOk r (λ token. IsToken (token_of q) token)
 
-abbrev pub UnsealIs : List ℕ → ArmorRequest → List ℕ → Result Held Refusal → Type 0
-UnsealIs server_key request run r =
-    (o : Orders) (clock : ℕ) (value method head aside path body reply : List ℕ)
-    → let q = request_of o clock server_key value method head aside path body reply in
-    Holds value (carried value) request → Lies (carried value) request run → Opens q r
+abbrev pub UnsealIs : List ℕ → Fields → Result Held Refusal → Type 0
+UnsealIs server_key fields r =
+    (o : Orders) (clock : ℕ) (value method head aside path body reply : List ℕ) → Lies (carried value) fields
+    → Opens (request_of o clock server_key value method head aside path body reply) r
 
 -- 11: whether a session key has signed it
-abbrev pub SignIs : Orders → List ℕ → ArmorRequest → List ℕ → Hash → List ℕ → List ℕ → List ℕ → List ℕ → List ℕ → Bool → Type 0
-SignIs o key request run hash method head aside path body r =
-    (clock : ℕ) (server_key value reply : List ℕ)
-    → let q = request_of o clock server_key value method head aside path body reply in
-    Holds value (carried value) request → Lies (carried value) request run → hash_of q ≡ hash → r ≡ same (signature_of q) (code_under key q)
+abbrev pub SignIs : Covered → List ℕ → ArmorRequest → Fields → Brought → Bool → Type 0
+SignIs covered key request fields brought r =
+    (o : Orders) → CoveredBy o covered → (clock : ℕ) (server_key value reply : List ℕ)
+    → let q = brought_as o clock server_key value brought reply in
+    Holds value (carried value) request → Lies (carried value) fields → r ≡ same (signature_of q) (code_under key q)
 
 -- 9 to 11, of a token that opened
-abbrev pub VouchIs : Orders → ℕ → Held → ArmorRequest → List ℕ → List ℕ → List ℕ → List ℕ → List ℕ → List ℕ → Result Unit Refusal → Type 0
-VouchIs o clock token request run method head aside path body r =
-    (server_key value reply : List ℕ)
-    → let q = request_of o clock server_key value method head aside path body reply in
-    Holds value (carried value) request → Lies (carried value) request run → Opens q (Ok token) → number_in r ≡ first (vouching_part q)
+abbrev pub VouchIs : Covered → ℕ → Held → ArmorRequest → Fields → Brought → Result Unit Refusal → Type 0
+VouchIs covered clock token request fields brought r =
+    (o : Orders) → CoveredBy o covered → (server_key value reply : List ℕ)
+    → let q = brought_as o clock server_key value brought reply in
+    Holds value (carried value) request → Lies (carried value) fields → Opens q (Ok token) → number_in r ≡ first (vouching_part q)
 
 -- the record that acceptance stores, where nonces are ordered
 abbrev pub stored_of : Request → List ℕ → Option Record

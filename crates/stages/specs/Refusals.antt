@@ -3,6 +3,8 @@
 use Rattle.std.specs.Prelude.{◌≡◌, ℕ, Result, Ok, Err}
 use Rattle.armor.specs.declared.Unread.{Unread}
 use Rattle.armor.specs.declared.Unread.TheVariants.{Grammar, Fields}
+use Rattle.lines.specs.declared.noting.Unnoted.{Unnoted}
+use Rattle.lines.specs.declared.noting.Unnoted.TheVariants.{NotLines, Twice}
 use Rattle.stages.specs.declared.refusal.Refusal.{Refusal}
 use Rattle.stages.specs.declared.refusal.Refusal.TheVariants.{WrongSize, BadOrders, BadTable, BadGrammar, WrongFields, BadLines, NameTwice, NotAsOrdered, BadToken, Expired, WrongSignature, NoSession, Idle, TooOld, NonceTooLow, NonceSeen, IvInUse, TableFull, NoCommonHash, ExpiryTooLate, TooFarAhead, BadIndex, BadReply}
 
@@ -40,3 +42,8 @@ number_in (Err refusal) = number_of refusal
 abbrev pub RefusedUnread : Unread → Refusal → Type 0
 RefusedUnread Grammar refusal = refusal ≡ BadGrammar
 RefusedUnread Fields refusal = refusal ≡ WrongFields
+
+-- and lines that cannot be noted
+abbrev pub RefusedUnnoted : Unnoted → Refusal → Type 0
+RefusedUnnoted NotLines refusal = refusal ≡ BadLines
+RefusedUnnoted Twice refusal = refusal ≡ NameTwice

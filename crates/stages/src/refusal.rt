@@ -1,8 +1,9 @@
 // Why a call is refused: document 01, 'The numbers a call returns', and document 02 for 21 to 23.
 ghost use Rattle.std.specs.Prelude.{◌≡◌};
-ghost use Rattle.stages.specs.Refusals.{number_of, RefusedUnread};
+ghost use Rattle.stages.specs.Refusals.{number_of, RefusedUnread, RefusedUnnoted};
 
 use armor::Unread;
+use lines::noting::Unnoted;
 
 // Each is worth its number in the list.
 #[derive(Clone, Copy, Drop, PartialEq, Eq)]
@@ -55,6 +56,18 @@ impl From<Unread> for Refusal {
         match unread {
             Unread::Grammar => Refusal::BadGrammar,
             Unread::Fields => Refusal::WrongFields,
+        }
+    }
+}
+
+// Lines that cannot be noted, by 6 or 7.
+impl From<Unnoted> for Refusal {
+    ghost from_gives = { RefusedUnnoted };
+
+    fn from(unnoted: Unnoted) -> Refusal {
+        match unnoted {
+            Unnoted::NotLines => Refusal::BadLines,
+            Unnoted::Twice => Refusal::NameTwice,
         }
     }
 }

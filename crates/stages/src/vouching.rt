@@ -1,101 +1,64 @@
 // Whether the token opens, still holds, and its session key has signed the request: checks 9 to 11. The token is opened by itself, so that the
 // stack that it takes is free again when the signature is made.
-ghost use Rattle.std.specs.Prelude.{◌≡◌, true, ◌≤◌, length};
-ghost use Rattle.names.specs.Extra.{good_extra};
+ghost use Rattle.std.specs.Prelude.{◌≡◌};
 ghost use Rattle.names.specs.Covered.{covered_names};
-ghost use Rattle.lines.specs.InnerNotes.{NotesOn};
-ghost use Rattle.orders.specs.Orders.{orders};
+ghost use Rattle.lines.specs.InnerNotes.{NotesOf};
 ghost use Rattle.stages.specs.InnerStages.{UnsealIs, VouchIs, SignIs};
 
 use super::refusal::Refusal;
-use armor::Request;
+use armor::{Fields, Request};
 use hashes::Hash;
-use orders::Numbers;
+use lines::noting::Notes;
+use names::Covered;
+use signed::Brought;
 use token::Token;
 use window::time::Time;
 
 // Check 9: the token.
-pub fn unseal(server_key: &[u8], request: &Request, fields: &[u8]) -> Result<Token, Refusal>
-    requires { (length server_key.now ≡ 32) × (request.now.s_len ≤ 118) × (length fields.now ≡ 210) }
-    ensures { UnsealIs server_key.now request.now fields.now result }
+pub fn unseal(server_key: &[u8; 32], fields: &Fields) -> Result<Token, Refusal>
+    ensures { UnsealIs server_key.now fields.now result }
 {
-    // Where iv, s and tag lie in the run: armor::Request.
-    token::unseal(
-        server_key,
-        &fields[182..194],
-        &fields[..request.s_len],
-        &fields[194..210],
-    )
-    .ok_or(Refusal::BadToken)
+    token::unseal(server_key, &fields.iv, fields.s.as_slice(), &fields.tag)
+        .ok_or(Refusal::BadToken)
 }
 
 // Checks 10 and 11, of a token that opened.
-pub fn vouch<'a>(
-    numbers: Numbers,
-    extra: &[u8],
+pub fn vouch(
+    covered: &Covered,
     clock: Time,
     token: &Token,
     request: &Request,
-    fields: &[u8],
-    method: &[u8],
-    head: &'a [u8],
-    aside: &'a [u8],
-    in_head: &[u16],
-    in_aside: &[u16],
-    path: &[u8],
-    body: &[u8],
+    fields: &Fields,
+    brought: &Brought,
+    notes: &Notes,
 ) -> Result<(), Refusal>
-    requires { (good_extra extra.now ≡ true) × (request.now.c_len ≤ 64) × (length fields.now ≡ 210) × (length method.now ≤ 16) × (length head.now ≤ 16384) × (length aside.now ≤ 16384) × (length path.now ≤ 2048) × (length body.now ≤ 65536) × NotesOn (covered_names numbers.mask extra.now) head.now aside.now in_head.now in_aside.now }
-    ensures { VouchIs (orders numbers extra.now) clock.0 token.now request.now fields.now method.now head.now aside.now path.now body.now result }
+    requires { NotesOf (covered_names covered.now.mask covered.now.extra.now) brought.now.lines.head.now brought.now.lines.aside.now notes.now }
+    ensures { VouchIs covered.now clock.0 token.now request.now fields.now brought.now result }
 {
     if token.expiry.0 <= clock.0 {
         return Err(Refusal::Expired);
     }
-    let hash = Hash::named(request.h);
-    if !signs(
-        numbers, extra, &token.key, request, fields, hash, method, head, aside, in_head, in_aside,
-        path, body,
-    ) {
+    if !signs(covered, &token.key, request, fields, brought, notes) {
         return Err(Refusal::WrongSignature);
     }
     Ok(())
 }
 
-// Whether a session key has signed the request.
-pub fn signs<'a>(
-    numbers: Numbers,
-    extra: &[u8],
-    key: &[u8],
+// Whether a session key has signed the request, under the hash that its h names.
+pub fn signs(
+    covered: &Covered,
+    key: &[u8; 32],
     request: &Request,
-    fields: &[u8],
-    hash: Hash,
-    method: &[u8],
-    head: &'a [u8],
-    aside: &'a [u8],
-    in_head: &[u16],
-    in_aside: &[u16],
-    path: &[u8],
-    body: &[u8],
+    fields: &Fields,
+    brought: &Brought,
+    notes: &Notes,
 ) -> bool
-    requires { (good_extra extra.now ≡ true) × (length key.now ≡ 32) × (request.now.c_len ≤ 64) × (length fields.now ≡ 210) × (length method.now ≤ 16) × (length head.now ≤ 16384) × (length aside.now ≤ 16384) × (length path.now ≤ 2048) × (length body.now ≤ 65536) × NotesOn (covered_names numbers.mask extra.now) head.now aside.now in_head.now in_aside.now }
-    ensures { SignIs (orders numbers extra.now) key.now request.now fields.now hash method.now head.now aside.now path.now body.now result }
+    requires { NotesOf (covered_names covered.now.mask covered.now.extra.now) brought.now.lines.head.now brought.now.lines.aside.now notes.now }
+    ensures { SignIs covered.now key.now request.now fields.now brought.now result }
 {
+    let hash = Hash::named(request.h);
     let code = signed::code(
-        key,
-        method,
-        hash,
-        numbers.mask,
-        extra,
-        request.n,
-        request.t,
-        request.lt,
-        head,
-        aside,
-        in_head,
-        in_aside,
-        path,
-        body,
+        key, hash, covered, request.n, request.t, request.lt, brought, notes,
     );
-    // Where c lies in the run: armor::Request.
-    signed::same_code(&fields[118..118 + request.c_len], code, hash)
+    signed::same_code(fields.c.as_slice(), &code, hash)
 }
