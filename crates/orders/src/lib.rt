@@ -32,6 +32,7 @@ pub struct Ordered<'a> {
     pub limits: Limits,
 }
 
+#[tactic(auto, unfolding(crate::specs::Orders::orders_good, crate::specs::Orders::limits_of))]
 pub fn check<'a>(known: &KnownNames, numbers: Numbers, extra: &'a [u8]) -> Option<Ordered<'a>>
     ensures { OrderedIs (orders numbers extra.now) result }
 {
@@ -59,8 +60,5 @@ pub fn check<'a>(known: &KnownNames, numbers: Numbers, extra: &'a [u8]) -> Optio
 fn or_default(usual: u32, limit: u32) -> u32
     ensures { result ≡ or_default usual limit }
 {
-    if limit == 0 {
-        return usual;
-    }
-    limit
+    if limit == 0 { usual } else { limit }
 }
