@@ -8,18 +8,18 @@ use Prim.Native.Nat.{ℕ, ◌+◌, ◌-◌, ◌≤◌, ◌<◌}
 use native.Mathlib.Omega.{arith}
 use borrow.Author.Tests.{le-leb, lt-leb}
 use lib.Dec.{eqb}
-use lib.ListN.{take}
 use Rattle.std.specs.Prelude.{Result, Ok, Err}
 use Rattle.std.specs.Prelude as P
-use Rattle.cells.specs.Runs.{part, cut, same}
+use Rattle.cells.specs.Run.{run_of}
+use Rattle.cells.specs.Runs.{same}
 use Rattle.hashes.specs.declared.Hash.{Hash}
 use Rattle.hashes.specs.Hashes.{hash_mask, named}
 use Rattle.hmac.specs.Hmac.{hmac_of}
 use Rattle.armor.specs.declared.Unread.{Unread}
+use Rattle.armor.specs.declared.Fields.{Fields}
 use Rattle.armor.specs.declared.Request.{Request as ArmorRequest}
 use Rattle.armor.specs.Value.{Field, grammar, carried}
-use Rattle.armor.specs.Keys.{key_c}
-use Rattle.armor.specs.Fields.{the, request_fields}
+use Rattle.armor.specs.Fields.{request_fields}
 use Rattle.armor.specs.InnerAnswers.{request_from, request_answer, Holds, Lies}
 use Rattle.signed.specs.SignedText.{request_text}
 use Rattle.table.specs.declared.session.Record.{Record}
@@ -36,6 +36,8 @@ use Rattle.stages.specs.declared.refusal.Refusal.TheVariants.{BadToken}
 use Rattle.stages.specs.Refusals.{number_in, RefusedUnread}
 use Rattle.stages.specs.Refusals as R
 use Rattle.stages.specs.Request.{Request}
+use Rattle.names.specs.declared.covered.Covered.{Covered}
+use Rattle.orders.specs.Orders.{CoveredBy}
 use Rattle.orders.specs.declared.Limits.{Limits}
 use Rattle.stages.specs.declared.admitting.Session.{Session}
 use Rattle.stages.specs.Checks.{Check, check, first, missing}
@@ -92,12 +94,11 @@ read_on q e =
     simp (told.grammar, told.fields)
 
 -- whether the token opens, of a request that was read
-pub opens : (q : Request) (r : ArmorRequest) (run : List ℕ) → Lies (carried q.value) r run → (u : P.Option Held)
-    → Unseals (opened_token q.server_key (part run 182 12) (take r.s_len run) (part run 194 16)) u → (a : Result Held Refusal) → a ≡ P.ok_or u BadToken
-    → Opens q a
+pub opens : (q : Request) (fields : Fields) → Lies (carried q.value) fields → (u : P.Option Held)
+    → Unseals (opened_token q.server_key fields.iv (run_of fields.s) fields.tag) u → (a : Result Held Refusal) → a ≡ P.ok_or u BadToken → Opens q a
 unfolding opened_of iv_of fields_of token_of
-opens q r run lies P.None told a is = rw is (record { is = simp (← lies.token, ← lies.vector, ← lies.tag, told); holds = tt })
-opens q r run lies (P.Some token) told a is =
+opens q fields lies P.None told a is = rw is (record { is = simp (← lies.token, ← lies.vector, ← lies.tag, told); holds = tt })
+opens q fields lies (P.Some token) told a is =
     rw is (record { is = simp (← lies.token, ← lies.vector, ← lies.tag, told.0); holds = rw (← lies.token, ← lies.vector, ← lies.tag) told.1 })
 
 -- what the token and the signature come to, of a token that opened
@@ -128,16 +129,14 @@ pub read_hash : (q : Request) {r : ArmorRequest} {hash : Hash} → Holds q.value
 unfolding hash_of fields_of
 read_hash q h e = rw (← h.hash) (sym e)
 
--- the signature where it lies, held against the code that was made
-pub signed_by_lem : (q : Request) (r : ArmorRequest) (run : List ℕ) → Holds q.value (carried q.value) r → Lies (carried q.value) r run
-    → (key : List ℕ) (hash : Hash) → hash_of q ≡ hash → (end : ℕ) → end ≡ 118 + r.c_len → (code : List ℕ)
-    → code ≡ hmac_of hash key (request_text q.method hash q.orders.numbers.mask q.orders.extra r.n.0 r.t.0 r.lt.0 q.aside q.head q.path q.body)
-    → same (cut run 118 end) code ≡ same (signature_of q) (code_under key q)
+-- its signature, held against the code that was made
+pub signed_by_lem : (q : Request) (covered : Covered) → CoveredBy q.orders covered → (r : ArmorRequest) (fields : Fields)
+    → Holds q.value (carried q.value) r → Lies (carried q.value) fields → (key : List ℕ) (hash : Hash) → hash ≡ named r.h → (code : List ℕ)
+    → code ≡ hmac_of hash key (request_text q.method hash covered.mask covered.extra.now r.n.0 r.t.0 r.lt.0 q.aside q.head q.path q.body)
+    → same (run_of fields.c) code ≡ same (signature_of q) (code_under key q)
 unfolding signature_of text_of nonce_of time_of last_time_of fields_of
-signed_by_lem q r run h lies key hash named end ends code made =
-    let size : end - 118 ≡ r.c_len = omega arith in
-    let signature : cut run 118 end ≡ the key_c (carried q.value) = ap (part run 118) size ∙ lies.signature in
-    simp (named, signature, made, h.nonce, h.time, h.last_time)
+signed_by_lem q covered by r fields h lies key hash named code made =
+    simp (read_hash q h named, ← lies.signature, made, by.mask, by.extra, h.nonce, h.time, h.last_time)
 
 -- what a session's checks come to, over what admitting is lent
 abbrev lent_part : P.Option Session → ℕ → ArmorRequest → Limits → Bool → List Check

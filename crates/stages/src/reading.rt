@@ -7,9 +7,8 @@ ghost use Rattle.stages.specs.InnerStages.{CoversIs, ReadIs};
 
 use super::refusal::Refusal;
 use armor::{Fields, Request};
-use lines::Blocks;
-use lines::noting;
 use lines::noting::Notes;
+use lines::{Blocks, noting};
 use names::KnownNames;
 use names::token::is_token;
 use orders::Ordered;
@@ -28,7 +27,9 @@ pub fn read(
     ensures { ReadIs ordered.now value.now method.now blocks.now.head.now blocks.now.aside.now fields.new notes.new result }
 {
     let request = armor::read_request(value, fields)?;
-    compare(known, ordered, value, &request, fields, method, blocks, notes)?;
+    compare(
+        known, ordered, value, &request, fields, method, blocks, notes,
+    )?;
     Ok(request)
 }
 

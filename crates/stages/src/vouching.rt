@@ -18,8 +18,7 @@ use window::time::Time;
 pub fn unseal(server_key: &[u8; 32], fields: &Fields) -> Result<Token, Refusal>
     ensures { UnsealIs server_key.now fields.now result }
 {
-    token::unseal(server_key, &fields.iv, fields.s.as_slice(), &fields.tag)
-        .ok_or(Refusal::BadToken)
+    token::unseal(server_key, &fields.iv, fields.s.as_slice(), &fields.tag).ok_or(Refusal::BadToken)
 }
 
 // Checks 10 and 11, of a token that opened.

@@ -1,31 +1,32 @@
 -- `reading::compare` meets its contract.
 -- Assumes nothing.
-use Rattle.std.proofs.Common.{sym, ap, ◌∙◌, arith, length}
+use Rattle.std.proofs.Common.{sym, ap, ◌∙◌, length}
+use Rattle.std.proofs.lemmas.Result.{err_from_is_err_and}
 use Rattle.names.proofs.Sizes.{short_extra}
 use Rattle.stages.specs.Parts.{fields_of}
-use Rattle.stages.proofs.Covering.{no_token, no_lines, names_twice, otherwise, covers}
+use Rattle.stages.proofs.Covering.{no_token, unnoted, otherwise, covers}
 use Rattle.stages.proofs.reading.compare.Goals as goal
 
 pub returns-then-not-is_token : goal.returns-then-not-is_token
-returns-then-not-is_token c clock server_key path body reply = no_token _ _ _ (sym c.is_token.ensures ∙ c.if-not-is_token.true)
+returns-then-not-is_token c o by clock server_key path body reply = no_token _ _ _ (sym c.is_token.ensures ∙ c.if-not-is_token.true)
 
-pub returns-in_default : goal.returns-in_default
-returns-in_default c clock server_key path body reply = no_lines _ _ _ c.in_default.ensures
-
-pub returns-then-noted : goal.returns-then-noted
-returns-then-noted c clock server_key path body reply =
-    names_twice _ _ _ _ (sym c.is_token.ensures ∙ c.if-not-is_token.false) c.in-Some.ensures c.if-noted.true
+pub returns-in_err-note : goal.returns-in_err-note
+returns-in_err-note c o by clock server_key path body reply =
+    let refusal = err_from_is_err_and c.from_residual.result c.from_residual.ensures.1 in
+    rw refusal.1 (unnoted _ _ _ by.covered (sym c.is_token.ensures ∙ c.if-not-is_token.false) _ c.in_err-note.ensures.told _ refusal.2)
 
 pub as_ordered-requires : goal.as_ordered-requires
-as_ordered-requires c = (c.requires.2, c.requires.3, short_extra _ c.requires.1)
+as_ordered-requires c =
+    (c.requires.0, c.requires.1, ap length (c.as_slice.ensures ∙ c.requires.2.signature), short_extra _ c.args.ordered.now.covered.good)
 
 pub returns-then-not-as_ordered : goal.returns-then-not-as_ordered
 unfolding fields_of
-returns-then-not-as_ordered c clock server_key path body reply =
-    otherwise _ _ _ _ (sym c.is_token.ensures ∙ c.if-not-is_token.false) c.in-Some.ensures c.if-noted.false _ c.as_ordered.ensures c.if-not-as_ordered.true
+returns-then-not-as_ordered c o by clock server_key path body reply =
+    otherwise _ _ _ by.covered (sym c.is_token.ensures ∙ c.if-not-is_token.false) c.in_ok-note.ensures.told _ by.hashes _ c.as_ordered.ensures
+    c.if-not-as_ordered.true
 
 pub returns : goal.returns
 unfolding fields_of
-returns c clock server_key path body reply =
-    covers _ _ _ _ (sym c.is_token.ensures ∙ c.if-not-is_token.false) c.in-Some.ensures c.if-noted.false _ c.as_ordered.ensures c.requires.1
-    (omega (arith, c.note.auto, ap length c.requires.6)) (omega (arith, c.note.auto, ap length c.requires.7)) c.if-not-as_ordered.false
+returns c o by clock server_key path body reply =
+    covers _ _ _ by.covered (sym c.is_token.ensures ∙ c.if-not-is_token.false) c.in_ok-note.ensures.told _ by.hashes _ c.as_ordered.ensures
+    c.if-not-as_ordered.false
