@@ -3,3 +3,4 @@ pub mod Parts
 pub mod Writing
 pub mod Theorems
 pub mod Examples
+pub mod Numbers

@@ -24,8 +24,24 @@ use Rattle.signatures.specs.InnerAnswers.{ShortMessage}
 use Rattle.signatures.proofs.Readback.{rewritten}
 use Rattle.carrier.specs.Asked.{Asked, long_from, message_fits, asked_fits, well_formed, well_named, asked_number}
 use Rattle.carrier.specs.Sign.{sign_fits, input_of, signature_of}
-use Rattle.carrier.specs.Verify.{verify_fits, told_number, first_refusal, agrees}
-use Rattle.carrier.specs.InnerSteps.{Sized, SizedValues}
+use Rattle.carrier.specs.Verify.{told_number, first_refusal, agrees}
+use Rattle.carrier.specs.InnerSteps.{asked_in}
+use Rattle.carrier.specs.declared.asked.Asked as A
+
+-- sizes, as far as the steps need them
+pub record Sized (a : Asked) : Type 0 where
+  pub message : ShortMessage a.message
+  pub names : length a.names ≤ 1024
+  pub label : length a.label ≤ 64
+  pub key_id : length a.key_id ≤ 255
+  pub key : length a.key ≤ 256
+
+-- nothing is refused, and there is room
+pub record MayBeSigned (a : Asked) (created : ℕ) (out : List ℕ) : Type 0 where
+  pub sized : Sized a
+  pub time : created ≤ last_integer
+  pub room : 4096 ≤ length out
+  pub asked : asked_number a ≡ 0
 
 -- a number that is 0 where a test fails, or another number where it holds
 module _ (t : Bool) (k n : ℕ) (some : k ≡ 0 → ⊥) where
@@ -132,7 +148,7 @@ module _ {a : Asked} {input signature : List ℕ} (f : Fielded a input signature
 most : (low high : ℕ) (run : List ℕ) → long_from low high run ≡ true → length run ≤ high
 most low high run t = leb-true (length run) high (both (leb low (length run)) _ t).1
 
-short_message : (m : Message) → message_fits m ≡ true → ShortMessage m
+pub short_message : (m : Message) → message_fits m ≡ true → ShortMessage m
 unfolding message_fits
 short_message m h =
     let method = both (long_from 1 16 m.method) _ h in
@@ -145,33 +161,27 @@ short_message m h =
       lines = leb-true _ _ path.1;
     }
 
-module _ (a : Asked) where
-  sized : asked_fits a ≡ true → Sized a
-  unfolding asked_fits
-  sized h =
-      let message = both (message_fits a.message) _ h in
-      let names = both (leb (length a.names) 1024) _ message.1 in
-      let label = both (long_from 1 64 a.label) _ names.1 in
-      let key_id = both (long_from 1 255 a.key_id) _ label.1 in
-      record {
-        message = short_message a.message message.0;
-        names = leb-true _ _ names.0;
-        label = most 1 64 a.label label.0;
-        key_id = most 1 255 a.key_id key_id.0;
-        key = most 1 256 a.key key_id.1;
-      }
+sized : (a : Asked) → asked_fits a ≡ true → Sized a
+unfolding asked_fits
+sized a h =
+    let message = both (message_fits a.message) _ h in
+    let names = both (leb (length a.names) 1024) _ message.1 in
+    let label = both (long_from 1 64 a.label) _ names.1 in
+    let key_id = both (long_from 1 255 a.key_id) _ label.1 in
+    record {
+      message = short_message a.message message.0;
+      names = leb-true _ _ names.0;
+      label = most 1 64 a.label label.0;
+      key_id = most 1 255 a.key_id key_id.0;
+      key = most 1 256 a.key key_id.1;
+    }
 
-  pub sign_sized : (created : ℕ) (out : List ℕ) → sign_fits a created out ≡ true → Sized a × (created ≤ last_integer) × (4096 ≤ length out)
-  unfolding sign_fits
-  sign_sized created out h =
-      let asked = both (asked_fits a) _ h in
-      let time = both (leb created last_integer) _ asked.1 in
-      (sized asked.0, leb-true _ _ time.0, leb-true _ _ time.1)
+pub sized_of : (a : A.Asked) → Sized (asked_in a)
+sized_of a = sized (asked_in a) a.fits
 
-  pub verify_sized : (input signature created : List ℕ) → verify_fits a input signature created ≡ true → SizedValues a input signature × (length created ≡ 8)
-  unfolding verify_fits
-  verify_sized input signature created h =
-      let asked = both (asked_fits a) _ h in
-      let first = both (leb (length input) 4096) _ asked.1 in
-      let second = both (leb (length signature) 4096) _ first.1 in
-      (record { asked = sized asked.0; short = leb-true _ _ first.0; brief = leb-true _ _ second.0 }, eqb-true _ _ second.1)
+pub sign_sized : (a : Asked) (created : ℕ) (out : List ℕ) → sign_fits a created out ≡ true → Sized a × (created ≤ last_integer) × (4096 ≤ length out)
+unfolding sign_fits
+sign_sized a created out h =
+    let asked = both (asked_fits a) _ h in
+    let time = both (leb created last_integer) _ asked.1 in
+    (sized a asked.0, leb-true _ _ time.0, leb-true _ _ time.1)

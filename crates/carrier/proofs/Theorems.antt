@@ -31,9 +31,8 @@ use Rattle.signatures.proofs.Readback.{told_label, told_names, told_time, told_k
 use Rattle.carrier.specs.Asked.{Asked, asked_fits, asked_number, Answer, answer}
 use Rattle.carrier.specs.Sign.{sign_fits, sign_number, input_of, signature_of, sign_text, signed}
 use Rattle.carrier.specs.Verify.{verify_fits, told_number, first_refusal, agrees, judged_number, verify_number, verified}
-use Rattle.carrier.specs.InnerSteps.{MayBeSigned}
 use Rattle.carrier.specs.Theorems.{TakenBack, SignedAt}
-use Rattle.carrier.proofs.Parts.{refused_not, none_refused, Granted, granted, asked_most, components, labelled, identified, signable, fielded, input_told, sign_sized}
+use Rattle.carrier.proofs.Parts.{MayBeSigned, refused_not, none_refused, Granted, granted, asked_most, components, labelled, identified, signable, fielded, input_told, sign_sized}
 use Rattle.carrier.proofs.Writing.{text_short}
 
 -- exactly one base belongs to what is asked, and the signature is its code

@@ -1,44 +1,37 @@
 -- What the code's own steps take and answer.
 -- Assumes nothing.
-use Rattle.std.specs.Prelude.{ℕ, ◌*◌, ◌≤◌, ◌≡◌, List, length}
-use Rattle.cells.specs.Runs.{fronted}
-use Rattle.structured.specs.Reading.{last_integer}
+use Rattle.std.specs.Prelude.{ℕ, ◌≤◌, ◌≡◌, List, true, false, length, Option, None, Some, Result, Ok, Err}
+use Rattle.cells.specs.InnerLaid.{Laid}
+use Rattle.signatures.specs.Components.{Message}
 use Rattle.signatures.specs.Fields.{time_in}
-use Rattle.signatures.specs.InnerAnswers.{ShortMessage}
-use Rattle.carrier.specs.Asked.{Asked, asked_number, Answer, answer}
-use Rattle.carrier.specs.Sign.{sign_text}
-use Rattle.carrier.specs.Verify.{told_number, judged_number}
-use Rattle.carrier.specs.declared.verify.Verdict.{Verdict}
+use Rattle.signatures.specs.InnerAnswers.{message_in}
+use Rattle.signatures.specs.declared.message.Message as M
+use Rattle.carrier.specs.Asked.{Asked, message_fits, asked_fits}
+use Rattle.carrier.specs.Sign.{sign_text, sign_number}
+use Rattle.carrier.specs.Verify.{judged_number}
+use Rattle.carrier.specs.Refusals.{number_of}
+use Rattle.carrier.specs.declared.asked.Asked as A
+use Rattle.carrier.specs.declared.refusal.Refusal.{Refusal}
 
--- sizes, as far as the steps need them
-pub record Sized (a : Asked) : Type 0 where
-  pub message : ShortMessage a.message
-  pub names : length a.names ≤ 1024
-  pub label : length a.label ≤ 64
-  pub key_id : length a.key_id ≤ 255
-  pub key : length a.key ≤ 256
+-- what is asked, as it is lent
+abbrev pub asked_in : A.Asked → Asked
+asked_in a = record { message = message_in a.message; names = a.names.now; label = a.label.now; key_id = a.key_id.now; key = a.key.now }
 
--- nothing is refused, and there is room
-pub record MayBeSigned (a : Asked) (created : ℕ) (out : List ℕ) : Type 0 where
-  pub sized : Sized a
-  pub time : created ≤ last_integer
-  pub room : 4096 ≤ length out
-  pub asked : asked_number a ≡ 0
+-- a message, and what is asked, if they have the sizes
+abbrev pub MessageFits : Message → Option M.Message → Type 0
+MessageFits m (Some r) = (message_fits m ≡ true) × (message_in r ≡ m)
+MessageFits m None = message_fits m ≡ false
 
-abbrev pub written : Asked → ℕ → List ℕ → Answer
-written a created out = answer (256 * length (sign_text a created)) (fronted (sign_text a created) out)
+abbrev pub AskedFits : Asked → Option A.Asked → Type 0
+AskedFits a (Some r) = asked_in r ≡ a
+AskedFits a None = asked_fits a ≡ false
 
-pub record SizedValues (a : Asked) (input signature : List ℕ) : Type 0 where
-  pub asked : Sized a
-  pub short : length input ≤ 4096
-  pub brief : length signature ≤ 4096
+-- what is refused, or the two lines at the front
+abbrev pub Signs : Asked → ℕ → List ℕ → List ℕ → Result ℕ Refusal → Type 0
+Signs a created before after (Ok size) = (sign_number a created before ≡ 0) × Laid before after 0 size (sign_text a created) × (length (sign_text a created) ≤ 4096)
+Signs a created before after (Err refusal) = (sign_number a created before ≡ number_of refusal) × (after ≡ before)
 
--- nothing is refused but perhaps the list or the code
-pub record InForm (a : Asked) (input signature : List ℕ) : Type 0 where
-  pub sized : SizedValues a input signature
-  pub asked : asked_number a ≡ 0
-  pub told : told_number a input signature ≡ 0
-
-pub record VerdictIs (a : Asked) (input signature : List ℕ) (r : Verdict) : Type 0 where
-  pub number : r.number ≡ judged_number a input signature
-  pub created : r.created ≡ time_in input
+-- what is refused, sizes apart, or the time
+abbrev pub VerdictIs : Asked → List ℕ → List ℕ → Result ℕ Refusal → Type 0
+VerdictIs a input signature (Ok time) = (judged_number a input signature ≡ 0) × (time ≡ time_in input)
+VerdictIs a input signature (Err refusal) = judged_number a input signature ≡ number_of refusal

@@ -1,36 +1,16 @@
-// What is refused of what is asked, sizes apart: numbers 2 to 5.
-ghost use Rattle.std.specs.Prelude.{◌≡◌, List, ℕ};
-ghost use Rattle.signatures.specs.Components.{message_of};
-ghost use Rattle.signatures.specs.InnerAnswers.{ShortMessage};
-ghost use Rattle.carrier.specs.Asked.{asked_of, asked_number};
+// What both calls are lent.
+ghost use Rattle.std.specs.Prelude.{◌≡◌, true};
+ghost use Rattle.carrier.specs.Asked.{asked_of, asked_fits};
 
-use signatures::components;
+use signatures::Message;
 
-// The lowest number that holds, or 0.
-pub fn number(
-    method: &[u8],
-    authority: &[u8],
-    path: &[u8],
-    lines: &[u8],
-    names: &[u8],
-    label: &[u8],
-    key_id: &[u8],
-) -> u32
-    requires { ShortMessage (message_of method.now authority.now path.now lines.now) }
-    ensures { (key : List ℕ) → result ≡ asked_number (asked_of method.now authority.now path.now lines.now names.now label.now key_id.now key) }
-{
-    let looked = components::look(method, authority, path, lines, names);
-    let formed = components::good_message(method, authority, path, lines)
-        & (components::all_components(names) & looked.printable);
-    let named = structured::is_key(label) & structured::all_between(32, 126, key_id);
-    if !formed {
-        return 2;
-    }
-    if !named {
-        return 3;
-    }
-    if looked.twice {
-        return 4;
-    }
-    if looked.missing { 5 } else { 0 }
+// A message, and what is asked to be signed of it, under which label, key id and key: of the sizes that docs/CARRIER.md lists.
+#[derive(Clone, Copy)]
+pub struct Asked<'a> {
+    pub message: Message<'a>,
+    pub names: &'a [u8],
+    pub label: &'a [u8],
+    pub key_id: &'a [u8],
+    pub key: &'a [u8],
+    pub ghost fits: { asked_fits (asked_of message.method.now message.authority.now message.path.now message.lines.now names.now label.now key_id.now key.now) ≡ true },
 }

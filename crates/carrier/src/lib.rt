@@ -7,10 +7,18 @@ ghost use Rattle.carrier.specs.Asked.{asked_of, answer};
 ghost use Rattle.carrier.specs.Sign.{signed};
 ghost use Rattle.carrier.specs.Verify.{verified};
 
+use refusal::Refusal;
+
 mod asked;
+mod checks;
+mod refusal;
 mod sign;
 mod sizes;
 mod verify;
+
+const MOST_VALUE: usize = 4096;
+
+const TIME_SIZE: usize = 8;
 
 // Writes the fields Signature-Input and Signature of a message to the front of out. The answer is the number plus 256 times their length.
 pub fn carrier_sign(
@@ -27,18 +35,13 @@ pub fn carrier_sign(
 ) -> u32
     ensures { answer result out.new ≡ signed (asked_of method.now authority.now path.now lines.now names.now label.now key_id.now key.now) created out.old }
 {
-    if !sizes::sign_fits(
-        method, authority, path, lines, names, created, label, key_id, key, out,
-    ) {
-        return 1;
+    let Some(asked) = sizes::asked(method, authority, path, lines, names, label, key_id, key) else {
+        return Refusal::BadSize.number();
+    };
+    match sign::sign(&asked, created, out) {
+        Ok(size) => 256 * size as u32,
+        Err(refusal) => refusal.number(),
     }
-    let number = asked::number(method, authority, path, lines, names, label, key_id);
-    if number != 0 {
-        return number;
-    }
-    sign::write(
-        method, authority, path, lines, names, created, label, key_id, key, out,
-    )
 }
 
 // Whether a message bears the signature that is asked for. Where it does, created becomes its time, as 8 bytes.
@@ -57,16 +60,17 @@ pub fn carrier_verify(
 ) -> u32
     ensures { answer result created.new ≡ verified (asked_of method.now authority.now path.now lines.now names.now label.now key_id.now key.now) input.now signature.now created.old }
 {
-    if !sizes::verify_fits(
-        method, authority, path, lines, names, label, key_id, key, input, signature, created,
-    ) {
-        return 1;
+    let Some(asked) = sizes::asked(method, authority, path, lines, names, label, key_id, key) else {
+        return Refusal::BadSize.number();
+    };
+    if MOST_VALUE < input.len() || MOST_VALUE < signature.len() || created.len() != TIME_SIZE {
+        return Refusal::BadSize.number();
     }
-    let verdict = verify::judge(
-        method, authority, path, lines, names, label, key_id, key, input, signature,
-    );
-    if verdict.number == 0 {
-        cells::put64(created, 0, verdict.created);
+    match verify::judge(&asked, input, signature) {
+        Ok(time) => {
+            cells::put64(created, 0, time);
+            0
+        }
+        Err(refusal) => refusal.number(),
     }
-    verdict.number
 }

@@ -1,83 +1,78 @@
-// Whether what is lent has the sizes that docs/CARRIER.md lists: number 1.
-ghost use Rattle.std.specs.Prelude.{◌≡◌};
+// Whether what is lent has the sizes that docs/CARRIER.md lists: 1.
 ghost use Rattle.signatures.specs.Components.{message_of};
-ghost use Rattle.carrier.specs.Asked.{long_from, asked_of, message_fits, asked_fits};
-ghost use Rattle.carrier.specs.Sign.{sign_fits};
-ghost use Rattle.carrier.specs.Verify.{verify_fits};
+ghost use Rattle.carrier.specs.Asked.{asked_of};
+ghost use Rattle.carrier.specs.InnerSteps.{MessageFits, AskedFits};
+
+use super::asked::Asked;
+use signatures::Message;
+
+const MOST_METHOD: usize = 16;
+
+const MOST_AUTHORITY: usize = 255;
+
+const MOST_PATH: usize = 2048;
 
 const MOST_LINES: usize = 16384;
 
 const MOST_NAMES: usize = 1024;
 
-const MOST_VALUE: usize = 4096;
+const MOST_LABEL: usize = 64;
 
-const LEAST_OUT: usize = 4096;
+const MOST_KEY_ID: usize = 255;
 
-const LATEST: u64 = 999999999999999;
+const MOST_KEY: usize = 256;
 
-fn long_from(low: usize, high: usize, run: &[u8]) -> bool
-    ensures { result ≡ long_from low high run.now }
+#[tactic(auto, unfolding(crate::specs::Asked::message_fits))]
+fn message<'a>(
+    method: &'a [u8],
+    authority: &'a [u8],
+    path: &'a [u8],
+    lines: &'a [u8],
+) -> Option<Message<'a>>
+    ensures { MessageFits (message_of method.now authority.now path.now lines.now) result }
 {
-    (low <= run.len()) & (run.len() <= high)
+    if (1..=MOST_METHOD).contains(&method.len())
+        && (1..=MOST_AUTHORITY).contains(&authority.len())
+        && (1..=MOST_PATH).contains(&path.len())
+        && lines.len() <= MOST_LINES
+    {
+        return Some(Message {
+            method,
+            authority,
+            path,
+            lines,
+        });
+    }
+    None
 }
 
-fn message_fits(method: &[u8], authority: &[u8], path: &[u8], lines: &[u8]) -> bool
-    ensures { result ≡ message_fits (message_of method.now authority.now path.now lines.now) }
+// What both calls are lent, if it has the sizes.
+#[tactic(auto, unfolding(crate::specs::Asked::asked_fits))]
+pub fn asked<'a>(
+    method: &'a [u8],
+    authority: &'a [u8],
+    path: &'a [u8],
+    lines: &'a [u8],
+    names: &'a [u8],
+    label: &'a [u8],
+    key_id: &'a [u8],
+    key: &'a [u8],
+) -> Option<Asked<'a>>
+    ensures { AskedFits (asked_of method.now authority.now path.now lines.now names.now label.now key_id.now key.now) result }
 {
-    long_from(1, 16, method)
-        & (long_from(1, 255, authority) & (long_from(1, 2048, path) & (lines.len() <= MOST_LINES)))
-}
-
-fn asked_fits(
-    method: &[u8],
-    authority: &[u8],
-    path: &[u8],
-    lines: &[u8],
-    names: &[u8],
-    label: &[u8],
-    key_id: &[u8],
-    key: &[u8],
-) -> bool
-    ensures { result ≡ asked_fits (asked_of method.now authority.now path.now lines.now names.now label.now key_id.now key.now) }
-{
-    message_fits(method, authority, path, lines)
-        & ((names.len() <= MOST_NAMES)
-            & (long_from(1, 64, label) & (long_from(1, 255, key_id) & long_from(1, 256, key))))
-}
-
-pub fn sign_fits(
-    method: &[u8],
-    authority: &[u8],
-    path: &[u8],
-    lines: &[u8],
-    names: &[u8],
-    created: u64,
-    label: &[u8],
-    key_id: &[u8],
-    key: &[u8],
-    out: &[u8],
-) -> bool
-    ensures { result ≡ sign_fits (asked_of method.now authority.now path.now lines.now names.now label.now key_id.now key.now) created out.now }
-{
-    asked_fits(method, authority, path, lines, names, label, key_id, key)
-        & ((created <= LATEST) & (LEAST_OUT <= out.len()))
-}
-
-pub fn verify_fits(
-    method: &[u8],
-    authority: &[u8],
-    path: &[u8],
-    lines: &[u8],
-    names: &[u8],
-    label: &[u8],
-    key_id: &[u8],
-    key: &[u8],
-    input: &[u8],
-    signature: &[u8],
-    created: &[u8],
-) -> bool
-    ensures { result ≡ verify_fits (asked_of method.now authority.now path.now lines.now names.now label.now key_id.now key.now) input.now signature.now created.now }
-{
-    asked_fits(method, authority, path, lines, names, label, key_id, key)
-        & ((input.len() <= MOST_VALUE) & ((signature.len() <= MOST_VALUE) & (created.len() == 8)))
+    let message = message(method, authority, path, lines)?;
+    if names.len() <= MOST_NAMES
+        && (1..=MOST_LABEL).contains(&label.len())
+        && (1..=MOST_KEY_ID).contains(&key_id.len())
+        && (1..=MOST_KEY).contains(&key.len())
+    {
+        return Some(Asked {
+            message,
+            names,
+            label,
+            key_id,
+            key,
+        });
+    }
+    None
 }

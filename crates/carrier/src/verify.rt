@@ -1,132 +1,78 @@
 // Whether the two fields' values are those that are asked for.
-ghost use Rattle.std.specs.Prelude.{◌≡◌, List, cond, ℕ, ◌≤◌, length, take};
+ghost use Rattle.std.specs.Prelude.{◌≡◌, ◌≤◌, length, take};
 ghost use Rattle.cells.specs.Runs as R;
-ghost use Rattle.signatures.specs.Fields.{signature_value, covered_in};
+ghost use Rattle.signatures.specs.Fields.{signature_value};
 ghost use Rattle.signatures.specs.InnerAnswers.{Tells};
-ghost use Rattle.carrier.specs.Asked.{asked_of};
+ghost use Rattle.carrier.specs.Asked.{asked_number};
 ghost use Rattle.carrier.specs.Verify.{told_number, first_refusal, agrees};
-ghost use Rattle.carrier.specs.InnerSteps.{SizedValues, InForm, VerdictIs};
+ghost use Rattle.carrier.specs.Refusals.{number_in};
+ghost use Rattle.carrier.specs.InnerSteps.{asked_in, VerdictIs};
 
-use super::{asked, sign};
-use signatures::reading;
+use super::asked::Asked;
+use super::refusal::Refusal;
+use super::sign;
+use signatures::{Input, reading};
 
-// What is refused, or 0, and when the signature is said to have been created.
-#[derive(Clone, Copy)]
-pub struct Verdict {
-    pub number: u32,
-    pub created: u64,
-}
-
-pub fn judge(
-    method: &[u8],
-    authority: &[u8],
-    path: &[u8],
-    lines: &[u8],
-    names: &[u8],
-    label: &[u8],
-    key_id: &[u8],
-    key: &[u8],
-    input: &[u8],
-    signature: &[u8],
-) -> Verdict
-    requires { SizedValues (asked_of method.now authority.now path.now lines.now names.now label.now key_id.now key.now) input.now signature.now }
-    ensures { VerdictIs (asked_of method.now authority.now path.now lines.now names.now label.now key_id.now key.now) input.now signature.now result }
+// When the signature is said to have been created.
+pub fn judge(asked: &Asked, input: &[u8], signature: &[u8]) -> Result<u64, Refusal>
+    requires { (length input.now ≤ 4096) × (length signature.now ≤ 4096) }
+    ensures { VerdictIs (asked_in asked.now) input.now signature.now result }
 {
-    let mut names_room = [0u8; 4096];
-    let mut key_room = [0u8; 4096];
+    let mut names_room = [0; 4096];
+    let mut key_room = [0; 4096];
     let told = reading::read_input(input, &mut names_room, &mut key_room);
-    let created = told.created;
-    let label_told = &input[..told.label];
-    let names_told = &names_room[..told.names];
-    let key_id_told = &key_room[..told.key_id];
-    let asked = asked::number(method, authority, path, lines, names, label, key_id);
-    let fields = field_number(
-        label,
-        key_id,
-        input,
-        signature,
-        label_told,
-        names_told,
-        created,
-        key_id_told,
-    );
-    let mut number = first_refusal(asked, fields);
-    if number == 0 {
-        number = last_number(
-            method, authority, path, lines, names, label, key_id, key, input, signature, names_told,
-        );
+    first(asked.check(), check_told(asked, input, signature, &told))?;
+    if !agrees(asked, input, signature, &told) {
+        return Err(Refusal::BadSignature);
     }
-    Verdict { number, created }
+    Ok(told.created)
 }
 
 // What is refused of the two values, the list and the code apart, by what the first tells.
-fn field_number(
-    label: &[u8],
-    key_id: &[u8],
-    input: &[u8],
-    signature: &[u8],
-    label_told: &[u8],
-    names_told: &[u8],
-    created: u64,
-    key_id_told: &[u8],
-) -> u32
-    requires { (length input.now ≤ 4096) × (length signature.now ≤ 4096) × Tells input.now label_told.now names_told.now created key_id_told.now }
-    ensures { (method authority path lines names key : List ℕ) → result ≡ told_number (asked_of method authority path lines names label.now key_id.now key) input.now signature.now }
+fn check_told(asked: &Asked, input: &[u8], signature: &[u8], told: &Input) -> Result<(), Refusal>
+    requires { (length input.now ≤ 4096) × (length signature.now ≤ 4096) × Tells input.now told.now }
+    ensures { number_in result ≡ told_number (asked_in asked.now) input.now signature.now }
 {
-    let formed = reading::good_input(input, label_told, names_told, created, key_id_told)
-        & reading::good_signature(signature);
-    let asked_for = cells::same(label, label_told)
-        & (cells::same(label, reading::label_of(signature)) & cells::same(key_id, key_id_told));
+    let formed = reading::good_input(input, told) & reading::good_signature(signature);
+    let asked_for = cells::same(asked.label, told.label)
+        & (cells::same(asked.label, reading::label_of(signature))
+            & cells::same(asked.key_id, told.key_id));
     if !formed {
-        return 2;
+        return Err(Refusal::Malformed);
     }
-    if asked_for { 0 } else { 3 }
+    if !asked_for {
+        return Err(Refusal::BadLabel);
+    }
+    Ok(())
 }
 
-// The lower of two numbers that tell of a refusal; 0 tells of none.
-fn first_refusal(m: u32, n: u32) -> u32
-    ensures { result ≡ first_refusal m n }
+// The refusal with the lower number.
+fn first(asked: Result<(), Refusal>, told: Result<(), Refusal>) -> Result<(), Refusal>
+    ensures { number_in result ≡ first_refusal (number_in asked) (number_in told) }
 {
-    if m == 0 {
-        return n;
+    match (asked, told) {
+        (Err(refusal), Err(other)) if other.number() < refusal.number() => told,
+        (Ok(()), _) => told,
+        _ => asked,
     }
-    if n == 0 {
-        return m;
-    }
-    if n < m { n } else { m }
 }
 
-// 6 where the list is another one or the code, and else 0.
-fn last_number(
-    method: &[u8],
-    authority: &[u8],
-    path: &[u8],
-    lines: &[u8],
-    names: &[u8],
-    label: &[u8],
-    key_id: &[u8],
-    key: &[u8],
-    input: &[u8],
-    signature: &[u8],
-    names_told: &[u8],
-) -> u32
-    requires { InForm (asked_of method.now authority.now path.now lines.now names.now label.now key_id.now key.now) input.now signature.now × (names_told.now ≡ covered_in input.now) }
-    ensures { result ≡ cond (agrees (asked_of method.now authority.now path.now lines.now names.now label.now key_id.now key.now) input.now signature.now) 0 6 }
+// Whether the list is the one that is asked for, and the code that of the message.
+fn agrees(asked: &Asked, input: &[u8], signature: &[u8], told: &Input) -> bool
+    requires { (length input.now ≤ 4096) × Tells input.now told.now × (asked_number (asked_in asked.now) ≡ 0) × (told_number (asked_in asked.now) input.now signature.now ≡ 0) }
+    ensures { result ≡ agrees (asked_in asked.now) input.now signature.now }
 {
-    let params = structured::reading::past(input, label.len() + 1);
-    let code = signatures::code(method, authority, path, lines, names, params, key);
-    if cells::same(names, names_told) & bears(label, code, signature) {
-        return 0;
-    }
-    6
+    let params = structured::reading::past(input, asked.label.len() + 1);
+    let code = signatures::code(&asked.message, asked.names, params, asked.key);
+    cells::same(asked.names, told.names) & bears(asked.label, &code, signature)
 }
 
 // Whether a value of Signature is the label with a code: every byte is looked at, whatever the others are.
-fn bears(label: &[u8], code: [u8; 64], signature: &[u8]) -> bool
+fn bears(label: &[u8], code: &[u8; 64], signature: &[u8]) -> bool
     requires { length label.now ≤ 64 }
-    ensures { result ≡ R.same (signature_value label.now (take 32 code)) signature.now }
+    ensures { result ≡ R.same (signature_value label.now (take 32 code.now)) signature.now }
 {
-    let mut text = [0u8; 128];
+    let mut text = [0; 128];
     let end = sign::put_code(&mut text, 0, label, code);
     cells::same(&text[..end], signature)
 }
