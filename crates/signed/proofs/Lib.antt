@@ -2,4 +2,5 @@
 pub mod SameText
 pub mod Case12
 pub mod Streaming
+pub mod Going
 pub mod Short
