@@ -1,36 +1,26 @@
--- Blocks as two halves of 64 bits, as numbers and as bytes.
+-- Blocks as numbers and as bytes.
 -- Assumes nothing.
-use mathlib.Core.List.{List, [], ◌∷◌, ◌++◌}
-use mathlib.Core.Path.{◌≡◌, sym, ap, ◌∙◌}
-use Prim.Native.Nat.{ℕ, zero, suc, ◌+◌, ◌-◌, ◌*◌, ◌^◌, ◌<◌}
-use native.Mathlib.Nat.{sub-zero, zero-sub, suc-sub-suc}
-use native.Mathlib.Omega.{arith}
-use lib.ListN.{length, take, drop, replicate, take-append-drop, length-append, length-drop}
-use lib.Pow.{high}
+use Rattle.std.proofs.Common.{◌≡◌, List, [], ◌∷◌, ◌++◌, ℕ, zero, suc, ◌-◌, length, take, drop, get_or, replicate, set, sym, ap, ◌∙◌, refl, arith}
+use Rattle.std.specs.Int.{w128, from_be_bytes, to_be_bytes}
+use Rattle.std.proofs.Math.Nat.{zero-sub, sub-zero, suc-sub-suc, div-one}
 use lib.Seq.{take_all}
-use Rattle.cells.specs.Runs.{part, spliced, fronted}
+use Rattle.cells.specs.Runs.{fronted}
 use Rattle.cells.specs.Numbers.{bytes_of, number}
-use Rattle.cells.proofs.Runs.{joined, spliced_front, fronted_whole}
-use Rattle.cells.proofs.Numbers.{length_bytes_of, number_append, bytes_of_append, bytes_of_low}
+use Rattle.cells.proofs.Runs.{part_listed}
 use Rattle.gcm.specs.Gcm.{pre_counter}
 
--- a run in two parts, as a number
-pub number_parts : (s : List ℕ) (m n : ℕ) → length s ≡ m + n → number (part s 0 m) * 2 ^ (8 * n) + number (part s m n) ≡ number s
-number_parts s m n h =
-    let size : length (drop m s) ≡ n = length-drop m s ∙ omega arith in
-    let whole : number (take m s ++ drop m s) ≡ number s = rw take-append-drop in
-    rw (take_all n (drop m s) (omega arith), ← whole, number_append, size)
+-- the number that std reads, and the bytes that it writes
+pub number_read : (s : List ℕ) → length s ≡ 16 → from_be_bytes w128 s ≡ number s
+unfolding number
+number_read s h =
+    let bytes = get_or s 0 0 ∷ get_or s 1 0 ∷ get_or s 2 0 ∷ get_or s 3 0 ∷ get_or s 4 0 ∷ get_or s 5 0 ∷ get_or s 6 0 ∷ get_or s 7 0 ∷ get_or s 8 0 ∷ get_or s 9 0 ∷ get_or s 10 0 ∷ get_or s 11 0 ∷ get_or s 12 0 ∷ get_or s 13 0 ∷ get_or s 14 0 ∷ get_or s 15 0 ∷ [] in
+    let listed : take 16 s ≡ bytes = part_listed s 0 0 16 (omega arith) in
+    let read : from_be_bytes w128 s ≡ number bytes = omega arith in
+    read ∙ ap number (sym listed ∙ take_all 16 s (omega arith))
 
--- the two halves written side by side are the bytes of the block
-pub halves_laid : (h l : ℕ) → l < 2 ^ 64 → spliced (spliced (replicate 16 0) 0 (bytes_of 8 h)) 8 (bytes_of 8 l) ≡ bytes_of 16 (h * 2 ^ 64 + l)
-halves_laid h l k =
-    let a = bytes_of 8 h in
-    let b = bytes_of 8 l in
-    let size : length (a ++ b) ≡ 16 = simp (length-append, length_bytes_of) in
-    joined (replicate 16 0) a b 0 8 (omega (arith, length_bytes_of 8 h, length_bytes_of 8 l)) (omega (arith, length_bytes_of 8 h))
-    ∙ spliced_front (replicate 16 0) (a ++ b)
-    ∙ fronted_whole (a ++ b) (replicate 16 0) size
-    ∙ sym (bytes_of_append 8 8 (h * 2 ^ 64 + l) ∙ rw (high h 64 k, bytes_of_low 8 h l))
+pub bytes_written : (n : ℕ) → to_be_bytes w128 n ≡ bytes_of 16 n
+unfolding bytes_of
+bytes_written n = simp div-one
 
 drop_zeros : (n m : ℕ) → drop n (replicate {A = ℕ} m 0) ≡ replicate (m - n) 0
 drop_zeros zero m = rw sub-zero
@@ -42,9 +32,7 @@ pub fronted_zeros : (xs : List ℕ) (m : ℕ) → fronted xs (replicate m 0) ≡
 unfolding fronted
 fronted_zeros xs m = ap (λ (l : List ℕ). xs ++ l) (drop_zeros (length xs) m)
 
--- the first counter block, from the two parts of an IV
-pub pre_counter_whole : (iv : List ℕ) → length iv ≡ 12
-    → number (part iv 0 8) * 2 ^ 64 + (number (part iv 8 4) * 4294967296 + 1) ≡ pre_counter iv
-unfolding pre_counter number
-pre_counter_whole iv h =
-    sym (number_append iv (0 ∷ 0 ∷ 0 ∷ 1 ∷ []) ∙ ap (λ (n : ℕ). n * 2 ^ 32 + 1) (sym (number_parts iv 8 4 h)) ∙ omega arith)
+-- an IV at the front of a block that ends in a one
+pub pre_counter_laid : (iv : List ℕ) → length iv ≡ 12 → number (fronted iv (set (replicate 16 0) 15 1)) ≡ pre_counter iv
+unfolding fronted pre_counter
+pre_counter_laid iv h = rw h refl
