@@ -20,7 +20,7 @@ use Rattle.armor.specs.InnerScan.{Sizes}
 use Rattle.cells.proofs.Tests.{tested}
 use Rattle.armor.proofs.Numerals.{number_bytes_number, mask_bytes_mask_of}
 use Rattle.armor.proofs.Value.{grammar_exactly}
-use Rattle.armor.proofs.Fields.{obeyed_once}
+use Rattle.armor.proofs.Noting.{obeyed_once}
 use Rattle.armor.proofs.Scan.{carried_is}
 use Rattle.armor.proofs.Requests.{Required, request_parts, sizes}
 

@@ -4,7 +4,7 @@ pub mod Pieces
 pub mod Keys
 pub mod Value
 pub mod Scan
-pub mod Fields
+pub mod Noting
 pub mod Texts
 pub mod Requests
 pub mod Replies

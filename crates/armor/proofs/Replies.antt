@@ -19,7 +19,7 @@ use Rattle.armor.proofs.Numerals.{first, second}
 use Rattle.armor.proofs.Keys.{from_at}
 use Rattle.armor.proofs.Value.{grammar_exactly}
 use Rattle.armor.proofs.Texts.{mask_room, sized_room}
-use Rattle.armor.proofs.Fields.{single, obeyed_once, reply_counts}
+use Rattle.armor.proofs.Noting.{single, obeyed_once, reply_counts}
 use Rattle.armor.proofs.Requests.{exact}
 
 -- how often each key stands

@@ -8,26 +8,24 @@ use mathlib.Core.Option.{some, none}
 use Prim.Native.Nat.{ℕ, ◌<◌, ◌≤◌}
 use native.Mathlib.Omega.{arith}
 use lib.Dec.{eqb, lit<}
-use lib.ListN.{length, take}
+use lib.ListN.{length}
 use borrow.Author.Tests.{eqb-true, eqb-false, leb-true}
-use Rattle.cells.specs.Runs.{part}
 use Rattle.std.specs.Prelude.{Result, Ok, Err, ok_or}
 use Rattle.std.specs.Prelude as Option
 use Rattle.armor.specs.declared.seen.Seen.{Seen}
 use Rattle.armor.specs.declared.Unread.{Unread}
-use Rattle.armor.specs.declared.Request.{Request}
 use Rattle.armor.specs.Numerals.{mask_of}
 use Rattle.armor.specs.Keys.{sized, obeys, keys, rule_at, key_t, key_lt, key_n, key_h, key_ah, key_r, key_s, key_c, key_iv, key_tag, key_eah, other_key, mask}
 use Rattle.armor.specs.Value.{Field, all_good, grammar, carried, told, held as held_in}
 use Rattle.armor.specs.Fields.{times, the, right_times, nonce_bit, request_fields, setup_fields}
-use Rattle.armor.specs.InnerAnswers.{request_from, request_answer, setup_from, setup_answer, Lies}
+use Rattle.armor.specs.InnerAnswers.{request_from, request_answer, setup_from, setup_answer}
 use Rattle.armor.specs.InnerScan.{Sound, Sizes, Ready, count_in, text_in}
 use Rattle.cells.proofs.Tests.{tested, both}
 use Rattle.armor.proofs.Numerals.{first, second}
 use Rattle.armor.proofs.Keys.{from_at}
 use Rattle.armor.proofs.Value.{grammar_exactly}
-use Rattle.armor.proofs.Texts.{Written, number_room, mask_room, sized_room, either_room}
-use Rattle.armor.proofs.Fields.{single, obeyed_once, none_held, count_bit, counted, counts_are}
+use Rattle.armor.proofs.Texts.{number_room, mask_room, sized_room, either_room}
+use Rattle.armor.proofs.Noting.{single, obeyed_once, none_held, count_bit, counted, counts_are}
 
 -- how often each key stands
 pub record Required (n : ℕ → ℕ) : Type 0 where
@@ -99,24 +97,6 @@ module _ (fs : List Field) (good : all_good fs ≡ true) (right : request_fields
 -- c is at most as long as the longer of its two sizes
 pub signature_room : {fs : List Field} → Sizes fs → length (the key_c fs) ≤ 64
 signature_room sizes = ⊎_elim (λ e. omega arith) (λ e. omega arith) sizes.c
-
--- contents that were written one behind the other lie in the run
-pub lying : {q : Request} {run₀ run₁ run₂ run₃ run : List ℕ} (fs : List Field) → Sizes fs → q.s_len ≡ length (the key_s fs) → q.c_len ≡ length (the key_c fs)
-    → Written run₀ run₁ 0 (the key_s fs) → Written run₁ run₂ 118 (the key_c fs) → Written run₂ run₃ 182 (the key_iv fs) → Written run₃ run 194 (the key_tag fs)
-    → Lies fs q run
-lying {run = run} fs sizes token signature one two three four =
-    let s = length (the key_s fs) in
-    let c = length (the key_c fs) in
-    let iv = length (the key_iv fs) in
-    let short = sizes.s.1 in
-    let room = signature_room sizes in
-    let twelve = sizes.iv in
-    record {
-      token = ap (λ (n : ℕ). take n run) token ∙ four.kept 0 s (omega arith) ∙ three.kept 0 s (omega arith) ∙ two.kept 0 s (omega arith) ∙ one.here;
-      signature = ap (part run 118) signature ∙ four.kept 118 c (omega arith) ∙ three.kept 118 c (omega arith) ∙ two.here;
-      vector = ap (part run 182) (sym twelve) ∙ four.kept 182 iv (omega arith) ∙ three.here;
-      tag = ap (part run 194) (sym sizes.tag) ∙ four.here;
-    }
 
 -- what is ready to be read
 pub ready : {seen : Seen} → Sound seen → request_fields (carried seen.value.now) ≡ true → Ready seen

@@ -3,20 +3,18 @@
 use mathlib.Core.Path.{◌≡◌, refl, sym, ap, ap₂, ◌∙◌}
 use mathlib.Core.Logic.{◌⊎◌, inl, inr}
 use mathlib.Core.Bool.{Bool, true, false, ◌&&◌, ◌||◌, and-false}
-use mathlib.Core.List.{List, [], ◌∷◌, ◌++◌, append_assoc}
-use Prim.Native.Nat.{ℕ, ◌+◌, ◌-◌, ◌<◌, ◌≤◌}
-use native.Mathlib.Nat.{zero-add}
+use mathlib.Core.List.{List, [], ◌∷◌}
+use Prim.Native.Nat.{ℕ, ◌-◌, ◌<◌, ◌≤◌}
 use native.Mathlib.Omega.{arith}
 use lib.Dec.{eqb, leb}
-use lib.ListN.{length, get_or, take, drop, length-append, length-drop, length-take, take-append-drop}
+use lib.ListN.{length, get_or, take, drop}
 use Rattle.std.specs.Prelude.{replicate}
 use Rattle.std.proofs.lemmas.List.{length-replicate}
-use lib.Seq.{take_at, drop_at, length-take-le}
+use lib.Seq.{take_at, take_all}
 use borrow.Author.Tests.{eqb-true, ne_eqb, leb-true, leb-false, le-leb, lt-leb}
-use Rattle.cells.specs.Runs.{fronted, part}
+use Rattle.cells.specs.Runs.{fronted}
 use Rattle.cells.specs.Numbers
-use Rattle.cells.proofs.Cuts.{part_part}
-use Rattle.cells.proofs.Runs.{length_fronted, length_part, fronted_whole}
+use Rattle.cells.proofs.Runs.{length_fronted, fronted_whole}
 use Rattle.std.specs.Prelude.{Some, None, Result, Ok, Err, unwrap_or}
 use Rattle.std.specs.Result.{result_unwrap_or}
 use Rattle.base_64.specs.declared.Undecoded.{Undecoded}
@@ -187,46 +185,8 @@ either_test n short long s l =
     tested (leb 1 n) (λ e. rw e)
     (λ e. let none : n < 1 = leb-false 1 n e in rw (e, ne_eqb n short (λ z. omega arith), ne_eqb n long (λ z. omega arith)))
 
--- a mask's bytes after its length byte
-pub mask_taken : (bs out : List ℕ) (n : ℕ) {left : List ℕ} → 1 ≤ length bs → left ≡ fronted bs out → n ≡ length bs
-    → Numbers.number (take (n - 1) (drop 1 left)) ≡ mask_of bs
-unfolding mask_of fronted
-mask_taken [] out n one e s = absurd (omega arith)
-mask_taken (b ∷ bs) out n one e s =
-    ap Numbers.number
-    (ap (λ (l : List ℕ). take (n - 1) (drop 1 l)) e ∙ take_at bs (drop (length (b ∷ bs)) out) (n - 1) (omega arith))
-
--- ys is xs with a run written from index a on: what stands before it stays
-pub record Written (xs ys : List ℕ) (a : ℕ) (run : List ℕ) : Type 0 where
-  pub long : length ys ≡ length xs
-  pub here : part ys a (length run) ≡ run
-  pub kept : (at k : ℕ) → at + k ≤ a → part ys at k ≡ part xs at k
-
--- a part of the front
-front_part_lem : (xs rest : List ℕ) (a at k : ℕ) → a ≤ length xs → at + k ≤ a → part (take a xs ++ rest) at k ≡ part (take a xs) at k
-front_part_lem xs rest a at k h j =
-    let long = length-take-le a xs h in
-    let room : a ≤ length (take a xs ++ rest) = omega (arith, length-append (take a xs) rest) in
-    ap (λ (i : ℕ). part (take a xs ++ rest) i k) (sym (zero-add at))
-    ∙ sym (part_part (take a xs ++ rest) 0 a at k (omega arith) j)
-    ∙ ap (λ (l : List ℕ). part l at k) (take_at (take a xs) rest a long)
-
--- what a part leaves that was lent to be filled from its front
-pub written : (xs run : List ℕ) (a n : ℕ) {left : List ℕ} → a + n ≤ length xs → length run ≤ n → left ≡ fronted run (part xs a n)
-    → Written xs (take a xs ++ (left ++ drop n (drop a xs))) a run
-unfolding fronted
-written xs run a n {left} room fits e =
-    let more = drop (length run) (part xs a n) in
-    let rest = drop n (drop a xs) in
-    let size : length left ≡ n = ap length e ∙ length_fronted run (part xs a n) (omega (arith, length_part xs a n room)) ∙ length_part xs a n room in
-    record {
-      long = simp (length-append, length-take, length-drop) (omega arith);
-      here = ap (take (length run)) (drop_at (take a xs) (left ++ rest) a (length-take-le a xs (omega arith)))
-          ∙ ap (λ (l : List ℕ). take (length run) (l ++ rest)) e
-          ∙ ap (take (length run)) (append_assoc run more rest)
-          ∙ take_at run (more ++ rest) (length run) refl;
-      kept = λ at k j.
-          front_part_lem xs (left ++ rest) a at k (omega arith) j
-          ∙ sym (front_part_lem xs (drop a xs) a at k (omega arith) j)
-          ∙ ap (λ (l : List ℕ). part l at k) (take-append-drop a xs);
-    }
+-- the number of a mask is that of the bytes after its length byte
+pub mask_rest : (bs : List ℕ) → Numbers.number (take (length bs - 1) (drop 1 bs)) ≡ mask_of bs
+unfolding mask_of Numbers.number
+mask_rest [] = refl
+mask_rest (b ∷ bs) = ap Numbers.number (take_all (length (b ∷ bs) - 1) bs (omega arith))

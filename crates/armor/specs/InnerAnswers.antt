@@ -1,14 +1,15 @@
 -- What reading a value comes to: document 01, The numbers a call returns.
 -- Assumes nothing.
-use Rattle.std.specs.Prelude.{◌≡◌, Bool, true, false, cond, List, ℕ, ◌≤◌, eqb, length, take, Result, Ok, Err, IfSome, is_some}
+use Rattle.std.specs.Prelude.{◌≡◌, Bool, true, false, cond, List, ℕ, ◌≤◌, eqb, length, Result, Ok, Err, IfSome, is_some}
 use Rattle.std.specs.Prelude as P
 use Rattle.std.proofs.Math.Option.{Option, none, some}
-use Rattle.cells.specs.Runs.{cut, part}
+use Rattle.cells.specs.Runs.{cut}
 use Rattle.cells.specs.Run.{run_of}
 use Rattle.cells.specs.Numbers.{number}
 use Rattle.base_64.specs.Encoding.{encoded}
 use Rattle.armor.specs.declared.Unread.{Unread}
 use Rattle.armor.specs.declared.Span.{Span}
+use Rattle.armor.specs.declared.Fields.{Fields}
 use Rattle.armor.specs.declared.Request.{Request}
 use Rattle.armor.specs.declared.Reply.{Reply}
 use Rattle.armor.specs.Numerals.{mask_of}
@@ -46,10 +47,6 @@ pub record Encodes (v bs : List ℕ) (s : Span) : Type 0 where
 
 -- a request holds what its fields do, the bytes of four of them apart
 pub record Holds (v : List ℕ) (fs : List Field) (q : Request) : Type 0 where
-  pub token_size : q.s_len ≡ length (the key_s fs)
-  pub token_fits : q.s_len ≤ 118
-  pub signature_size : q.c_len ≡ length (the key_c fs)
-  pub signature_fits : q.c_len ≤ 64
   pub time : q.t.0 ≡ number (the key_t fs)
   pub last_time : q.lt.0 ≡ number (the key_lt fs)
   pub nonce : q.n.0 ≡ number (the key_n fs)
@@ -58,22 +55,22 @@ pub record Holds (v : List ℕ) (fs : List Field) (q : Request) : Type 0 where
   pub with_extra : is_some q.eah ≡ eqb (times key_eah fs) 1
   pub extra : IfSome q.eah (λ s. Encodes v (the key_eah fs) s)
 
--- the bytes of those four lie in a run
-pub record Lies (fs : List Field) (q : Request) (run : List ℕ) : Type 0 where
-  pub token : take q.s_len run ≡ the key_s fs
-  pub signature : part run 118 q.c_len ≡ the key_c fs
-  pub vector : part run 182 12 ≡ the key_iv fs
-  pub tag : part run 194 16 ≡ the key_tag fs
+-- the bytes of those four lie in their places
+pub record Lies (fs : List Field) (held : Fields) : Type 0 where
+  pub token : run_of held.s ≡ the key_s fs
+  pub signature : run_of held.c ≡ the key_c fs
+  pub vector : held.iv ≡ the key_iv fs
+  pub tag : held.tag ≡ the key_tag fs
 
--- a good request, and its bytes in the run
-pub record Carries (v run : List ℕ) (q : Request) : Type 0 where
+-- a good request, and its bytes in their places
+pub record Carries (v : List ℕ) (held : Fields) (q : Request) : Type 0 where
   pub is : request_answer v ≡ Ok tt
   pub holds : Holds v (carried v) q
-  pub lies : Lies (carried v) q run
+  pub lies : Lies (carried v) held
 
-abbrev pub ReadsRequest : List ℕ → List ℕ → Result Request Unread → Type 0
-ReadsRequest v run (Ok q) = Carries v run q
-ReadsRequest v run (Err e) = request_answer v ≡ Err e
+abbrev pub ReadsRequest : List ℕ → Fields → Result Request Unread → Type 0
+ReadsRequest v held (Ok q) = Carries v held q
+ReadsRequest v held (Err e) = request_answer v ≡ Err e
 
 -- a setup's reply holds what its fields do
 pub record HoldsReply (fs : List Field) (r : Reply) : Type 0 where

@@ -1,6 +1,7 @@
 // What the noted texts of a value hold.
 ghost use Rattle.std.specs.Prelude.{◌≡◌, ◌≤◌, length};
 ghost use Rattle.cells.specs.Runs.{fronted};
+ghost use Rattle.cells.specs.Run.{run_of};
 ghost use Rattle.cells.specs.Numbers.{number};
 ghost use Rattle.armor.specs.Numerals.{mask_of};
 ghost use Rattle.armor.specs.Keys.{key_eah};
@@ -11,7 +12,7 @@ ghost use Rattle.armor.specs.InnerScan.{count_in, span_in, Sound, Ready, ReadyRe
 
 use super::key::Key;
 use super::seen::Seen;
-use super::{Reply, Request, Span, numeral};
+use super::{Fields, Reply, Request, Span, numeral};
 use cells::Run;
 use window::Nonce;
 use window::time::Time;
@@ -50,14 +51,32 @@ fn content(text: &[u8], out: &mut [u8]) -> usize
     base_64::decode(text, out).unwrap_or(0)
 }
 
+// What a text encodes, of which there are at most N bytes.
+fn held<const N: usize>(text: &[u8]) -> Run<N>
+    requires { length (told text.now) ≤ N }
+    ensures { run_of result ≡ told text.now }
+{
+    let mut out = [0; N];
+    let n = content(text, &mut out);
+    Run::of(&out[..n])
+}
+
+// The same of a text that encodes N bytes.
+fn whole<const N: usize>(text: &[u8]) -> [u8; N]
+    requires { length (told text.now) ≡ N }
+    ensures { result ≡ told text.now }
+{
+    let mut out = [0; N];
+    content(text, &mut out);
+    out
+}
+
 // The number that a text encodes.
 fn number_in(text: &[u8]) -> u32
     requires { length (told text.now) ≤ 4 }
     ensures { result ≡ number (told text.now) }
 {
-    let mut out = [0u8; 4];
-    let n = content(text, &mut out);
-    numeral::number32(&out[..n])
+    numeral::number32(held::<4>(text).as_slice())
 }
 
 // The mask that a text encodes.
@@ -65,9 +84,7 @@ pub fn mask_in(text: &[u8]) -> u64
     requires { (1 ≤ length (told text.now)) × (length (told text.now) ≤ 9) }
     ensures { result ≡ mask_of (told text.now) }
 {
-    let mut out = [0u8; 9];
-    let n = content(text, &mut out);
-    numeral::number_of(&out[1..n])
+    numeral::number_of(&held::<9>(text).as_slice()[1..])
 }
 
 // Where the text of eah stands, where it is carried.
@@ -81,18 +98,16 @@ fn extra_span(seen: &Seen) -> Option<Span>
     Some(tally.text)
 }
 
-// What a request carries: the byte fields go to their places in the run, of which Request tells, the rest into the answer.
-pub fn request_of(seen: &Seen, fields: &mut [u8]) -> Request
-    requires { Ready seen.now × (length fields.old ≡ 210) }
-    ensures { Holds seen.now.value.now (carried seen.now.value.now) result × Lies (carried seen.now.value.now) result fields.new }
+// What a request carries: the byte fields go to their places, the rest into the answer.
+pub fn request_of(seen: &Seen, fields: &mut Fields) -> Request
+    requires { Ready seen.now }
+    ensures { Holds seen.now.value.now (carried seen.now.value.now) result × Lies (carried seen.now.value.now) fields.new }
 {
-    let s_len = content(seen.text(Key::S), &mut fields[..118]);
-    let c_len = content(seen.text(Key::C), &mut fields[118..182]);
-    content(seen.text(Key::Iv), &mut fields[182..194]);
-    content(seen.text(Key::Tag), &mut fields[194..210]);
+    fields.s = held(seen.text(Key::S));
+    fields.c = held(seen.text(Key::C));
+    fields.iv = whole(seen.text(Key::Iv));
+    fields.tag = whole(seen.text(Key::Tag));
     Request {
-        s_len,
-        c_len,
         t: Time(number_in(seen.text(Key::T))),
         lt: Time(number_in(seen.text(Key::Lt))),
         n: Nonce(number_in(seen.text(Key::N))),
@@ -141,23 +156,13 @@ pub fn reply_of(seen: &Seen) -> Reply
     requires { ReadyReply seen.now }
     ensures { HoldsReply (carried seen.now.value.now) result }
 {
-    let mut s = [0u8; 118];
-    let mut iv = [0u8; 12];
-    let mut tag = [0u8; 16];
-    let mut session_key = [0u8; 32];
-    let mut eah = [0u8; 128];
-    let s_len = content(seen.text(Key::S), &mut s);
-    content(seen.text(Key::Iv), &mut iv);
-    content(seen.text(Key::Tag), &mut tag);
-    content(seen.text(Key::Other), &mut session_key);
-    let eah_len = content(seen.text(Key::Eah), &mut eah);
     Reply {
-        s: Run::of(&s[..s_len]),
-        iv,
-        tag,
-        key: session_key,
+        s: held(seen.text(Key::S)),
+        iv: whole(seen.text(Key::Iv)),
+        tag: whole(seen.text(Key::Tag)),
+        key: whole(seen.text(Key::Other)),
         h: mask_in(seen.text(Key::H)),
         ah: mask_in(seen.text(Key::Ah)),
-        eah: Run::of(&eah[..eah_len]),
+        eah: held(seen.text(Key::Eah)),
     }
 }

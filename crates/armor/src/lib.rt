@@ -1,7 +1,8 @@
 // The X-S-Armor value of a setup, of a request and of a reply.
 #![tactic(auto)]
 
-ghost use Rattle.std.specs.Prelude.{◌≡◌, ◌≤◌, length};
+ghost use Rattle.std.specs.Prelude.{◌≡◌, []};
+ghost use Rattle.cells.specs.Run.{run_of};
 ghost use Rattle.armor.specs.InnerAnswers.{setup_answer, ReadsRequest, ReadsReply};
 
 use cells::Run;
@@ -34,12 +35,31 @@ pub struct Span {
     pub end: usize,
 }
 
-// What a good request carries; of eah, where its text stands in the value. The bytes of s, c, iv and tag lie once, in a run of 210 bytes that
-// the caller lends: s from byte 0 on, c from 118, iv from 182 and tag from 194.
+// The bytes of s, c, iv and tag of a request. They lie once, where the caller lends them.
+#[derive(Clone, Copy)]
+pub struct Fields {
+    pub s: Run<118>,
+    pub c: Run<64>,
+    pub iv: [u8; 12],
+    pub tag: [u8; 16],
+}
+
+impl Fields {
+    pub fn new() -> Fields
+        ensures { (run_of result.s ≡ []) × (run_of result.c ≡ []) }
+    {
+        Fields {
+            s: Run::new(),
+            c: Run::new(),
+            iv: [0; 12],
+            tag: [0; 16],
+        }
+    }
+}
+
+// What else a good request carries; of eah, where its text stands in the value.
 #[derive(Clone, Copy)]
 pub struct Request {
-    pub s_len: usize,
-    pub c_len: usize,
     pub t: Time,
     pub lt: Time,
     pub n: Nonce,
@@ -62,7 +82,6 @@ pub struct Reply {
 
 // The mask of a setup request.
 pub fn read_setup(value: &[u8]) -> Result<u64, Unread>
-    requires { length value.now ≤ 4096 }
     ensures { result ≡ setup_answer value.now }
 {
     let seen = scanning::scan_value(value).ok_or(Unread::Grammar)?;
@@ -73,9 +92,8 @@ pub fn read_setup(value: &[u8]) -> Result<u64, Unread>
     Ok(contents::mask_in(seen.text(Key::R)))
 }
 
-// What a request carries, its byte fields in the run.
-pub fn read_request(value: &[u8], fields: &mut [u8]) -> Result<Request, Unread>
-    requires { (length value.now ≤ 4096) × (length fields.old ≡ 210) }
+// What a request carries, its byte fields in their places.
+pub fn read_request(value: &[u8], fields: &mut Fields) -> Result<Request, Unread>
     ensures { ReadsRequest value.now fields.new result }
 {
     let seen = scanning::scan_value(value).ok_or(Unread::Grammar)?;
@@ -87,7 +105,6 @@ pub fn read_request(value: &[u8], fields: &mut [u8]) -> Result<Request, Unread>
 
 // What a setup's reply carries, if its set of fields is that of one.
 pub fn read_reply(value: &[u8]) -> Option<Reply>
-    requires { length value.now ≤ 4096 }
     ensures { ReadsReply value.now result }
 {
     let seen = scanning::scan_value(value)?;

@@ -83,7 +83,6 @@ fn piece_end(value: &[u8], at: usize) -> usize
 
 // What the fields of a value are, if it keeps its grammar.
 pub fn scan_value(value: &[u8]) -> Option<Seen<'_>>
-    requires { length value.now ≤ 4096 }
     ensures { Scanned value.now result }
 {
     if value.is_empty() {

@@ -1,6 +1,6 @@
 -- What a request holds as numbers and as a text tells whether its fields are those that the orders say.
 -- Assumes nothing.
-use mathlib.Core.Path.{◌≡◌, refl, sym, ap, ap₂, ◌∙◌}
+use mathlib.Core.Path.{◌≡◌, refl, sym, ap, ◌∙◌}
 use mathlib.Core.Bool.{Bool, true, false, cond, not, false≢true, ◌&&◌}
 use mathlib.Core.List.{List, [], ◌∷◌}
 use mathlib.Core.Option.{Option, none, some, get_or}
@@ -9,7 +9,7 @@ use native.Mathlib.Omega.{arith}
 use lib.Dec.{eqb}
 use lib.ListN.{length}
 use borrow.Author.Tests.{eqb-true, eqb-false, eq-eqb, ne_eqb}
-use Rattle.cells.specs.Runs.{Bytes, cut, same}
+use Rattle.cells.specs.Runs.{Bytes, same}
 use Rattle.cells.proofs.Equality.{same_self, same_not, same_equal}
 use Rattle.base_64.specs.Encoding.{encoded}
 use Rattle.base_64.proofs.Exactly.{encoded_injective}
@@ -20,7 +20,7 @@ use Rattle.armor.specs.declared.Span.{Span}
 use Rattle.armor.specs.declared.Request.{Request}
 use Rattle.hashes.specs.Hashes.{digest_size, named, allowed_one}
 use Rattle.armor.specs.Numerals.{mask_bytes, mask_of}
-use Rattle.armor.specs.Keys.{key_ah, key_eah}
+use Rattle.armor.specs.Keys.{key_ah, key_c, key_eah}
 use Rattle.armor.specs.Value.{Field, grammar, carried}
 use Rattle.armor.specs.Fields.{contents, times, the, right_times, request_fields}
 use Rattle.armor.specs.InnerAnswers.{request_from, request_answer, Encodes, Holds}
@@ -68,11 +68,11 @@ module _ (v : List ℕ) (q : Request) (good : request_fields (carried v) ≡ tru
   coverage_test : (m : ℕ) → m < 2 ^ 64 → same (the key_ah (carried v)) (mask_bytes m) ≡ eqb q.ah m
   coverage_test m fits = mask_test (the key_ah (carried v)) q.ah m (coverage_bytes v answer) holds.coverage fits
 
-  pub ordered : (hashes mask : ℕ) (extra : List ℕ) {allowed covered : Bool} {size : ℕ} → mask < 2 ^ 64
+  pub ordered : (hashes mask : ℕ) (extra : List ℕ) {allowed covered : Bool} {size long : ℕ} → mask < 2 ^ 64 → long ≡ length (the key_c (carried v))
       → allowed ≡ allowed_one hashes q.h → size ≡ digest_size (named q.h) → covered ≡ extra_as_ordered extra (carried v)
-      → ((allowed && eqb q.c_len size) && (eqb q.ah mask && covered)) ≡ as_ordered hashes mask extra (carried v)
+      → ((allowed && eqb long size) && (eqb q.ah mask && covered)) ≡ as_ordered hashes mask extra (carried v)
   unfolding as_ordered
-  ordered hashes mask extra fits a s e = rw (a, s, e, holds.hash, holds.signature_size, coverage_test mask fits)
+  ordered hashes mask extra fits l a s e = rw (l, a, s, e, holds.hash, coverage_test mask fits)
 
   -- what stands where eah's text is
   by_text : (o : Prelude.Option Span) → is_some o ≡ eqb (times key_eah (carried v)) 1 → IfSome o (λ t. Encodes v (the key_eah (carried v)) t)

@@ -5,7 +5,8 @@ ghost use Rattle.std.specs.Prelude.{◌≡◌, true, ◌≤◌, IfSome, length};
 ghost use Rattle.cells.specs.Runs.{same};
 ghost use Rattle.base_64.specs.Encoding.{encoded};
 ghost use Rattle.armor.specs.Value.{carried};
-ghost use Rattle.armor.specs.Fields.{request_fields};
+ghost use Rattle.armor.specs.Keys.{key_c};
+ghost use Rattle.armor.specs.Fields.{the, request_fields};
 ghost use Rattle.armor.specs.InnerAnswers.{Holds};
 ghost use Rattle.coverage.specs.Coverage.{as_ordered};
 ghost use Rattle.coverage.specs.InnerTold.{told};
@@ -14,12 +15,19 @@ use armor::{Request, Span};
 use hashes::Hash;
 
 // Whether h of a request is one that the orders allow, c as long as its digests, and ah and eah those that the orders say, byte for byte.
-pub fn as_ordered(value: &[u8], request: &Request, hashes: u64, mask: u64, extra: &[u8]) -> bool
-    requires { (request_fields (carried value.now) ≡ true) × Holds value.now (carried value.now) request.now × (length extra.now ≤ 128) }
+pub fn as_ordered(
+    value: &[u8],
+    request: &Request,
+    c: &[u8],
+    hashes: u64,
+    mask: u64,
+    extra: &[u8],
+) -> bool
+    requires { (request_fields (carried value.now) ≡ true) × Holds value.now (carried value.now) request.now × (length c.now ≡ length (the key_c (carried value.now))) × (length extra.now ≤ 128) }
     ensures { result ≡ as_ordered hashes mask extra.now (carried value.now) }
 {
     let size = Hash::named(request.h).size();
-    let hash_good = hashes::allowed_one(hashes, request.h) & (request.c_len == size);
+    let hash_good = hashes::allowed_one(hashes, request.h) & (c.len() == size);
     let mask_good = request.ah == mask;
     hash_good & (mask_good & extra_good(value, request.eah, extra))
 }

@@ -17,7 +17,7 @@ use Rattle.hashes.specs.Hashes.{hash_mask}
 use Rattle.cells.specs.Numbers.{number}
 use Rattle.armor.specs.Numerals.{number_bytes, mask_bytes, mask_of}
 use Rattle.armor.specs.Keys.{key_n}
-use Rattle.armor.proofs.Fields.{none_held}
+use Rattle.armor.proofs.Noting.{none_held}
 use Rattle.lines.specs.Lines.{lines_in}
 use Rattle.signed.specs.SignedText.{signed_text}
 use Rattle.signed.proofs.SameText as Text

@@ -4,7 +4,7 @@ use mathlib.Core.Path.{◌≡◌, refl}
 use mathlib.Core.List.{List, [], ◌∷◌}
 use Prim.Native.Nat.{ℕ, ◌+◌, ◌*◌, ◌/◌, ◌≤◌}
 use native.Mathlib.Omega.{arith}
-use lib.ListN.{length, length-append}
+use lib.ListN.{length, length-append, length-take}
 use Rattle.cells.specs.Numbers.{bytes_of}
 use Rattle.base_64.proofs.Encoded.{length_encoded}
 use Rattle.hashes.specs.declared.Hash.{Hash}
@@ -16,6 +16,8 @@ use Rattle.cells.specs.Text.{codes}
 use Rattle.armor.specs.Numerals.{shortest, number_bytes, mask_bytes}
 use Rattle.armor.specs.Value.{Field, field, field_text, following}
 use Rattle.armor.proofs.Numerals.{length_mask_bytes}
+use Rattle.cells.specs.declared.Run.{Run}
+use Rattle.cells.specs.Run.{run_of}
 use Rattle.reply.specs.Replies.{extra_field, setup_reply, invalidation, invalidation_size}
 use Rattle.reply.proofs.Laying.{setup_fields_lem}
 
@@ -45,6 +47,9 @@ pub setup_short : (s iv tag key : List ℕ) (hash : Hash) (mask : ℕ) (extra : 
 unfolding codes
 setup_short s iv tag key hash mask extra hs hiv htag hkey hextra =
     rw setup_fields_lem (simp (length-append, length_field, length_following) (omega (arith, length_hash hash, length_mask_bytes mask, length_extra extra hextra)))
+
+pub run_short : {N : ℕ} (r : Run N) → length (run_of r) ≤ N
+run_short r = omega (arith, length-take r.len r.bytes, r.fits)
 
 -- an invalidation has 46 bytes or 90
 pub length_invalidation : (hash : Hash) (key : List ℕ) → length (invalidation hash key) ≡ invalidation_size hash

@@ -2,3 +2,4 @@
 pub mod Replies
 pub mod LaidOut
 pub mod InnerRead
+pub mod InnerWritten

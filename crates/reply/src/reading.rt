@@ -7,7 +7,6 @@ ghost use Rattle.reply.specs.LaidOut.{reply_with};
 ghost use Rattle.reply.specs.InnerRead.{ReadsLaidOut};
 
 use armor::Reply;
-use hashes::Hash;
 
 // What a reply carries, if it is laid out as a setup writes it. Not inlined, as is_written is not, so that gate_fits signs without their frames.
 #[inline(never)]
@@ -30,15 +29,6 @@ fn is_written(text: &[u8], reply: &Reply) -> bool
     ensures { result ≡ same text.now (reply_with (carried text.now)) }
 {
     let mut out = [0u8; 1024];
-    let len = super::setup(
-        &mut out,
-        reply.s.as_slice(),
-        &reply.iv,
-        &reply.tag,
-        &reply.key,
-        Hash::named(reply.h),
-        reply.ah,
-        reply.eah.as_slice(),
-    );
+    let len = super::setup(&mut out, reply);
     cells::same(text, &out[..len])
 }

@@ -23,7 +23,7 @@ returns-then-not-fields_good c =
 pub request_of-requires : goal.request_of-requires
 request_of-requires c =
     let read = subst (Scanned c.args.value.now) c.in_ok-seen.ensures.ok_part c.scan_value.ensures in
-    (ready read.1 (sym c.fields_good.ensures ∙ c.if-not-fields_good.false), c.requires.1)
+    ready read.1 (sym c.fields_good.ensures ∙ c.if-not-fields_good.false)
 
 pub returns : goal.returns
 returns c =

@@ -20,7 +20,7 @@ use Rattle.armor.specs.Value.{Field, carried}
 use Rattle.armor.specs.Fields.{times, the, nonce_bit}
 use Rattle.armor.specs.InnerAnswers.{request_answer}
 use Rattle.armor.proofs.Numerals.{number_small, mask_of_mask_bytes}
-use Rattle.armor.proofs.Fields.{none_held}
+use Rattle.armor.proofs.Noting.{none_held}
 use Rattle.armor.proofs.Carried.{hash_bytes, carried_bytes, request_given, request_sizes, nonce_times}
 use Rattle.orders.proofs.Orders.{good_mask}
 use Rattle.cells.proofs.Tests.{both}

@@ -3,7 +3,7 @@
 use Rattle.std.proofs.Common.{length, sym, ap, ◌∙◌, lit<}
 use Rattle.armor.specs.Keys.{key_eah, other_key}
 use Rattle.armor.specs.Fields.{reply_holds}
-use Rattle.armor.proofs.Fields.{told_of}
+use Rattle.armor.proofs.Noting.{told_of}
 use Rattle.armor.proofs.Replies.{reply_times_lem, reply_single}
 use Rattle.armor.proofs.contents.reply_good.Goals as goal
 

@@ -1,18 +1,15 @@
 -- `put_orders` meets its contract.
 -- Assumes nothing.
-use borrow.Author.Rules.{rules}
-use mathlib.Core.List.{[], ◌∷◌}
-use native.Mathlib.Omega.{arith}
+use Rattle.std.proofs.Common.{[], ◌∷◌, arith}
 use Rattle.cells.specs.Text.{codes}
 use Rattle.hashes.specs.Hashes.{hash_mask}
 use Rattle.armor.specs.Numerals.{mask_bytes}
 use Rattle.armor.specs.Value.{field}
 use Rattle.armor.proofs.Laying.{laid_following}
 use Rattle.reply.specs.Replies.{extra_field}
-use Rattle.reply.proofs.put_orders.Statement.{statement}
-use Rattle.reply.proofs.put_orders.Tie as tie
+use Rattle.reply.proofs.put_orders.Goals as goal
 
-returns : tie.Need-returns
+pub returns : goal.returns
 unfolding codes
 returns c =
     let a = c.args in
@@ -27,7 +24,3 @@ returns c =
           eah.ensures.1
           (omega (arith, c.requires, h.ensures.0, ah.ensures.0, eah.ensures.0)),
     )
-
-pub put_orders_spec : {M : Type 1} → statement M
-put_orders_spec =
-    tie.close (tie.spec (λ c. search rules) (λ c. search rules) (λ c. search rules) (λ c. search rules) (λ c. search rules) returns)
