@@ -24,7 +24,7 @@ use Rattle.armor.specs.InnerAnswers.{request_from, request_answer, Holds, Lies}
 use Rattle.signed.specs.SignedText.{request_text}
 use Rattle.table.specs.declared.session.Record.{Record}
 use Rattle.table.specs.Record.{window_of, with_window}
-use Rattle.token.specs.Token.{opened_token, has_token}
+use Rattle.token.specs.Token.{opened_token}
 use Rattle.token.specs.InnerHeld.{IsToken, Unseals}
 use Rattle.token.specs.declared.Token.{Token as Held}
 use Rattle.window.specs.declared.Window.{Window}
@@ -96,33 +96,27 @@ read_on q e =
 -- whether the token opens, of a request that was read
 pub opens : (q : Request) (fields : Fields) → Lies (carried q.value) fields → (u : P.Option Held)
     → Unseals (opened_token q.server_key fields.iv (run_of fields.s) fields.tag) u → (a : Result Held Refusal) → a ≡ P.ok_or u BadToken → Opens q a
-unfolding opened_of iv_of fields_of token_of
-opens q fields lies P.None told a is = rw is (record { is = simp (← lies.token, ← lies.vector, ← lies.tag, told); holds = tt })
-opens q fields lies (P.Some token) told a is =
-    rw is (record { is = simp (← lies.token, ← lies.vector, ← lies.tag, told.0); holds = rw (← lies.token, ← lies.vector, ← lies.tag) told.1 })
+unfolding opened_of iv_of fields_of token_of token_part
+opens q fields lies P.None told a is =
+    rw is (record { is = simp (← lies.token, ← lies.vector, ← lies.tag, told); holds = tt; lasts = tt })
+opens q fields lies (P.Some token) told a is = rw is (record {
+  is = simp (← lies.token, ← lies.vector, ← lies.tag, told.0);
+  holds = rw (← lies.token, ← lies.vector, ← lies.tag) told.1;
+  lasts = simp (← lies.token, ← lies.vector, ← lies.tag, told.0, told.1.expiry);
+})
 
 -- what the token and the signature come to, of a token that opened
 module _ (q : Request) (token : Held) (o : Opens q (Ok token)) where
-  has : has_token (opened_of q) ≡ true
-  has = by (has_token (opened_of q)) o.is
-    where
-      by : (b : Bool) → ◌≡◌ {A = ℕ} 0 (cond (not b) 9 0) → b ≡ true
-      by true e = refl
-      by false e = absurd (omega arith)
-
   pub lapsed : token.expiry.0 ≤ q.clock → 10 ≡ first (vouching_part q)
-  unfolding token_part
-  lapsed late = simp (has, ← o.holds.expiry, le-leb token.expiry.0 q.clock late)
-
-  lasting : q.clock < token.expiry.0 → first (token_part q) ≡ 0
-  unfolding token_part
-  lasting early = simp (has, ← o.holds.expiry, lt-leb token.expiry.0 q.clock early)
+  lapsed late =
+      let ten : first (token_part q) ≡ 10 = o.lasts ∙ rw (le-leb token.expiry.0 q.clock late) refl in
+      sym (stopped_by (token_part q) (signature_part q) (token_numbered q) (λ z. omega arith) ∙ ten)
 
   pub vouched_by : q.clock < token.expiry.0 → (signed : Bool) → signed ≡ same (signature_of q) (code_under token.key q)
       → cond (not signed) 11 0 ≡ first (vouching_part q)
   unfolding signature_part code_of
   vouched_by early signed is =
-      sym (passed_by (token_part q) (signature_part q) (token_numbered q) (lasting early) ∙ simp (← o.holds.key, ← is))
+      sym (passed_by (token_part q) (signature_part q) (token_numbered q) (o.lasts ∙ rw (lt-leb token.expiry.0 q.clock early) refl) ∙ simp (← o.holds.key, ← is))
 
 -- the hash that a request's h names
 pub read_hash : (q : Request) {r : ArmorRequest} {hash : Hash} → Holds q.value (carried q.value) r → hash ≡ named r.h → hash_of q ≡ hash

@@ -1,7 +1,7 @@
 -- What the code's stages answer for a request, by the parts of its checks. A stage is lent only what it looks at; what it answers holds
 -- whatever the rest of the request is.
 -- Assumes nothing.
-use Rattle.std.specs.Prelude.{◌≡◌, Bool, not, cond, ◌||◌, List, [], ◌∷◌, ◌++◌, Option, Some, None, Result, Ok, IfOk, OnOk, ℕ, eqb}
+use Rattle.std.specs.Prelude.{◌≡◌, Bool, not, cond, ◌||◌, List, [], ◌∷◌, ◌++◌, Option, Some, None, Result, Ok, IfOk, OnOk, ℕ, eqb, leb}
 use Rattle.cells.specs.Runs.{same}
 use Rattle.hashes.specs.declared.Hash.{Hash}
 use Rattle.hashes.specs.Hashes.{named}
@@ -28,7 +28,7 @@ use Rattle.stages.specs.declared.settling.Decision.{Decision}
 use Rattle.stages.specs.Refusals.{number_in}
 use Rattle.stages.specs.Request.{Request, request_of}
 use Rattle.stages.specs.Checks.{Check, check, first}
-use Rattle.stages.specs.Parts.{iv_of, hash_of, nonce_of, time_of, last_time_of, signature_of, opened_of, code_under, token_of, limits, ordered, next_of, covering_part, reading_part, vouching_part, admitting_part, invalidates}
+use Rattle.stages.specs.Parts.{iv_of, hash_of, nonce_of, time_of, last_time_of, signature_of, opened_of, code_under, token_of, limits, ordered, next_of, covering_part, reading_part, token_part, vouching_part, admitting_part, invalidates}
 
 -- a request that brings this
 abbrev pub brought_as : Orders → ℕ → List ℕ → List ℕ → Brought → List ℕ → Request
@@ -70,10 +70,11 @@ ReadIs ordered value method head aside fields notes r =
 abbrev pub opening_part : Request → List Check
 opening_part q = check 9 (not (has_token (opened_of q))) ∷ []
 
--- 9: the number, and where it does not hold the token
+-- 9: the number, and where it does not hold the token, whose expiry says whether 10 does
 pub record Opens (q : Request) (r : Result Held Refusal) : Type 0 where
   pub is : number_in r ≡ first (opening_part q)
   pub holds : IfOk r (λ token. IsToken (token_of q) token)
+  pub lasts : IfOk r (λ token. first (token_part q) ≡ cond (leb token.expiry.0 q.clock) 10 0)
 
 abbrev pub UnsealIs : List ℕ → Fields → Result Held Refusal → Type 0
 UnsealIs server_key fields r =
