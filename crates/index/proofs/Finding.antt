@@ -1,13 +1,16 @@
 -- Finding through an index: the entries of lower IVs stand in front, and the next one names the record with an IV, if there is one.
 -- Assumes nothing.
-use mathlib.Core.Path.{◌≡◌, refl, sym, ap, ◌∙◌}
-use mathlib.Core.List.{List, ◌∷◌, ◌++◌}
+use mathlib.Core.Path.{◌≡◌, refl, sym, ap, ap₂, ◌∙◌}
+use mathlib.Core.List.{List, [], ◌∷◌, ◌++◌}
 use mathlib.Core.Bool.{Bool, true, false, true≢false}
-use Prim.Native.Nat.{ℕ, ◌+◌, ◌≤◌, ◌<◌}
+use Prim.Native.Nat.{ℕ, zero, suc, ◌+◌, ◌*◌, ◌≤◌, ◌<◌}
 use native.Mathlib.Omega.{arith}
 use borrow.Author.Tests.{eqb-true, eqb-false, leb-true, leb-false, ltb-true, ltb-false}
 use lib.Dec.{eqb, leb, ltb}
 use lib.ListN.{length, get_or, take, drop}
+use lib.Seq.{get_or-take, get_or-drop, drop-drop}
+use Rattle.std.specs.Simd.{first_chunks}
+use Rattle.std.specs.List.Sorted.{IsPartitionedBy, IsPartitionPoint}
 use Rattle.std.specs.Bool.{then_some}
 use Rattle.std.specs.Prelude.{None}
 use Rattle.cells.proofs.Tests.{tested, both}
@@ -25,12 +28,19 @@ use Rattle.index.proofs.Ranked.{in_stands, among_at, ranked_in}
 use Rattle.index.proofs.Held as Held
 use Rattle.index.proofs.Held.{used_told, told_used, holds_front, holds_rest, indexed_holds}
 
--- the search has come down to the entries from low on up to high
-pub record Bracket (table : List Record) (index iv : List ℕ) (low high : ℕ) : Type 0 where
-  pub ordered : low ≤ high
-  pub within : high ≤ length table
-  pub below : (k : ℕ) → k < low → low_at table iv (entry_at index k) ≡ true
-  pub above : (k : ℕ) → high ≤ k → k < length table → low_at table iv (entry_at index k) ≡ false
+-- an index as entries of two bytes each
+chunk_at : (index : List ℕ) (n k : ℕ) (d : List ℕ) → k < n → get_or (first_chunks 2 n index) k d ≡ take 2 (drop (2 * k) index)
+chunk_at index zero k d l = absurd (omega arith)
+chunk_at index (suc n) zero d l = refl
+chunk_at index (suc n) (suc k) d l =
+    chunk_at (drop 2 index) n k d (omega arith) ∙ ap (take 2) (drop-drop (2 * k) 2 index ∙ ap (λ (i : ℕ). drop i index) (omega arith))
+
+pub chunk_entry : (index : List ℕ) (n k : ℕ) (d : List ℕ) → k < n → entry_at (get_or (first_chunks 2 n index) k d) 0 ≡ entry_at index k
+chunk_entry index n k d l =
+    ap (λ (e : List ℕ). entry_at e 0) (chunk_at index n k d l)
+    ∙ ap₂ (λ (x y : ℕ). x * 256 + y)
+    (get_or-take 2 (drop (2 * k) index) 0 0 (omega arith) ∙ get_or-drop (2 * k) index 0 0 ∙ ap (λ (i : ℕ). get_or index i 0) (omega arith))
+    (get_or-take 2 (drop (2 * k) index) 1 0 (omega arith) ∙ get_or-drop (2 * k) index 1 0)
 
 module _ {table : List Record} {index ps : List ℕ} (h : Holds table index ps) (iv : List ℕ) where
   -- an entry that names a record is one of the places
@@ -51,21 +61,19 @@ module _ {table : List Record} {index ps : List ℕ} (h : Holds table index ps) 
           rw (here, told_used table (get_or ps i 0) (Held.holds_used h i (omega arith)))
           (precedes_trans _ _ _ (h.rising i j (omega arith) inside) (rw there at parts.1))
 
-  module _ {low high : ℕ} (b : Bracket table index iv low high) (middle : ℕ) (l : low ≤ middle) (m : middle < high) where
-    pub bracket_up : low_at table iv (entry_at index middle) ≡ true → Bracket table index iv (middle + 1) high
-    bracket_up e = record {
-      ordered = omega arith;
-      within = b.within;
-      below = λ k o. low_before k middle (omega arith) (omega (arith, b.within)) e;
-      above = b.above;
-    }
+  -- the entries as a list, each by the place that it names
+  module _ (entries : List (List ℕ)) (long : length entries ≡ length table)
+      (each : (k : ℕ) (d : List ℕ) → k < length entries → entry_at (get_or entries k d) 0 ≡ entry_at index k) where
+    pub partitioned : IsPartitionedBy (λ e. low_at table iv (entry_at e 0)) entries
+    partitioned i j d l m e =
+        ap (low_at table iv) (each i d (omega arith)) ∙ low_before i j l (omega arith) (sym (ap (low_at table iv) (each j d m)) ∙ e)
 
-    pub bracket_down : low_at table iv (entry_at index middle) ≡ false → Bracket table index iv low middle
-    bracket_down e = record {
-      ordered = l;
-      within = omega (arith, b.within);
-      below = b.below;
-      above = λ k o p. refuted (low_at table iv (entry_at index k)) (λ t. true≢false (sym (low_before middle k o p t) ∙ e));
+    pub ranks : (r : ℕ) → r ≤ length entries
+        → IsPartitionPoint (λ e. low_at table iv (entry_at e 0) ≡ true) (λ e. low_at table iv (entry_at e 0) ≡ false) entries r → Ranks table index iv r
+    ranks r within point = record {
+      within = omega arith;
+      below = λ k l. sym (ap (low_at table iv) (each k [] (omega arith))) ∙ point.0 k [] (omega arith) l;
+      above = λ k l m. sym (ap (low_at table iv) (each k [] (omega arith))) ∙ point.1 k [] l (omega arith);
     }
 
 module _ {table : List Record} {index ps : List ℕ} (h : Holds table index ps) {iv : List ℕ} {at : ℕ} (r : Ranks table index iv at) where

@@ -69,18 +69,36 @@ every_front test zero = and-true (test 0)
 every_front test (suc n) =
     sym (and_assoc (test 0) (every (λ k. test (suc k)) n) (test (suc n))) ∙ ap (λ (b : Bool). b && test (suc n)) (every_front test n)
 
-every_alike : (s t : ℕ → Bool) → ((k : ℕ) → s k ≡ t k) → (n : ℕ) → every s n ≡ every t n
+pub every_alike : (s t : ℕ → Bool) (n : ℕ) → ((k : ℕ) → k < n → s k ≡ t k) → every s n ≡ every t n
 unfolding every
-every_alike s t e zero = refl
-every_alike s t e (suc n) = ap₂ ◌&&◌ (every_alike s t e n) (e n)
+every_alike s t zero e = refl
+every_alike s t (suc n) e = ap₂ ◌&&◌ (every_alike s t n (λ k l. e k (omega arith))) (e n (omega arith))
 
-pub every_of : (test : ℕ → Bool) (a n : ℕ) → list_all test (range_with_len a n) ≡ every (λ k. test (a + k)) n
+every_from : (test : ℕ → Bool) (a n : ℕ) → list_all test (range_with_len a n) ≡ every (λ k. test (a + k)) n
 unfolding every
-every_of test a zero = refl
-every_of test a (suc n) =
+every_from test a zero = refl
+every_from test a (suc n) =
     ap₂ ◌&&◌ (ap test (sym (add-zero a)))
-    (every_of test (a + 1) n ∙ every_alike (λ k. test (a + 1 + k)) (λ k. test (a + suc k)) (λ k. ap test (omega arith)) n)
+    (every_from test (a + 1) n ∙ every_alike (λ k. test (a + 1 + k)) (λ k. test (a + suc k)) n (λ k l. ap test (omega arith)))
     ∙ every_front (λ k. test (a + k)) n
+
+pub every_of : (test : ℕ → Bool) (n : ℕ) → list_all test (range_with_len 0 n) ≡ every test n
+every_of test n = every_from test 0 n ∙ every_alike (λ k. test (0 + k)) test n (λ k l. ap test (omega arith))
+
+-- the first entries of an index, and those behind them
+pub entry_front : (index : List ℕ) (m k : ℕ) → k < m → entry_at (take (2 * m) index) k ≡ entry_at index k
+entry_front index m k l =
+    ap₂ (λ (x y : ℕ). x * 256 + y) (get_or-take (2 * m) index (2 * k) 0 (omega arith)) (get_or-take (2 * m) index (2 * k + 1) 0 (omega arith))
+
+pub entry_behind : (index : List ℕ) (m k : ℕ) → entry_at (drop (2 * m) index) k ≡ entry_at index (m + k)
+entry_behind index m k =
+    ap₂ (λ (x y : ℕ). x * 256 + y)
+    (get_or-drop (2 * m) index (2 * k) 0 ∙ ap (λ (i : ℕ). get_or index i 0) (omega arith))
+    (get_or-drop (2 * m) index (2 * k + 1) 0 ∙ ap (λ (i : ℕ). get_or index i 0) (omega arith))
+
+pub rises_front : (table : List Record) (index : List ℕ) (m k : ℕ) → k < m → rises_at table (take (2 * m) index) k ≡ rises_at table index k
+unfolding rises_at
+rises_front table index m k l = rw (entry_front index m k l, entry_front index m (k - 1) (omega arith))
 
 -- how many records are used
 pub used_none : (table : List Record) → used_to table 0 ≡ 0

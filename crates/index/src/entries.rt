@@ -3,11 +3,19 @@ ghost use Rattle.std.specs.Prelude.{◌≡◌, [], ◌∷◌, ◌++◌, ◌+◌,
 ghost use Rattle.cells.specs.Numbers.{bytes_of};
 ghost use Rattle.index.specs.InnerEntries.{entry_at};
 
+// The place that an entry names; a vacant one names none that there is.
+pub fn place_of(entry: [u8; 2]) -> usize
+    ensures { result ≡ entry_at entry 0 }
+{
+    usize::from(u16::from_be_bytes(entry))
+}
+
+// That of entry k.
 pub fn read(index: &[u8], k: usize) -> usize
     requires { 2 * k + 2 ≤ length index.now }
     ensures { result ≡ entry_at index.now k }
 {
-    (index[2 * k] as usize) * 256 + (index[2 * k + 1] as usize)
+    place_of([index[2 * k], index[2 * k + 1]])
 }
 
 // An entry at the front of some; the others move up by one, and the last is lost.

@@ -13,17 +13,8 @@ pub fn rank(table: &[u8], index: &[u8], iv: &[u8; 12]) -> usize
     requires { Ordered (records table.now) index.now }
     ensures { Ranks (records table.now) index.now iv.now result }
 {
-    let mut low: usize = 0;
-    let mut high = table.len() / SIZE;
-    while low < high {
-        let middle = low + (high - low) / 2;
-        if order::is_low(table, entries::read(index, middle), iv) {
-            low = middle + 1;
-        } else {
-            high = middle;
-        }
-    }
-    low
+    let (entries, _) = index.as_chunks::<2>();
+    entries.partition_point(|entry| order::is_low(table, entries::place_of(*entry), iv))
 }
 
 // The place of the used record with this IV.

@@ -1,5 +1,5 @@
 // Whether a table is well formed and an index fits it, in one pass over each.
-ghost use Rattle.std.specs.Prelude.{◌≡◌, ◌&&◌, ◌+◌, ◌*◌, ◌≤◌, length};
+ghost use Rattle.std.specs.Prelude.{◌≡◌, ◌&&◌, ◌*◌, ◌/◌, ◌≤◌, length};
 ghost use Rattle.cells.specs.Runs.{same};
 ghost use Rattle.table.specs.Table.{places, records};
 ghost use Rattle.table.specs.WellFormed.{well_formed};
@@ -27,14 +27,13 @@ fn tally(table: &[u8]) -> Option<usize>
     Some(used)
 }
 
-// Whether the first `count` entries name used records by rising IV.
-fn climbs(table: &[u8], index: &[u8], count: usize) -> bool
-    requires { (count ≤ places table.now) × (length index.now ≡ 2 * places table.now) }
-    ensures { result ≡ every (rises_at (records table.now) index.now) count }
+// Whether some entries name used records by rising IV.
+fn climb(table: &[u8], entries: &[u8]) -> bool
+    ensures { result ≡ every (rises_at (records table.now) entries.now) (length entries.now / 2) }
 {
     let mut last = Key(0, 0);
-    for k in 0..count {
-        let place = entries::read(index, k);
+    for k in 0..entries.len() / 2 {
+        let place = entries::read(entries, k);
         if !order::is_used(table, place) {
             return false;
         }
@@ -47,12 +46,11 @@ fn climbs(table: &[u8], index: &[u8], count: usize) -> bool
     true
 }
 
-// Whether the entries behind the first `count` are vacant.
-fn vacant_behind(index: &[u8], count: usize, rest: usize) -> bool
-    requires { 2 * (count + rest) ≤ length index.now }
-    ensures { result ≡ every (λ k. vacant_at index.now (count + k)) rest }
+// Whether some entries are vacant.
+fn are_vacant(entries: &[u8]) -> bool
+    ensures { result ≡ every (vacant_at entries.now) (length entries.now / 2) }
 {
-    (count..count + rest).all(|k| entries::read(index, k) == 65535)
+    (0..entries.len() / 2).all(|k| entries::read(entries, k) == 65535)
 }
 
 // IVs that rise from entry to entry stand nowhere twice, so no two records are compared.
@@ -63,5 +61,6 @@ pub fn fits(table: &[u8], index: &[u8]) -> bool
     let Some(count) = tally(table) else {
         return false;
     };
-    climbs(table, index, count) & vacant_behind(index, count, table.len() / SIZE - count)
+    let (entries, rest) = index.split_at(2 * count);
+    climb(table, entries) & are_vacant(rest)
 }

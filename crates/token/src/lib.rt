@@ -12,6 +12,9 @@ use window::time::Time;
 
 mod expiry;
 
+// Bytes in a session id, at most.
+const LONGEST_ID: usize = 64;
+
 // What an opened token holds.
 #[derive(Clone, Copy)]
 pub struct Token {
@@ -63,7 +66,7 @@ fn token_of(key: &[u8], id: &[u8], digits: &[u8]) -> Option<Token>
     ensures { Unseals (token_in (netstrings (key.now ∷ id.now ∷ digits.now ∷ []))) result }
 {
     let key: [u8; 32] = key.try_into().ok()?;
-    if id.is_empty() || 64 < id.len() {
+    if id.is_empty() || LONGEST_ID < id.len() {
         return None;
     }
     Some(Token {

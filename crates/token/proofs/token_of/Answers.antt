@@ -4,7 +4,7 @@ use borrow.Author.Tests.{eqb-true}
 use Rattle.token.proofs.Text.{Sized}
 use Rattle.token.proofs.Reading.{unseals_some, token_of_lem, no_token_of}
 use Rattle.token.proofs.token_of.Goals as goal
-use Rattle.token.proofs.token_of.Goals.{then-is_empty-via-then-is_empty, then-is_empty-via-else-is_empty+then-id-gt64}
+use Rattle.token.proofs.token_of.Goals.{then-is_empty-via-then-is_empty, then-is_empty-via-else-is_empty+then-id-gt-LONGEST_ID}
 
 pub returns-in_err-key : goal.returns-in_err-key
 returns-in_err-key c =
@@ -14,7 +14,7 @@ returns-in_err-key c =
 pub returns-then-is_empty : goal.returns-then-is_empty
 returns-then-is_empty c = no_token_of c.args.key.now c.args.id.now c.args.digits.now (λ n s e. elim c.then-is_empty.branch [
   | then-is_empty-via-then-is_empty w ↦ omega (arith, s.id_some, eqb-true _ _ (sym c.is_empty.ensures ∙ w.if-is_empty.true))
-  | then-is_empty-via-else-is_empty+then-id-gt64 w ↦ omega (arith, s.id_fits, w.if-id-gt64.true)
+  | then-is_empty-via-else-is_empty+then-id-gt-LONGEST_ID w ↦ omega (arith, s.id_fits, w.if-id-gt-LONGEST_ID.true)
 ])
 
 pub returns-in_err-read : goal.returns-in_err-read

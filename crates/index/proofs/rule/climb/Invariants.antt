@@ -3,10 +3,10 @@ use Rattle.std.proofs.Common.{◌≡◌, ◌<◌, ◌-◌, ◌^◌, true}
 use Rattle.table.specs.Table.{records}
 use Rattle.index.specs.InnerEntries.{worth, rises_at, every}
 use Rattle.index.proofs.Keys.{iv_of}
-use Rattle.index.proofs.rule.climbs.Given as goal
+use Rattle.index.proofs.rule.climb.Given as goal
 
 abbrev pub invariant-loop-k : goal.invariant-loop-k
 invariant-loop-k l =
-    (every (rises_at (records l.table) l.index) l.k ≡ true)
+    (every (rises_at (records l.table) l.entries) l.k ≡ true)
     × (l.last.1 < 2 ^ 32)
-    × (0 < l.k → worth l.last ≡ iv_of l.table l.index (l.k - 1))
+    × (0 < l.k → worth l.last ≡ iv_of l.table l.entries (l.k - 1))

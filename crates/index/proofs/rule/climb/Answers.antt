@@ -9,8 +9,8 @@ use Rattle.index.specs.InnerEntries.{entry_at, used_at, rises_at, every}
 use Rattle.index.proofs.Keys.{iv_of, keys_ge, lower_number, told_within, used_within}
 use Rattle.index.proofs.Held.{used_told}
 use Rattle.index.proofs.Fitting.{every_at, every_none, every_more, every_not, risen_used, rises_unused, rises_later, rises_at_lem}
-use Rattle.index.proofs.rule.climbs.Goals as goal
-use Rattle.index.proofs.rule.climbs.Goals.{else-k-gt0-via-then-k-gt0+else-ge, else-k-gt0-via-else-k-gt0}
+use Rattle.index.proofs.rule.climb.Goals as goal
+use Rattle.index.proofs.rule.climb.Goals.{else-k-gt0-via-then-k-gt0+else-ge, else-k-gt0-via-else-k-gt0}
 
 -- what the two numbers tell of an entry behind the first
 compared : (table index : List ℕ) (k : ℕ) → Bytes table → every (rises_at (records table) index) k ≡ true
@@ -29,7 +29,7 @@ loop-k-init c = (every_none _, omega arith, λ o. absurd (omega arith))
 pub returns-then-not-is_used : goal.returns-then-not-is_used
 returns-then-not-is_used c =
     sym (every_not _ _ _ c.loop-k-test.true
-    (rises_unused (records c.args.table.now) c.args.index.now _ (rw c.read-place.ensures at (sym c.is_used.ensures ∙ c.if-not-is_used.true))))
+    (rises_unused (records c.args.table.now) c.args.entries.now _ (rw c.read-place.ensures at (sym c.is_used.ensures ∙ c.if-not-is_used.true))))
 
 pub key_at-next-requires : goal.key_at-next-requires
 key_at-next-requires c = let inside = told_within _ _ c.is_used.ensures c.if-not-is_used.false in omega arith
@@ -40,13 +40,13 @@ returns-then-ge c =
     let named = rw c.read-place.ensures at (sym c.is_used.ensures ∙ c.if-not-is_used.false) in
     let told = not-true _ (sym (keys_ge loop.last c.key_at-next.result (omega arith) (omega arith)) ∙ sym c.ge.ensures ∙ c.if-ge.true) in
     sym (every_not _ _ _ c.loop-k-test.true
-    (compared c.args.table.now c.args.index.now loop.k (λ i. (c.type_inv.table i).fits) loop.invariant.0 named c.if-k-gt0.true
+    (compared c.args.table.now c.args.entries.now loop.k (λ i. (c.type_inv.table i).fits) loop.invariant.0 named c.if-k-gt0.true
     ∙ ap₂ ltb (sym (loop.invariant.2 c.if-k-gt0.true)) (sym (rw c.read-place.ensures at c.key_at-next.ensures)) ∙ told))
 
 pub loop-k-preserved : goal.loop-k-preserved
 loop-k-preserved c =
     let table = c.args.table.now in
-    let index = c.args.index.now in
+    let index = c.args.entries.now in
     let loop = c.loop-k in
     let named = rw c.read-place.ensures at (sym c.is_used.ensures ∙ c.if-not-is_used.false) in
     let keyed = rw c.read-place.ensures at c.key_at-next.ensures in
