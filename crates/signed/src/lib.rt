@@ -128,13 +128,13 @@ fn absorb_value(state: &mut State, lines: &Blocks, in_head: u16, in_aside: u16)
 }
 
 // The netstring of the value that the line at byte at and those after it that bear its name have together. It stands nowhere as a whole.
-fn absorb_joined(state: &mut State, block: &[u8], at: usize)
-    requires { Stands block.now at × Room state.old (joined (own_at block.now at) ∷ []) }
-    ensures { TookParts state.old (joined (own_at block.now at) ∷ []) state.new }
+fn absorb_joined(taken: &mut State, block: &[u8], at: usize)
+    requires { Stands block.now at × Room taken.old (joined (own_at block.now at) ∷ []) }
+    ensures { TookParts taken.old (joined (own_at block.now at) ∷ []) taken.new }
 {
-    state.absorb(netstring::opening(lines::joined_size(block, at)).as_slice());
-    absorb_lines(state, block, at);
-    state.absorb(b",");
+    taken.absorb(netstring::opening(lines::joined_size(block, at)).as_slice());
+    absorb_lines(taken, block, at);
+    taken.absorb(b",");
 }
 
 fn absorb_lines(state: &mut State, block: &[u8], at: usize)

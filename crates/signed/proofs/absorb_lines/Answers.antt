@@ -6,7 +6,7 @@ use Rattle.sha_2.proofs.Streaming.{took_in_turn}
 use Rattle.names.specs.Extra.{comma}
 use Rattle.lines.specs.Values.{space, joined}
 use Rattle.lines.specs.InnerPlaces.{front_at, own_at}
-use Rattle.lines.proofs.Joined.{own_alone, own_then, own_begins, stands_within}
+use Rattle.lines.proofs.Joined.{own_alone, own_then, own_begins}
 use Rattle.signed.proofs.absorb_lines.Goals as goal
 use Rattle.signed.proofs.absorb_lines.Goals.{In-Some}
 

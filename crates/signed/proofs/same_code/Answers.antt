@@ -1,4 +1,4 @@
-use Rattle.std.proofs.Common.{◌≡◌, ℕ, ap, take, ◌∙◌}
+use Rattle.std.proofs.Common.{ℕ, ap, take, ◌∙◌}
 use Rattle.cells.specs.Runs.{same}
 use Rattle.signed.proofs.same_code.Goals as goal
 
