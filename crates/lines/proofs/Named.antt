@@ -4,14 +4,18 @@ use mathlib.Core.Path.{◌≡◌, refl, sym, ap, ◌∙◌}
 use mathlib.Core.List.{List, [], ◌∷◌}
 use mathlib.Core.Bool.{true, false}
 use Prim.Native.Nat.{ℕ, ◌+◌, ◌≤◌}
-use lib.ListN.{length, drop, drop_of_length-le}
+use native.Mathlib.Omega.{arith}
+use borrow.Author.Tests.{eqb-true, eqb-false}
+use lib.Dec.{eqb}
+use lib.ListN.{length, drop, drop_of_length-le, length-drop}
+use Rattle.cells.proofs.Tests.{tested}
 use Rattle.cells.specs.Runs.{cut}
 use Rattle.names.specs.Names.{same_name}
 use Rattle.names.proofs.Same.{same_right}
 use Rattle.lines.specs.Lines.{Line, lines_in, good_block}
 use Rattle.lines.specs.Values.{trimmed, values_in}
-use Rattle.lines.specs.InnerPlaces.{line_between, WholeLine, own_at}
-use Rattle.lines.proofs.Lines.{lines_none, lines_more, good_none, good_more}
+use Rattle.lines.specs.InnerPlaces.{line_between, WholeLine, NoLine, own_at}
+use Rattle.lines.proofs.Lines.{lines_none, lines_more, good_none, good_more, good_stop}
 
 -- a line, and the lines after it
 pub lines_at : (block : List ℕ) (at c e : ℕ) → WholeLine block at c e → lines_in (drop at block) ≡ line_between block at c e ∷ lines_in (drop (e + 2) block)
@@ -25,6 +29,12 @@ lines_end block at h = rw (drop_of_length-le block {i = at} h) lines_none
 
 pub good_end : (block : List ℕ) (at : ℕ) → length block ≤ at → good_block (drop at block) ≡ true
 good_end block at h = rw (drop_of_length-le block {i = at} h) good_none
+
+-- where no line stands, the rest of a block is lines if there is none
+pub good_there : (block : List ℕ) (at : ℕ) → at ≤ length block → NoLine block at → good_block (drop at block) ≡ eqb at (length block)
+good_there block at h none =
+    tested (eqb at (length block)) (λ t. good_end block at (omega (arith, eqb-true at (length block) t)) ∙ sym t)
+    (λ t. good_stop (drop at block) (omega (arith, length-drop at block, eqb-false at (length block) t)) none ∙ sym t)
 
 -- names that are the same have the same values
 pub same_values : (n m : List ℕ) → same_name n m ≡ true → (ls : List Line) → values_in ls n ≡ values_in ls m

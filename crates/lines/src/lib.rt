@@ -21,13 +21,10 @@ pub fn good_block(block: &[u8]) -> bool
     ensures { result ≡ good_block block.now }
 {
     let mut at = 0;
-    while at < block.len() {
-        let Some(line) = line_at(block, at) else {
-            return false;
-        };
+    while let Some(line) = line_at(block, at) {
         at = line.end + 2;
     }
-    true
+    at == block.len()
 }
 
 // The value of a covered name by its notes, of its first line where it has several: a part of one of the two blocks.
@@ -93,8 +90,7 @@ pub fn find(block: &[u8], at: usize, name: &[u8]) -> Option<usize>
     ensures { FoundIs block.now at name.now result }
 {
     let mut place = at;
-    while place < block.len() {
-        let line = line_at(block, place)?;
+    while let Some(line) = line_at(block, place) {
         if names::same_name(&block[place..line.colon], name) {
             return Some(place);
         }

@@ -47,16 +47,13 @@ fn note_block(sheet: &Sheet, block: &[u8], notes: &mut [u16; 64]) -> bool
 {
     *notes = [0; 64];
     let mut at = 0;
-    while at < block.len() {
-        let Some(line) = line_at(block, at) else {
-            return false;
-        };
+    while let Some(line) = line_at(block, at) {
         if let Some(number) = sheet.number(&block[at..line.colon]) {
             notes[number] = marked(notes[number], at);
         }
         at = line.end + 2;
     }
-    true
+    at == block.len()
 }
 
 // A note when the name stands on the line at byte at too.

@@ -3,8 +3,8 @@ use Rattle.std.proofs.Common.{◌≡◌, ◌-◌, ◌≤◌, length, drop}
 use Rattle.lines.specs.Lines.{good_block}
 use Rattle.lines.proofs.good_block.Given as goal
 
-abbrev pub invariant-loop-at : goal.invariant-loop-at
-invariant-loop-at l = (l.at ≤ length l.block) × (good_block l.block ≡ good_block (drop l.at l.block))
+abbrev pub invariant-loop-line : goal.invariant-loop-line
+invariant-loop-line l = (l.at ≤ length l.block) × (good_block l.block ≡ good_block (drop l.at l.block))
 
-abbrev pub decreases-loop-at : goal.decreases-loop-at
-decreases-loop-at l = length l.block - l.at
+abbrev pub decreases-loop-line : goal.decreases-loop-line
+decreases-loop-line l = length l.block - l.at
