@@ -1,5 +1,5 @@
 // Reading a request: checks 4 to 8.
-ghost use Rattle.std.specs.Prelude.{◌≡◌, true, ◌≤◌, length};
+ghost use Rattle.std.specs.Prelude.{◌≡◌, true};
 ghost use Rattle.armor.specs.Value.{carried};
 ghost use Rattle.armor.specs.Fields.{request_fields};
 ghost use Rattle.armor.specs.InnerAnswers.{Holds, Lies};
@@ -23,7 +23,6 @@ pub fn read(
     fields: &mut Fields,
     notes: &mut Notes,
 ) -> Result<Request, Refusal>
-    requires { length value.now ≤ 4096 }
     ensures { ReadIs ordered.now value.now method.now blocks.now.head.now blocks.now.aside.now fields.new notes.new result }
 {
     let request = armor::read_request(value, fields)?;
