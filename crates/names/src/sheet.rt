@@ -23,6 +23,7 @@ impl<'a> Sheet<'a> {
     // The covered names on a sheet.
     pub fn of(known: &'a KnownNames, covered: &Covered<'a>) -> Sheet<'a>
         ensures names { I.Sheet result.known.now result.extra.now result.entries (covered_names covered.now.mask covered.now.extra.now) }
+        ensures runs { (result.known.now ≡ known.now.run) × (result.extra.now ≡ covered.now.extra.now) }
         ensures count { result.count ≡ length (covered_names covered.now.mask covered.now.extra.now) }
     {
         let mut entries = [0; 192];

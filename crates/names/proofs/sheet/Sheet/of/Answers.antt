@@ -1,5 +1,5 @@
 -- The known names that are chosen are entered first, and then the extra ones.
-use Rattle.std.proofs.Common.{length, ap, arith}
+use Rattle.std.proofs.Common.{refl, length, ap, arith}
 use Rattle.names.proofs.Joined.{known_size}
 use Rattle.names.proofs.Sizes.{short_extra, names_few}
 use Rattle.names.proofs.Filled.{filled_size, filled_all, filled}
@@ -28,5 +28,6 @@ returns c =
     let first = c.enter-first.ensures in
     record {
       names = filled _ _ _ known.known covered.good _ first.1 first.0 c.enter-count.ensures.1;
+      runs = (refl, refl);
       count = omega (arith, all, filled_size known.run covered.mask covered.extra.now known.known covered.good);
     }
