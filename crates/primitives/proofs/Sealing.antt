@@ -1,8 +1,8 @@
 -- What the test of the sizes says of each, and what an answer of `unseal` says of the text.
 -- Assumes nothing.
-use Rattle.std.proofs.Common.{◌≡◌, ℕ, ◌-◌, ◌^◌, ◌≤◌, List, true, ap, leb, eqb, refl, Result, Ok, Err}
+use Rattle.std.proofs.Common.{◌≡◌, ℕ, ◌-◌, ◌^◌, ◌<◌, ◌≤◌, List, true, ap, arith, leb, eqb, refl, Bool, false, Result, Ok, Err, eq-eqb}
 use mathlib.Core.Bool.{and-eq-true_iff}
-use borrow.Author.Tests.{eqb-true, leb-true}
+use borrow.Author.Tests.{eqb-true, leb-true, le-leb}
 use Rattle.std.proofs.Math.Option.{Option, none, some}
 use Rattle.gcm.specs.declared.WrongTag.{WrongTag}
 use Rattle.gcm.specs.InnerCode.{left}
@@ -36,6 +36,21 @@ fit key iv text tag out e =
       out_size = eqb-true out text e₄.1;
     }
 
+pub fits : (key iv text tag out : ℕ) → Fit key iv text tag out → sizes_fit key iv text tag out ≡ true
+unfolding sizes_fit
+fits key iv text tag out f =
+    rw (eq-eqb key 32 f.key_size, eq-eqb iv 12 f.iv_size, le-leb text (2 ^ 36 - 32) f.text_size, eq-eqb tag 16 f.tag_size, eq-eqb out text f.out_size)
+
+pub unfit : (key iv text tag out : ℕ) → (Fit key iv text tag out → ⊥) → sizes_fit key iv text tag out ≡ false
+unfit key iv text tag out not = go (sizes_fit key iv text tag out) refl
+  where
+    go : (b : Bool) → sizes_fit key iv text tag out ≡ b → b ≡ false
+    go true e = absurd (not (fit key iv text tag out e))
+    go false e = refl
+
+pub too_long : {text : ℕ} → 2 ^ 36 - 32 < text → text ≤ 2 ^ 36 - 32 → ⊥
+too_long long short = omega arith
+
 pub opened_text : (o : Option (List ℕ)) (old now : List ℕ) → Ok tt ≡ C.answer o → now ≡ left o old → answer 0 now ≡ opening o old
 opened_text none old now e f = absurd cc
 opened_text (some text) old now e f = ap (answer 0) f
@@ -44,7 +59,12 @@ pub opened_wrong : (o : Option (List ℕ)) (old now : List ℕ) {w : WrongTag} �
 opened_wrong none old now e f = ap (answer 2) f
 opened_wrong (some text) old now e f = absurd cc
 
--- the number of an answer that says so
+-- the numbers of answers that say so
+pub size_number : (r : Result (Unit {0}) Undone) → IsErrAnd r (λ u. u ≡ Size) → number_of r ≡ 1
+size_number (Ok done) h = absurd h
+size_number (Err Size) h = refl
+size_number (Err Tag) h = absurd cc
+
 pub wrong_number : (r : Result (Unit {0}) Undone) → IsErrAnd r (λ u. u ≡ Tag) → number_of r ≡ 2
 wrong_number (Ok done) h = absurd h
 wrong_number (Err Size) h = absurd cc

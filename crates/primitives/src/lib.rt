@@ -6,11 +6,12 @@ ghost use Rattle.std.specs.Prelude.{◌≡◌};
 ghost use Rattle.hashes.specs.declared.Hash.TheVariants.{Sha256, Sha512};
 ghost use Rattle.primitives.specs.Answer.{answer, number_of};
 ghost use Rattle.primitives.specs.Digests.{digest_call, hmac_call};
-ghost use Rattle.primitives.specs.Sealing.{sizes_fit, seal_answer, seal_call, open_call};
+ghost use Rattle.primitives.specs.Sealing.{seal_answer, seal_call, open_call};
 
 use gcm::WrongTag;
 use hashes::Hash;
 use sha_2::State;
+use std::array::TryFromSliceError;
 
 // Why a call is not done.
 #[derive(Clone, Copy, PartialEq, Eq)]
@@ -26,6 +27,16 @@ impl From<WrongTag> for Undone {
 
     fn from(_: WrongTag) -> Undone {
         Undone::Tag
+    }
+}
+
+impl From<TryFromSliceError> for Undone {
+    ghost use Rattle.primitives.specs.declared.Undone.TheVariants as Undone;
+
+    ghost from_gives = { λ _ undone. undone ≡ Undone.Size };
+
+    fn from(_: TryFromSliceError) -> Undone {
+        Undone::Size
     }
 }
 
@@ -97,22 +108,21 @@ pub fn prim_hmac_sha512(key: &[u8], text: &[u8], out: &mut [u8]) -> u32
     number(code(Hash::Sha512, key, text, out))
 }
 
-// Whether runs of these lengths can be sealed or opened.
-#[tactic(auto, unfolding(crate::specs::Sealing::sizes_fit))]
-fn sizes_fit(key: usize, iv: usize, text: usize, tag: usize, out: usize) -> bool
-    ensures { result ≡ sizes_fit key iv text tag out }
-{
-    key == 32 && iv == 12 && text <= 68719476704 && tag == 16 && out == text
-}
+// 2 ^ 36 - 32: SP 800-38D's longest text.
+const LONGEST: usize = 68719476704;
 
-// The sealed text into out, which is as long as text, and the tag's 16 bytes.
+// The sealed text into out, and the tag.
 fn seal(key: &[u8], iv: &[u8], text: &[u8], out: &mut [u8], tag: &mut [u8]) -> Result<(), Undone>
     ensures { seal_answer (number_of result) out.new tag.new ≡ seal_call key.now iv.now text.now out.old tag.old }
 {
-    if !sizes_fit(key.len(), iv.len(), text.len(), tag.len(), out.len()) {
+    let key = key.try_into()?;
+    let iv = iv.try_into()?;
+    if LONGEST < text.len() || tag.len() != 16 || out.len() != text.len() {
         return Err(Undone::Size);
     }
-    gcm::seal(key, iv, text, out, tag);
+    let mut right = [0u8; 16];
+    gcm::seal(key, iv, text, out, &mut right);
+    tag.copy_from_slice(&right);
     Ok(())
 }
 
@@ -123,11 +133,14 @@ pub fn prim_gcm_seal(key: &[u8], iv: &[u8], text: &[u8], out: &mut [u8], tag: &m
     number(seal(key, iv, text, out, tag))
 }
 
-// The text of a sealed one into out, which is as long.
+// The text of a sealed one into out.
 fn open(key: &[u8], iv: &[u8], text: &[u8], tag: &[u8], out: &mut [u8]) -> Result<(), Undone>
     ensures { answer (number_of result) out.new ≡ open_call key.now iv.now text.now tag.now out.old }
 {
-    if !sizes_fit(key.len(), iv.len(), text.len(), tag.len(), out.len()) {
+    let key = key.try_into()?;
+    let iv = iv.try_into()?;
+    let tag = tag.try_into()?;
+    if LONGEST < text.len() || out.len() != text.len() {
         return Err(Undone::Size);
     }
     gcm::unseal(key, iv, text, tag, out)?;
