@@ -28,6 +28,7 @@ pub fn good_block(block: &[u8]) -> bool
 }
 
 // The value of a covered name by its notes, of its first line where it has several: a part of one of the two blocks.
+// Kept: head and aside, not Blocks: it takes blocks of any length.
 pub fn covered<'a>(head: &'a [u8], aside: &'a [u8], in_head: u16, in_aside: u16) -> &'a [u8]
     requires { PlaceIn head.now in_head × PlaceIn aside.now in_aside }
     ensures { result.now ≡ first_by aside.now head.now in_head in_aside }
@@ -76,6 +77,7 @@ pub fn value_at<'a>(block: &'a [u8], at: usize) -> &'a [u8]
 }
 
 // Where the first line after the one at byte at starts that bears its name.
+// Kept: a block and a place in it, not a line held as a value: a note holds a place alone, and whoever reads one has no more.
 pub fn again(block: &[u8], at: usize) -> Option<usize>
     requires { Stands block.now at }
     ensures { AgainIs block.now at result }

@@ -16,12 +16,11 @@ pub fn good_extra(known: &KnownNames, extra: &[u8]) -> bool
     (names.count() <= 8) & good_names(known, names)
 }
 
-fn good_names(known: &KnownNames, names: Names) -> bool
+fn good_names(known: &KnownNames, mut names: Names) -> bool
     ensures { result ≡ good_names (names_left names.entry) }
 {
-    let mut after = names;
-    while let Some(name) = after.next() {
-        if !(is_allowed(known, name) & !after.have(name)) {
+    while let Some(name) = names.next() {
+        if !(is_allowed(known, name) & !names.have(name)) {
             return false;
         }
     }

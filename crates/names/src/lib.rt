@@ -18,6 +18,7 @@ pub use each::Names;
 pub use mask::{KnownNames, known};
 
 // Where the name that starts at byte at ends.
+// Kept: a run and an index within it, as cells::end takes them; a type of the two is no plainer, since each is used alone too.
 pub fn name_end(run: &[u8], at: usize) -> usize
     requires { at ≤ length run.now }
     ensures { Spans no_comma run.now at result }

@@ -14,6 +14,7 @@ use super::{Covered, KnownNames, Names, has_name, name_end, same_name};
 pub struct Sheet<'a> {
     pub known: &'a [u8],
     pub extra: &'a [u8],
+    // Kept: 0 for none, since an Option<u16> takes twice the bytes, and gate's calls have 104 of their stack left.
     pub entries: [u16; 192],
     // How many names there are.
     pub count: usize,
@@ -42,6 +43,7 @@ impl<'a> Sheet<'a> {
         requires { Entered self.now.known.now self.now.extra.now self.now.entries }
         ensures { NumberOn self.now.known.now self.now.extra.now self.now.entries name.now result }
     {
+        // Kept: a `while` that follows the chain of a key; it counts no index.
         let mut entry = self.entries[key(name)] as usize;
         while entry != 0 {
             let number = entry - 1;

@@ -32,7 +32,7 @@ returns c =
     record {
       size = loop.invariant.1;
       taken = (
-          sym (loop.invariant.2 ∙ there),
-          λ ns on apart t i h. noting_end (omega (arith, eqb-true _ _ t)) (loop.invariant.3 ns on apart i h),
-        );
+        sym (loop.invariant.2 ∙ there),
+        λ ns on apart t i h. noting_end (omega (arith, eqb-true _ _ t)) (loop.invariant.3 ns on apart i h),
+      );
     }
