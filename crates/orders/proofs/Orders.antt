@@ -1,8 +1,7 @@
 -- Laws of good orders.
 -- Assumes nothing.
-use mathlib.Core.Path.{◌≡◌, refl}
-use mathlib.Core.Bool.{Bool, true, false, cond}
-use Rattle.std.specs.Prelude.{Some, None}
+use mathlib.Core.Path.{◌≡◌}
+use mathlib.Core.Bool.{true}
 use Prim.Native.Nat.{ℕ, ◌^◌, ◌≤◌, ◌<◌}
 use native.Mathlib.Omega.{arith}
 use borrow.Author.Tests.{ltb-true, ne_eqb}
@@ -11,7 +10,6 @@ use Rattle.cells.proofs.Tests.{both}
 use Rattle.hashes.specs.Hashes.{good_allowed}
 use Rattle.names.specs.Extra.{good_extra}
 use Rattle.orders.specs.Orders.{Orders, orders_good, limits_of}
-use Rattle.orders.specs.declared.Limits.{Limits}
 
 module _ (o : Orders) (h : orders_good o ≡ true) where
   parts : ((ltb o.numbers.mask (2 ^ 56) ≡ true) × (good_allowed o.numbers.hashes ≡ true)) × (good_extra o.extra ≡ true)

@@ -1,10 +1,10 @@
 -- How the stages' answers make up the parts of a request's checks.
 -- Assumes nothing.
-use mathlib.Core.Path.{◌≡◌, refl, sym, ap, ◌∙◌}
+use mathlib.Core.Path.{◌≡◌, refl, sym, ◌∙◌}
 use mathlib.Core.Bool.{Bool, true, false, cond, not, ◌&&◌}
 use mathlib.Core.List.{List, [], ◌∷◌}
 use mathlib.Core.Option.{Option, none, some, get_or}
-use Prim.Native.Nat.{ℕ, ◌+◌, ◌-◌, ◌≤◌, ◌<◌}
+use Prim.Native.Nat.{ℕ, ◌≤◌, ◌<◌}
 use native.Mathlib.Omega.{arith}
 use borrow.Author.Tests.{le-leb, lt-leb}
 use lib.Dec.{eqb}
@@ -42,7 +42,7 @@ use Rattle.orders.specs.declared.Limits.{Limits}
 use Rattle.stages.specs.declared.admitting.Session.{Session}
 use Rattle.stages.specs.Checks.{Check, check, first, missing}
 use Rattle.table.specs.Session.{place_of}
-use Rattle.stages.specs.Parts.{fields_of, iv_of, hash_of, nonce_of, time_of, last_time_of, signature_of, opened_of, token_of, limits, text_of, code_under, code_of, ordered, keeps_hash, stepped, next_of, covering_part, reading_part, token_part, signature_part, vouching_part, session_part, nonce_part, admitting_part}
+use Rattle.stages.specs.Parts.{fields_of, iv_of, hash_of, nonce_of, time_of, last_time_of, signature_of, opened_of, token_of, text_of, code_under, code_of, ordered, keeps_hash, stepped, next_of, covering_part, reading_part, token_part, signature_part, vouching_part, session_part, nonce_part, admitting_part}
 use Rattle.stages.specs.InnerStages.{Opens, StandsAt, Asks, Admits, Settles}
 use Rattle.stages.proofs.Checks.{passed_by, stopped_by}
 use Rattle.stages.proofs.Parts.{token_numbered, vouching_numbered}
