@@ -27,15 +27,6 @@ from_at P a (suc n) h k low high =
     tested (eqb a k) (λ e. subst P (eqb-true a k e) h.0)
     (λ e. let other : a ≡ k → ⊥ = eqb-false a k e in from_at P (suc a) n h.1 k (omega arith) (omega arith))
 
-rank_within : (ks : List Key) (x : List ℕ) → rank_of ks x ≤ length ks
-unfolding rank_of
-rank_within [] x = omega arith
-rank_within (k ∷ ks) x = tested (same x k.name) (λ e. rw e (omega arith)) (λ e. rw e (omega (arith, rank_within ks x)))
-
-pub key_number_within : (x : List ℕ) → key_number x ≤ 11
-unfolding key_number keys
-key_number_within x = rank_within keys x
-
 found : (ks : List Key) (x : List ℕ) → rank_of ks x < length ks → same x (get_or ks (rank_of ks x) (key "" free)).name ≡ true
 unfolding rank_of
 found [] x h = absurd (not-suc-le-zero h)

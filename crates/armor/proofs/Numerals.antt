@@ -4,20 +4,20 @@ use mathlib.Core.Path.{◌≡◌, refl, sym, ap, ap₂, ◌∙◌}
 use mathlib.Core.Bool.{Bool, true, false, not, ◌&&◌}
 use mathlib.Core.List.{List, [], ◌∷◌, ◌++◌, append-nil}
 use Prim.Native.Nat.{ℕ, zero, suc, ◌+◌, ◌*◌, ◌/◌, ◌%◌, ◌^◌, ◌-◌, ◌<◌, ◌≤◌}
-use native.Mathlib.Nat.{div-eq_of_lt, zero-div, zero-mul, zero-add, le-div_iff_mul-le, div-lt_iff_lt-mul, mod-eq_of_lt, one-mul, lt_of_lt_of_le, sub_self}
+use native.Mathlib.Nat.{div-eq_of_lt, zero-div, zero-mul, zero-add, lt_of_lt_of_le, sub_self}
 use native.Mathlib.Numerals.{add-one}
 use native.Mathlib.Omega.{arith}
 use lib.Dec.{eqb}
-use lib.Pow.{pow_pos, pow-add, pow_mono}
-use lib.ListN.{length, take, drop, set, replicate, length-drop, drop_of_length-le}
-use lib.Seq.{take_all}
-use Rattle.std.proofs.lemmas.List.{drop-set}
-use borrow.Author.Tests.{eqb-true, leb-true, le-leb, eq-eqb, ne_eqb, not-true}
+use lib.Pow.{pow_mono}
+use lib.ListN.{length, take, drop, replicate, length-drop, drop_of_length-le}
+use lib.Seq.{take_all, take_at}
+use borrow.Author.Tests.{eqb-true, leb-true, le-leb, eq-eqb, not-true}
 use Rattle.cells.specs.Runs.{Bytes, spliced, part}
 use Rattle.cells.specs.Numbers.{bytes_of, number}
+use Rattle.cells.specs.Spans.{leading}
 use Rattle.cells.proofs.Tests.{tested, both}
 use Rattle.cells.proofs.Numbers.{length_bytes_of, bytes_bytes_of, bytes_rest, number_below, number_of, bytes_of_number, bytes_of_append, number_append, bytes_first}
-use Rattle.cells.proofs.Runs.{spliced_front, fronted_whole, length_spliced}
+use Rattle.cells.proofs.Runs.{length_spliced}
 use Rattle.armor.specs.Numerals.{shortest, plain, number_bytes, is_numeral, is_number, mask_bytes, is_mask, mask_of}
 
 -- two tests in a row
@@ -84,31 +84,13 @@ bytes_of_zero zero = refl
 bytes_of_zero (suc k) = ap₂ ◌∷◌ (ap (λ (q : ℕ). q % 256) (zero-div (2 ^ (8 * k))) ∙ refl) (bytes_of_zero k)
 
 -- a number that fits k + 1 bytes is given by these
-fitting : (j k n : ℕ) → j + suc k ≡ 8 → n < 2 ^ (8 * suc k) → number_bytes n ≡ shortest (bytes_of (suc k) n)
+pub fitting : (j k n : ℕ) → j + suc k ≡ 8 → n < 2 ^ (8 * suc k) → number_bytes n ≡ shortest (bytes_of (suc k) n)
 unfolding number_bytes bytes_of
 fitting j k n e h =
     ap (λ (i : ℕ). shortest (bytes_of i n)) (sym e)
     ∙ ap shortest (bytes_of_append j (suc k) n ∙ ap (λ (q : ℕ). bytes_of j q ++ bytes_of (suc k) n) (div-eq_of_lt h))
     ∙ ap (λ (z : List ℕ). shortest (z ++ bytes_of (suc k) n)) (bytes_of_zero j)
     ∙ shortest_zeros j _ (bytes_of k n)
-
-first_byte : (k n : ℕ) → 2 ^ (8 * suc k) ≤ n → n < 2 ^ (8 * suc (suc k)) → plain (bytes_of (suc (suc k)) n) ≡ true
-unfolding plain bytes_of
-first_byte k n low high =
-    let p = 2 ^ (8 * suc k) in
-    let one : 1 ≤ n / p = (le-div_iff_mul-le {k = p} {x = 1} {y = n} (pow_pos (8 * suc k))).1 (rw one-mul low) in
-    let split : 2 ^ (8 * suc (suc k)) ≡ 256 * p = ap (λ (e : ℕ). 2 ^ e) (omega arith) ∙ pow-add 2 8 (8 * suc k) in
-    let byte : n / p < 256 = (div-lt_iff_lt-mul {k = p} {x = n} {y = 256} (pow_pos (8 * suc k))).1 (rw split at high) in
-    ap not (ne_eqb (n / p % 256) 0 (λ e. omega (arith, mod-eq_of_lt byte)))
-
--- one byte
-pub one_byte : (n : ℕ) → n < 256 → number_bytes n ≡ bytes_of 1 n
-unfolding plain bytes_of
-one_byte n h = fitting 7 0 n refl h ∙ shortest_plain (bytes_of 1 n) refl
-
--- k + 2 bytes
-pub more_bytes : (j k n : ℕ) → j + suc (suc k) ≡ 8 → 2 ^ (8 * suc k) ≤ n → n < 2 ^ (8 * suc (suc k)) → number_bytes n ≡ bytes_of (suc (suc k)) n
-more_bytes j k n e low high = fitting j (suc k) n e high ∙ shortest_plain (bytes_of (suc (suc k)) n) (first_byte k n low high)
 
 pub number_number_bytes : (n : ℕ) → n < 2 ^ 64 → number (number_bytes n) ≡ n
 unfolding number_bytes
@@ -133,19 +115,6 @@ bytes_mask_bytes m = bytes_first (length (number_bytes m)) (number_bytes m) (ome
 pub length_mask_bytes : (m : ℕ) → length (mask_bytes m) ≤ 9
 unfolding mask_bytes
 length_mask_bytes m = omega (arith, (length_number_bytes m).1)
-
--- a number's bytes, cut from eight of them
-pub cut_bytes : (n k : ℕ) {eight : List ℕ} → eight ≡ spliced (replicate 8 0) 0 (bytes_of 8 n) → k ≡ length (number_bytes n)
-    → take (8 - (8 - k)) (drop (8 - k) eight) ≡ number_bytes n
-unfolding number_bytes bytes_of
-cut_bytes n k p q =
-    let whole = p ∙ spliced_front (replicate 8 0) (bytes_of 8 n) ∙ fronted_whole (bytes_of 8 n) (replicate 8 0) refl in
-    let few : k ≤ 8 = omega (arith, (length_number_bytes n).1) in
-    let same : length (number_bytes n) ≡ 8 - (8 - k) = omega arith in
-    ap (λ (l : List ℕ). take (8 - (8 - k)) (drop (8 - k) l)) whole
-    ∙ ap (λ (j : ℕ). take (8 - (8 - k)) (drop (8 - j) (bytes_of 8 n))) q
-    ∙ ap (take (8 - (8 - k))) (suffix (bytes_of 8 n)).1
-    ∙ take_all (8 - (8 - k)) (number_bytes n) (omega arith)
 
 -- what `is_numeral` says
 pub numeral_parts : (k : ℕ) (bs : List ℕ) → is_numeral k bs ≡ true → (1 ≤ length bs) × (length bs ≤ k) × (plain bs ≡ true)
@@ -240,19 +209,19 @@ number_small bs h few =
 pub length_number : (n : ℕ) → n < 2 ^ 32 → length (number_bytes n) ≤ 4
 length_number n h = (numeral_parts 4 (number_bytes n) (numeral 4 3 n refl h)).1
 
--- the length byte put before a number's bytes, which stand at the end of nine
-pub mask_cut : (m k : ℕ) {nine : List ℕ} → nine ≡ spliced (replicate 9 0) 1 (bytes_of 8 m) → k ≡ length (number_bytes m)
-    → take (9 - (8 - k)) (drop (8 - k) (set nine (8 - k) k)) ≡ mask_bytes m
-unfolding mask_bytes number_bytes spliced bytes_of
-mask_cut m k p q =
-    let ys = bytes_of 8 m in
-    let whole = p ∙ ap (λ (l : List ℕ). 0 ∷ l) (ap (λ (l : List ℕ). ys ++ l) (drop_of_length-le (replicate 8 0) {i = length ys} (omega arith)) ∙ append-nil ys) in
-    let few : k ≤ 8 = omega (arith, (length_number_bytes m).1) in
-    let cut =
-    ap (λ (l : List ℕ). drop (8 - k) (set l (8 - k) k)) whole
-    ∙ drop-set (0 ∷ ys) (8 - k) k (omega arith)
-    ∙ ap (λ (i : ℕ). k ∷ drop i (0 ∷ ys)) (add-one (8 - k))
-    ∙ ap (λ (j : ℕ). k ∷ drop (8 - j) ys) q
-    ∙ ap (λ (l : List ℕ). k ∷ l) (suffix ys).1
-    in
-    ap (take (9 - (8 - k))) cut ∙ take_all (9 - (8 - k)) (k ∷ shortest ys) (omega arith) ∙ ap (λ (j : ℕ). j ∷ shortest ys) q
+-- a number's bytes put after the length byte
+pub mask_front : (m k : ℕ) {ys l : List ℕ} → ys ≡ number_bytes m → k ≡ length ys → l ≡ spliced (k ∷ replicate 8 0) 1 ys → take (k + 1) l ≡ mask_bytes m
+unfolding spliced mask_bytes
+mask_front m k {ys} is e p =
+    ap (take (k + 1)) p
+    ∙ ap (λ (j : ℕ). take j (k ∷ (ys ++ drop (length ys) (replicate 8 0)))) (add-one k)
+    ∙ ap₂ ◌∷◌ (e ∙ ap length is) (take_at ys (drop (length ys) (replicate 8 0)) k (sym e) ∙ is)
+
+-- the zeros that stand before the last byte
+pub shortest_cut : (bs : List ℕ) → 1 ≤ length bs → drop (leading (λ b. eqb b 0) (take (length bs - 1) bs)) bs ≡ shortest bs
+unfolding shortest leading
+shortest_cut [] h = absurd (omega arith)
+shortest_cut (b ∷ []) h = refl
+shortest_cut (b ∷ c ∷ bs) h =
+    let e : length (b ∷ c ∷ bs) - 1 ≡ suc (length (c ∷ bs) - 1) = omega arith in
+    rw e (tested (eqb b 0) (λ t. rw t (shortest_cut (c ∷ bs) (omega arith))) (λ t. rw t))

@@ -2,57 +2,38 @@
 ghost use Rattle.std.specs.Prelude.{◌≡◌, ◌+◌, ◌≤◌, length};
 ghost use Rattle.cells.specs.Run.{run_of};
 ghost use Rattle.cells.specs.Numbers.{number};
-ghost use Rattle.armor.specs.Numerals.{plain, number_bytes, is_numeral, mask_bytes};
+ghost use Rattle.armor.specs.Numerals.{shortest, plain, number_bytes, is_numeral, mask_bytes};
 
 use cells::Run;
 
-// How many bytes a number has.
-fn size(n: u64) -> usize
-    ensures { result ≡ length (number_bytes n) }
+// A run without its leading zero bytes; the last byte stays.
+fn shortest(run: &[u8]) -> &[u8]
+    requires { 1 ≤ length run.now }
+    ensures is { result.now ≡ shortest run.now }
+    ensures within { length result.now ≤ length run.now }
 {
-    if n < 0x100 {
-        return 1;
-    }
-    if n < 0x1_0000 {
-        return 2;
-    }
-    if n < 0x100_0000 {
-        return 3;
-    }
-    if n < 0x1_0000_0000 {
-        return 4;
-    }
-    if n < 0x100_0000_0000 {
-        return 5;
-    }
-    if n < 0x1_0000_0000_0000 {
-        return 6;
-    }
-    if n < 0x100_0000_0000_0000 {
-        return 7;
-    }
-    8
+    let zeros = cells::end(&run[..run.len() - 1], 0, |b| b == 0);
+    &run[zeros..]
 }
 
 // A number as its bytes.
 pub fn number_bytes(n: u32) -> Run<4>
     ensures { run_of result ≡ number_bytes n }
 {
-    let wide = u64::from(n);
-    let mut eight = [0u8; 8];
-    cells::put64(&mut eight, 0, wide);
-    Run::of(&eight[8 - size(wide)..])
+    Run::of(shortest(&n.to_be_bytes()))
 }
 
 // A mask as its bytes.
 pub fn mask_bytes(m: u64) -> Run<9>
     ensures { run_of result ≡ mask_bytes m }
 {
-    let len = size(m);
-    let mut nine = [0u8; 9];
-    cells::put64(&mut nine, 1, m);
-    nine[8 - len] = len as u8;
-    Run::of(&nine[8 - len..])
+    let eight = m.to_be_bytes();
+    let number = shortest(&eight);
+    let len = number.len();
+    let mut bytes = [0; 9];
+    bytes[0] = len as u8;
+    cells::put_at(&mut bytes, 1, number);
+    Run::of(&bytes[..len + 1])
 }
 
 // Whether a run has no leading zero byte, or is one byte.

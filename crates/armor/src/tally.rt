@@ -14,8 +14,5 @@ pub struct Tally {
 pub fn more(count: u8) -> u8
     ensures { result ≡ min 2 (count + 1) }
 {
-    if count == 0 {
-        return 1;
-    }
-    2
+    count.saturating_add(1).min(2)
 }

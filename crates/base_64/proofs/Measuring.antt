@@ -81,10 +81,6 @@ by_none (p ∷ q ∷ r ∷ s ∷ rest) h = absurd (omega arith)
 pub ends : (l : List ℕ) (t : Bool) → length l < 4 → t ≡ eqb (length l) 0 → measured l ≡ cond t (Some 0) None
 ends l t h e = by_none l h ∙ ap (λ (u : Bool). cond u (Some 0) None) (sym e)
 
-pub plus_zero : (s : Option ℕ) → s ≡ plus 0 s
-plus_zero None = refl
-plus_zero (Some k) = ap Some (omega arith)
-
 pub plus_plus : (m n : ℕ) (s : Option ℕ) → plus m (plus n s) ≡ plus (m + n) s
 plus_plus m n None = refl
 plus_plus m n (Some k) = ap Some (omega arith)

@@ -3,13 +3,12 @@
 
 ghost use Rattle.std.specs.Prelude.{◌≡◌, ◌+◌, ◌*◌, ◌/◌, ◌≤◌, ◌<◌, length};
 ghost use Rattle.cells.specs.Runs.{fronted};
-ghost use Rattle.base_64.specs.Alphabet.{six_bits};
 ghost use Rattle.base_64.specs.Encoding.{encoded};
 ghost use Rattle.base_64.specs.Decoding.{decoded};
 ghost use Rattle.base_64.specs.InnerAnswers.{measured, outcome, decoded_into};
-ghost use Rattle.base_64.specs.InnerSteps.{Lists, content, full_of, one_of, two_of, size_first, eight_of, byte_of};
+ghost use Rattle.base_64.specs.InnerSteps.{content, full_of, one_of, two_of, size_first, eight_of, byte_of};
 
-use tables::{alphabet, character, reverse, six_bits};
+use tables::{Alphabet, Reverse};
 
 mod tables;
 
@@ -42,14 +41,13 @@ fn two(group: &[u8; 4], w: u8, x: u8, y: u8) -> bool
 }
 
 // How many bytes a group has, which are fewer than three only in the last one.
-fn group_size(table: &[u8; 256], group: &[u8; 4], last: bool) -> Option<usize>
-    requires { Lists six_bits 256 table.now }
+fn group_size(table: &Reverse, group: &[u8; 4], last: bool) -> Option<usize>
     ensures { result ≡ size_first group.now last }
 {
-    let w = six_bits(table, group[0]);
-    let x = six_bits(table, group[1]);
-    let y = six_bits(table, group[2]);
-    let z = six_bits(table, group[3]);
+    let w = table.six_bits(group[0]);
+    let x = table.six_bits(group[1]);
+    let y = table.six_bits(group[2]);
+    let z = table.six_bits(group[3]);
     if full(w, x, y, z) {
         return Some(3);
     }
@@ -62,8 +60,7 @@ fn group_size(table: &[u8; 256], group: &[u8; 4], last: bool) -> Option<usize>
     None
 }
 
-fn size(table: &[u8; 256], text: &[u8]) -> Option<usize>
-    requires { Lists six_bits 256 table.now }
+fn size(table: &Reverse, text: &[u8]) -> Option<usize>
     ensures { result ≡ measured text.now }
 {
     let mut left = text;
@@ -82,8 +79,7 @@ fn size(table: &[u8; 256], text: &[u8]) -> Option<usize>
 pub fn measure(text: &[u8]) -> Option<usize>
     ensures { result ≡ measured text.now }
 {
-    let table = reverse();
-    size(&table, text)
+    size(&Reverse::new(), text)
 }
 
 // Eight bits of two six-bit values in a row: those of byte k of a group.
@@ -91,25 +87,25 @@ fn eight(a: u8, b: u8, k: usize) -> u8
     requires { k < 3 }
     ensures { result ≡ eight_of a b k }
 {
-    ((((a as u32) * 64 + (b as u32)) >> (4 - 2 * k)) % 256) as u8
+    (((u32::from(a) * 64 + u32::from(b)) >> (4 - 2 * k)) % 256) as u8
 }
 
 // Byte i of those that a text encodes.
-fn byte(table: &[u8; 256], text: &[u8], i: usize) -> u8
-    requires { Lists six_bits 256 table.now × (i + i / 3 + 1 < length text.now) }
+fn byte(table: &Reverse, text: &[u8], i: usize) -> u8
+    requires { i + i / 3 + 1 < length text.now }
     ensures { result ≡ byte_of text.now i }
 {
     let at = i + i / 3;
     eight(
-        six_bits(table, text[at]),
-        six_bits(table, text[at + 1]),
+        table.six_bits(text[at]),
+        table.six_bits(text[at + 1]),
         i % 3,
     )
 }
 
 // The bytes of a text that encodes as many as the buffer holds.
-fn fill(table: &[u8; 256], text: &[u8], out: &mut [u8])
-    requires { Lists six_bits 256 table.now × (measured text.now ≡ Some (length out.old)) }
+fn fill(table: &Reverse, text: &[u8], out: &mut [u8])
+    requires { measured text.now ≡ Some (length out.old) }
     ensures { out.new ≡ content (decoded text.now) }
 {
     for (i, b) in out.iter_mut().enumerate() {
@@ -121,7 +117,7 @@ fn fill(table: &[u8; 256], text: &[u8], out: &mut [u8])
 pub fn decode(text: &[u8], out: &mut [u8]) -> Result<usize, Undecoded>
     ensures { outcome result out.new ≡ decoded_into text.now out.old }
 {
-    let table = reverse();
+    let table = Reverse::new();
     let n = size(&table, text).ok_or(Undecoded::Bad)?;
     if out.len() < n {
         return Err(Undecoded::TooLong);
@@ -135,7 +131,7 @@ pub fn encode(bytes: &[u8], out: &mut [u8]) -> usize
     requires { 4 * ((length bytes.now + 2) / 3) ≤ length out.old }
     ensures { (result ≡ length (encoded bytes.now)) × (out.new ≡ fronted (encoded bytes.now) out.old) }
 {
-    let n = (bytes.len() + 2) / 3 * 4;
+    let n = bytes.len().div_ceil(3) * 4;
     spell(bytes, &mut out[..n]);
     n
 }
@@ -145,8 +141,8 @@ fn spell(bytes: &[u8], out: &mut [u8])
     requires { length out.old ≡ length (encoded bytes.now) }
     ensures { out.new ≡ encoded bytes.now }
 {
-    let table = alphabet();
+    let table = Alphabet::new();
     for (i, b) in out.iter_mut().enumerate() {
-        *b = character(&table, bytes, i);
+        *b = table.character(bytes, i);
     }
 }

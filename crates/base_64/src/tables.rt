@@ -27,24 +27,29 @@ const REVERSE: [u8; 256] = [
     64, 64, 64, 64, 64, 64, 64, 64, 64, 64, 64, 64, 64, 64,
 ];
 
-pub fn alphabet() -> [u8; 64]
-    ensures { Lists character 64 result }
-{
-    ALPHABET
+#[derive(Clone, Copy)]
+pub struct Alphabet {
+    characters: [u8; 64],
+    ghost lists: { Lists character 64 characters },
 }
 
-pub fn reverse() -> [u8; 256]
-    ensures { Lists six_bits 256 result }
-{
-    REVERSE
+#[derive(Clone, Copy)]
+pub struct Reverse {
+    values: [u8; 256],
+    ghost lists: { Lists six_bits 256 values },
 }
 
-// The six-bit value of a character, and 64 for a byte that is none.
-pub fn six_bits(table: &[u8; 256], c: u8) -> u8
-    requires { Lists six_bits 256 table.now }
-    ensures { result ≡ six_bits c }
-{
-    table[usize::from(c)]
+impl Reverse {
+    pub fn new() -> Reverse {
+        Reverse { values: REVERSE }
+    }
+
+    // The six-bit value of a character, and 64 for a byte that is none.
+    pub fn six_bits(&self, c: u8) -> u8
+        ensures { result ≡ six_bits c }
+    {
+        self.values[usize::from(c)]
+    }
 }
 
 // Six bits of two bytes in a row: those of character k of a group.
@@ -52,18 +57,25 @@ fn six(a: u8, b: u8, k: usize) -> u32
     requires { k < 4 }
     ensures { result ≡ six_of a b k }
 {
-    (((a as u32) * 256 + (b as u32)) >> (10 - 6 * k % 8)) % 64
+    ((u32::from(a) * 256 + u32::from(b)) >> (10 - 6 * k % 8)) % 64
 }
 
-// Character i of the text of a run, and = where the run has no byte for it.
-pub fn character(table: &[u8; 64], bytes: &[u8], i: usize) -> u8
-    requires { Lists character 64 table.now }
-    ensures { result ≡ character_of bytes.now i }
-{
-    let at = i / 4 * 3 + 3 * (i % 4) / 4;
-    let Some(first) = bytes.get(at) else {
-        return b'=';
-    };
-    let second = bytes.get(at + 1).copied().unwrap_or(0);
-    table[six(*first, second, i % 4) as usize]
+impl Alphabet {
+    pub fn new() -> Alphabet {
+        Alphabet {
+            characters: ALPHABET,
+        }
+    }
+
+    // Character i of the text of a run, and = where the run has no byte for it.
+    pub fn character(&self, bytes: &[u8], i: usize) -> u8
+        ensures { result ≡ character_of bytes.now i }
+    {
+        let at = i / 4 * 3 + 3 * (i % 4) / 4;
+        let Some(first) = bytes.get(at) else {
+            return b'=';
+        };
+        let second = bytes.get(at + 1).copied().unwrap_or(0);
+        self.characters[six(*first, second, i % 4) as usize]
+    }
 }

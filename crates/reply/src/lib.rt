@@ -16,7 +16,6 @@ use hashes::Hash;
 pub mod reading;
 
 // Writes the reply of a setup that carries this to the front of out; how long it is.
-// Kept: that out has 1,024 bytes stands in a clause, since a longer buffer, as C lends it, is as good.
 pub fn setup(out: &mut [u8], reply: &Reply) -> usize
     requires { 1024 ≤ length out.old }
     ensures { (result ≡ length (reply_text reply.now)) × (out.new ≡ fronted (reply_text reply.now) out.old) × (result ≤ 467) }
@@ -54,6 +53,7 @@ fn put_token(out: &mut [u8], reply: &Reply) -> usize
 }
 
 // h, ah, and eah if there are extra names, after other fields.
+// Kept: that extra has at most 128 bytes is a clause; the type that says it, names::Covered, says more, which would ask more of callers.
 pub fn put_orders(out: &mut [u8], at: usize, hash: Hash, mask: u64, extra: &[u8]) -> usize
     requires { (at + 208 ≤ length out.old) × (length extra.now ≤ 128) }
     ensures { (result ≤ at + 208) × Laid out.old out.new at result (following (order_fields hash mask extra.now)) }

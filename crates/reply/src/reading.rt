@@ -1,5 +1,5 @@
 // A setup's reply read back.
-ghost use Rattle.std.specs.Prelude.{◌≡◌, ◌≤◌, length};
+ghost use Rattle.std.specs.Prelude.{◌≡◌};
 ghost use Rattle.cells.specs.Runs.{same};
 ghost use Rattle.armor.specs.Value.{carried};
 ghost use Rattle.armor.specs.InnerAnswers.{HoldsReply};
@@ -11,7 +11,6 @@ use armor::Reply;
 // What a reply carries, if it is laid out as a setup writes it. Not inlined, as is_written is not, so that gate_fits signs without their frames.
 #[inline(never)]
 pub fn read(text: &[u8]) -> Option<Reply>
-    requires { length text.now ≤ 4096 }
     ensures { ReadsLaidOut text.now result }
 {
     let reply = armor::read_reply(text)?;

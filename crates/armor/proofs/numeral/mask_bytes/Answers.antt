@@ -1,17 +1,15 @@
 -- `mask_bytes` meets its contract.
 -- Assumes nothing.
-use Rattle.std.proofs.Common.{◌∙◌, arith}
-use Rattle.armor.proofs.Numerals.{length_number_bytes, mask_cut}
+use Rattle.std.proofs.Common.{◌≡◌, refl, ◌∙◌, ap}
+use native.Mathlib.Nat.{div-one}
+use Rattle.cells.specs.Numbers.{bytes_of}
+use Rattle.armor.specs.Numerals.{shortest, number_bytes}
+use Rattle.armor.proofs.Numerals.{mask_front}
 use Rattle.armor.proofs.numeral.mask_bytes.Goals as goal
 
-pub overflow_cast-nine : goal.overflow_cast-nine
-overflow_cast-nine c = record { fits = omega (arith, c.size-len.ensures, (length_number_bytes c.args.m).1) }
-
-pub overflow_sub-nine : goal.overflow_sub-nine
-overflow_sub-nine c = omega (arith, c.size-len.ensures, (length_number_bytes c.args.m).1)
-
-pub overflow_sub-len : goal.overflow_sub-len
-overflow_sub-len c = omega (arith, c.size-len.ensures, (length_number_bytes c.args.m).1)
-
 pub returns : goal.returns
-returns c = c.of.ensures ∙ mask_cut c.args.m c.size-len.result c.put64.ensures c.size-len.ensures
+unfolding bytes_of number_bytes
+returns c =
+    let bytes : c.to_be_bytes-eight.result ≡ bytes_of 8 c.args.m = simp div-one c.to_be_bytes-eight.ensures in
+    let number : c.shortest-number.result.now ≡ number_bytes c.args.m = c.shortest-number.ensures.is ∙ ap shortest bytes in
+    c.of.ensures ∙ mask_front c.args.m _ number refl c.put_at.ensures.is

@@ -1,20 +1,16 @@
 -- `put_field` meets its contract: the key, the colon and the base64 are laid side by side.
 -- Assumes nothing.
-use borrow.Author.Rules.{rules}
-use mathlib.Core.Path.{refl}
-use native.Mathlib.Omega.{arith}
-use lib.ListN.{length}
+use Rattle.std.proofs.Common.{refl, length, arith}
 use Rattle.base_64.specs.Encoding.{encoded}
 use Rattle.base_64.proofs.Encoded.{length_encoded}
 use Rattle.cells.proofs.Laid.{lent_rest}
 use Rattle.armor.proofs.Laying.{laid_field}
-use Rattle.armor.proofs.writing.put_field.Statement.{statement}
-use Rattle.armor.proofs.writing.put_field.Tie as tie
+use Rattle.armor.proofs.writing.put_field.Goals as goal
 
-add-result : tie.Need-overflow_add-result
-add-result c = omega (arith, c.requires, c.well_formed, c.encode-len.ensures.0, length_encoded c.args.content.now)
+pub overflow_add-result : goal.overflow_add-result
+overflow_add-result c = record { fits = omega (arith, c.requires, c.encode-len.ensures.0, length_encoded c.args.content.now) }
 
-returns : tie.Need-returns
+pub returns : goal.returns
 returns c =
     let a = c.args in
     let one = c.put_at-colon in
@@ -27,8 +23,3 @@ returns c =
           e.ensures.0
           (omega (arith, c.requires, e.ensures.0, size, one.ensures.ends, two.ensures.ends)),
     )
-
-pub put_field_spec : {M : Type 1} → statement M
-put_field_spec =
-    tie.close (tie.spec (λ c. search rules) (λ c. search rules) (λ c. search rules) (λ c. search rules) (λ c. search rules) (λ c. search rules)
-    add-result (λ c. search rules) returns)

@@ -1,13 +1,11 @@
 -- `put_next` meets its contract.
 -- Assumes nothing.
-use borrow.Author.Rules.{rules}
-use native.Mathlib.Omega.{arith}
+use Rattle.std.proofs.Common.{arith}
 use Rattle.armor.specs.Value.{field}
 use Rattle.armor.proofs.Laying.{laid_next}
-use Rattle.armor.proofs.writing.put_next.Statement.{statement}
-use Rattle.armor.proofs.writing.put_next.Tie as tie
+use Rattle.armor.proofs.writing.put_next.Goals as goal
 
-returns : tie.Need-returns
+pub returns : goal.returns
 returns c =
     let a = c.args in
     let put = c.put_at-first in
@@ -15,7 +13,3 @@ returns c =
       omega (arith, f.ensures.0, put.ensures.ends),
       laid_next (field a.name.now a.content.now) put.ensures f.ensures.1 (omega (arith, c.requires, f.ensures.0, put.ensures.ends)),
     )
-
-pub put_next_spec : {M : Type 1} → statement M
-put_next_spec =
-    tie.close (tie.spec (λ c. search rules) (λ c. search rules) (λ c. search rules) returns)
