@@ -1,9 +1,11 @@
--- The state has taken in the bytes before the place, and the next part is as long as the first.
-use Rattle.std.proofs.Common.{◌-◌, ◌+◌, ◌≤◌, ◌≡◌, length}
+use Rattle.std.proofs.Common.{◌≡◌, ◌+◌, length}
+use Rattle.std.specs.Slice.Iter.{chunks_rest}
 use Rattle.vectors.proofs.digests.parts.Given as goal
 
-abbrev pub invariant-loop-end : goal.invariant-loop-end
-invariant-loop-end g l = record { within : l.at ≤ length l.message; taken : l.state.length ≡ l.at; next : l.end ≡ l.at + l.size }
-
-abbrev pub decreases-loop-end : goal.decreases-loop-end
-decreases-loop-end g l = length l.message - l.at
+abbrev pub invariant-loop-part : goal.invariant-loop-part
+invariant-loop-part g l =
+    record {
+      can_next : (goal.iterator-loop-part g).can_next l.part-iterator;
+      is_finite : (goal.iterator-loop-part g).is_finite l.part-iterator;
+      taken : l.state.length + length (chunks_rest l.part-iterator) ≡ length l.message;
+    }
