@@ -39,32 +39,26 @@ brought_as o clock server_key value b reply =
 abbrev pub CoveredNotes : Covered → List ℕ → List ℕ → Notes → Type 0
 CoveredNotes covered head aside notes = NotesOf (covered_names covered.mask covered.extra.now) head aside notes
 
--- 6 to 8: the number, and where none holds the notes
-pub record Covers (q : Request) (covered : Covered) (notes : Notes) (r : Result Unit Refusal) : Type 0 where
-  pub is : number_in r ≡ first (covering_part q)
-  pub noted : OnOk r (CoveredNotes covered q.head q.aside notes)
-
--- of any request with this value, method and lines, under any orders that these are of
-abbrev pub CoversIs : Ordered → List ℕ → List ℕ → List ℕ → List ℕ → Notes → Result Unit Refusal → Type 0
-CoversIs ordered value method head aside notes r =
+-- 6 to 8: the number, of any request with this value, method and lines, under any orders that these are of
+abbrev pub CoversIs : Ordered → List ℕ → List ℕ → List ℕ → List ℕ → Result Unit Refusal → Type 0
+CoversIs ordered value method head aside r =
     (o : Orders) → OrderedBy o ordered → (clock : ℕ) (server_key path body reply : List ℕ)
-    → Covers (request_of o clock server_key value method head aside path body reply) ordered.covered notes r
+    → number_in r ≡ first (covering_part (request_of o clock server_key value method head aside path body reply))
 
--- what the value carries, and the notes
-pub record HasRead (q : Request) (covered : Covered) (fields : Fields) (notes : Notes) (r : ArmorRequest) : Type 0 where
-  pub holds : Holds q.value (carried q.value) r
-  pub lies : Lies (carried q.value) fields
-  pub noted : CoveredNotes covered q.head q.aside notes
+-- what the value carries
+pub record HasRead (value : List ℕ) (fields : Fields) (r : ArmorRequest) : Type 0 where
+  pub holds : Holds value (carried value) r
+  pub lies : Lies (carried value) fields
 
 -- 4 to 8: the number, and where none holds what was read
-pub record Reads (q : Request) (covered : Covered) (fields : Fields) (notes : Notes) (r : Result ArmorRequest Refusal) : Type 0 where
+pub record Reads (q : Request) (fields : Fields) (r : Result ArmorRequest Refusal) : Type 0 where
   pub is : number_in r ≡ first (reading_part q)
-  pub read : IfOk r (λ request. HasRead q covered fields notes request)
+  pub read : IfOk r (λ request. HasRead q.value fields request)
 
-abbrev pub ReadIs : Ordered → List ℕ → List ℕ → List ℕ → List ℕ → Fields → Notes → Result ArmorRequest Refusal → Type 0
-ReadIs ordered value method head aside fields notes r =
+abbrev pub ReadIs : Ordered → List ℕ → List ℕ → List ℕ → List ℕ → Fields → Result ArmorRequest Refusal → Type 0
+ReadIs ordered value method head aside fields r =
     (o : Orders) → OrderedBy o ordered → (clock : ℕ) (server_key path body reply : List ℕ)
-    → Reads (request_of o clock server_key value method head aside path body reply) ordered.covered fields notes r
+    → Reads (request_of o clock server_key value method head aside path body reply) fields r
 
 -- the first of the token's checks
 abbrev pub opening_part : Request → List Check

@@ -1,9 +1,9 @@
 // Reading a request: checks 4 to 8.
-ghost use Rattle.std.specs.Prelude.{◌≡◌, true};
+ghost use Rattle.std.specs.Prelude.{◌≡◌, true, OnOk};
 ghost use Rattle.armor.specs.Value.{carried};
 ghost use Rattle.armor.specs.Fields.{request_fields};
 ghost use Rattle.armor.specs.InnerAnswers.{Holds, Lies};
-ghost use Rattle.stages.specs.InnerStages.{CoversIs, ReadIs};
+ghost use Rattle.stages.specs.InnerStages.{CoveredNotes, CoversIs, ReadIs};
 
 use super::refusal::Refusal;
 use armor::{Fields, Request};
@@ -23,7 +23,8 @@ pub fn read(
     fields: &mut Fields,
     notes: &mut Notes,
 ) -> Result<Request, Refusal>
-    ensures { ReadIs ordered.now value.now method.now blocks.now.head.now blocks.now.aside.now fields.new notes.new result }
+    ensures told { ReadIs ordered.now value.now method.now blocks.now.head.now blocks.now.aside.now fields.new result }
+    ensures noted { OnOk result (CoveredNotes ordered.now.covered blocks.now.head.now blocks.now.aside.now notes.new) }
 {
     let request = armor::read_request(value, fields)?;
     compare(
@@ -44,7 +45,8 @@ fn compare(
     notes: &mut Notes,
 ) -> Result<(), Refusal>
     requires { (request_fields (carried value.now) ≡ true) × Holds value.now (carried value.now) request.now × Lies (carried value.now) fields.now }
-    ensures { CoversIs ordered.now value.now method.now blocks.now.head.now blocks.now.aside.now notes.new result }
+    ensures told { CoversIs ordered.now value.now method.now blocks.now.head.now blocks.now.aside.now result }
+    ensures noted { OnOk result (CoveredNotes ordered.now.covered blocks.now.head.now blocks.now.aside.now notes.new) }
 {
     if !is_token(method) {
         return Err(Refusal::BadLines);

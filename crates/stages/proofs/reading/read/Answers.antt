@@ -6,9 +6,12 @@ use Rattle.stages.proofs.Stages.{unread, good_fields, read_on}
 use Rattle.stages.proofs.reading.read.Goals as goal
 
 pub returns-in_err-request : goal.returns-in_err-request
-returns-in_err-request c o by clock server_key path body reply =
+returns-in_err-request c =
     let refusal = err_from_is_err_and c.from_residual.result c.from_residual.ensures.1 in
-    rw refusal.1 (record { is = unread _ _ _ c.in_err-request.ensures refusal.2; read = tt })
+    rw refusal.1 (record {
+      told = λ o by clock server_key path body reply. record { is = unread _ _ _ c.in_err-request.ensures refusal.2; read = tt };
+      noted = tt;
+    })
 
 pub compare-requires : goal.compare-requires
 compare-requires c =
@@ -16,16 +19,23 @@ compare-requires c =
     (good_fields _ told.is, told.holds, told.lies)
 
 pub returns-in_err-compare : goal.returns-in_err-compare
-returns-in_err-compare c o by clock server_key path body reply =
+returns-in_err-compare c =
     let refusal = err_from_is_err_and c.from_residual-in_err-compare.result c.from_residual-in_err-compare.ensures.1 in
-    let compared = c.in_err-compare.ensures o by clock server_key path body reply in
-    rw (refusal.1, refusal.2) (record { is = compared.is ∙ sym (read_on _ c.in_ok-request.ensures.is); read = tt })
+    rw (refusal.1, refusal.2) (record {
+      told = λ o by clock server_key path body reply. record {
+        is = c.in_err-compare.ensures.told o by clock server_key path body reply ∙ sym (read_on _ c.in_ok-request.ensures.is);
+        read = tt;
+      };
+      noted = tt;
+    })
 
 pub returns : goal.returns
-returns c o by clock server_key path body reply =
-    let told = c.in_ok-request.ensures in
-    let compared = c.in_ok-compare.ensures o by clock server_key path body reply in
+returns c =
+    let carries = c.in_ok-request.ensures in
     record {
-      is = compared.is ∙ sym (read_on _ told.is);
-      read = record { holds = told.holds; lies = told.lies; noted = compared.noted };
+      told = λ o by clock server_key path body reply. record {
+        is = c.in_ok-compare.ensures.told o by clock server_key path body reply ∙ sym (read_on _ carries.is);
+        read = record { holds = carries.holds; lies = carries.lies };
+      };
+      noted = c.in_ok-compare.ensures.noted;
     }
