@@ -1,6 +1,6 @@
 -- `invalidate` meets its contract: one field at the front, which holds the code.
 -- Assumes nothing.
-use Rattle.std.proofs.Common.{◌≡◌, List, ℕ, take, ap, subst, ◌∙◌, zero-add, arith}
+use Rattle.std.proofs.Common.{◌≡◌, List, ℕ, take, ap, subst, ◌∙◌, zero-add}
 use Rattle.cells.specs.InnerLaid.{Laid}
 use Rattle.cells.proofs.Runs.{spliced_front}
 use Rattle.cells.specs.Text.{codes}
