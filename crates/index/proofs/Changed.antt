@@ -12,7 +12,7 @@ use Rattle.table.specs.Record.{freed}
 use Rattle.table.specs.Table.{record_at, records}
 use Rattle.table.proofs.Records.{length_records, records_at}
 use Rattle.index.specs.Index.{among, ranked, filled, coded}
-use Rattle.index.specs.Fits.{Stands}
+use Rattle.index.specs.Fits.{UsedAt, Stands}
 use Rattle.index.specs.InnerEntries.{Holds, Ranks}
 use Rattle.index.proofs.Ranked.{removed, in_stands, ranked_in}
 use Rattle.index.proofs.Coded.{opened, closed}
@@ -26,16 +26,15 @@ pub record Without (table : List Record) (ps after : List ℕ) (place : ℕ) : T
   pub is : get_or ps at 0 ≡ place
   pub bytes : after ≡ coded (filled (length table) (removed at ps))
 
--- the record that is read at a place: the rank of its IV, and its place among those of the used records
-module _ (bytes : List ℕ) {place : ℕ} {r : Record} (inside : place < length (records bytes)) (read : r ≡ record_at bytes place) where
-  read_here : get_or (records bytes) place freed ≡ r
-  read_here = records_at bytes place (omega (arith, length_records bytes)) ∙ sym read
+-- the rank of the IV of the record that is read at a place
+pub ranks_of : (bytes : List ℕ) {place : ℕ} {r : Record} → place < length (records bytes) → r ≡ record_at bytes place → {index : List ℕ} {at : ℕ}
+    → Ranks (records bytes) index r.iv at → Ranks (records bytes) index (get_or (records bytes) place freed).iv at
+ranks_of bytes {place} {r} inside read {index} {at} ranks =
+    subst (λ (x : Record). Ranks (records bytes) index x.iv at) (read ∙ sym (records_at bytes place (omega (arith, length_records bytes)))) ranks
 
-  pub ranks_of : {index : List ℕ} {at : ℕ} → Ranks (records bytes) index r.iv at → Ranks (records bytes) index (get_or (records bytes) place freed).iv at
-  ranks_of {index} {at} ranks = subst (λ (x : Record). Ranks (records bytes) index x.iv at) (sym read_here) ranks
-
-  pub stands_of : r.used ≡ 1 → Stands place (ranked (records bytes))
-  stands_of u = in_stands _ _ (ranked_in _ _ _ inside (ap (λ (x : Record). x.used) read_here ∙ u))
+-- a used record's place stands among those of the used records
+pub stands_of : (table : List Record) {place : ℕ} → UsedAt table place → Stands place (ranked table)
+stands_of table used = in_stands _ _ (ranked_in _ _ _ used.0 used.1)
 
 -- the entries from `at` on, lent and left
 module _ (index : List ℕ) (at : ℕ) where

@@ -2,7 +2,7 @@
 -- Assumes nothing.
 use mathlib.Core.Path.{◌≡◌, refl, sym, ap, ap₂, ◌∙◌}
 use mathlib.Core.List.{List, [], ◌∷◌}
-use mathlib.Core.Bool.{Bool, true, false, not, cond, ◌&&◌, ◌||◌}
+use mathlib.Core.Bool.{Bool, true, false, ◌&&◌, ◌||◌}
 use Prim.Native.Nat.{ℕ, ◌+◌, ◌*◌, ◌^◌, ◌≤◌, ◌<◌}
 use native.Mathlib.Omega.{arith}
 use borrow.Author.Tests.{ltb-true, ltb-false, eqb-true, eqb-false, lt-ltb, le-ltb}
@@ -10,10 +10,6 @@ use lib.Arith.{digits_lt}
 use lib.Dec.{eqb, ltb}
 use lib.ListN.{length, get_or, drop}
 use lib.Seq.{take-add, drop-drop}
-use Rattle.std.specs.declared.cmp.Ordering.{Ordering}
-use Rattle.std.specs.declared.cmp.Ordering.TheVariants.{Less, Equal, Greater}
-use Rattle.std.specs.Prelude.{Some}
-use Rattle.std.specs.Ordering.{is_lt, is_ge, is_some_and, partial_ordering_then, nat_cmp}
 use Rattle.cells.specs.Runs.{part, Bytes}
 use Rattle.cells.specs.Numbers.{number}
 use Rattle.cells.proofs.Runs.{length_part}
@@ -25,8 +21,7 @@ use Rattle.table.specs.Record.{size, freed}
 use Rattle.table.specs.Table.{places, records}
 use Rattle.table.proofs.Records.{length_records, records_at, used_at_lem, iv_at}
 use Rattle.index.specs.Index.{precedes, lower}
-use Rattle.index.specs.declared.order.Key.{Key}
-use Rattle.index.specs.InnerEntries.{worth, entry_at, used_at}
+use Rattle.index.specs.InnerEntries.{entry_at, used_at}
 
 -- numbers of two digits: the first decide, and where they are equal the second
 by_digits : (w x y m n : ℕ) → m < w → n < w → (ltb x y || (eqb x y && ltb m n)) ≡ ltb (x * w + m) (y * w + n)
@@ -63,44 +58,10 @@ precedes_twelve xs ys at bt b d h k =
     precedes_number (part xs at 12) (part ys bt 12) (bytes_part xs at 12 b) (bytes_part ys bt 12 d) (length_part xs at 12 h ∙ sym (length_part ys bt 12 k))
 
 -- twelve bytes in two numbers
-pub in_two : (xs : List ℕ) (at : ℕ) → at + 12 ≤ length xs → number (part xs at 12) ≡ number (part xs at 8) * 2 ^ 32 + number (part xs (at + 8) 4)
+pub in_two : (xs : List ℕ) (at : ℕ) → at + 12 ≤ length xs → number (part xs at 12) ≡ number (part xs at 4) * 2 ^ 64 + number (part xs (at + 4) 8)
 in_two xs at h =
-    ap number (take-add 8 4 (drop at xs)) ∙ number_append (part xs at 8) _
-    ∙ rw (drop-drop 8 at xs, length_part xs (at + 8) 4 (omega arith))
-
--- the first parts of two keys decide, and where they are equal the second
-pub by_parts : (a b : Key) → a.1 < 2 ^ 32 → b.1 < 2 ^ 32
-    → (ltb a.0 b.0 || (eqb a.0 b.0 && ltb a.1 b.1)) ≡ ltb (worth a) (worth b)
-by_parts a b = by_digits (2 ^ 32) a.0 b.0 a.1 b.1
-
--- the order of pairs
-pair_lt : (p q m n : ℕ) → is_some_and is_lt (partial_ordering_then (Some (nat_cmp p q)) (Some (nat_cmp m n))) ≡ (ltb p q || (eqb p q && ltb m n))
-pair_lt p q m n = by (ltb p q) (eqb p q) (ltb m n) (eqb m n)
-  where
-    by : (s t u v : Bool)
-        → is_some_and is_lt (partial_ordering_then (Some (cond s Less (cond t Equal Greater))) (Some (cond u Less (cond v Equal Greater)))) ≡ (s || (t && u))
-    by true t u v = refl
-    by false true true v = refl
-    by false true false true = refl
-    by false true false false = refl
-    by false false u v = refl
-
-not_less : (o p : Ordering)
-    → is_some_and is_ge (partial_ordering_then (Some o) (Some p)) ≡ not (is_some_and is_lt (partial_ordering_then (Some o) (Some p)))
-not_less Less p = refl
-not_less Equal Less = refl
-not_less Equal Equal = refl
-not_less Equal Greater = refl
-not_less Greater p = refl
-
--- the order of keys is that of the numbers
-pub keys_lt : (a b : Key) → a.1 < 2 ^ 32 → b.1 < 2 ^ 32
-    → is_some_and is_lt (partial_ordering_then (Some (nat_cmp a.0 b.0)) (Some (nat_cmp a.1 b.1))) ≡ ltb (worth a) (worth b)
-keys_lt a b h k = pair_lt a.0 b.0 a.1 b.1 ∙ by_parts a b h k
-
-pub keys_ge : (a b : Key) → a.1 < 2 ^ 32 → b.1 < 2 ^ 32
-    → is_some_and is_ge (partial_ordering_then (Some (nat_cmp a.0 b.0)) (Some (nat_cmp a.1 b.1))) ≡ not (ltb (worth a) (worth b))
-keys_ge a b h k = not_less (nat_cmp a.0 b.0) (nat_cmp a.1 b.1) ∙ ap not (keys_lt a b h k)
+    ap number (take-add 4 8 (drop at xs)) ∙ number_append (part xs at 4) _
+    ∙ rw (drop-drop 4 at xs, length_part xs (at + 4) 8 (omega arith))
 
 -- a place's record, in the table's bytes
 module _ (bytes : List ℕ) (place : ℕ) (h : place < places bytes) where

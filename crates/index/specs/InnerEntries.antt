@@ -1,17 +1,12 @@
 -- An index entry by entry, as the code reads and writes it.
 -- Assumes nothing.
-use Rattle.std.specs.Prelude.{ℕ, zero, suc, ◌+◌, ◌-◌, ◌*◌, ◌^◌, ◌≤◌, ◌<◌, ◌≡◌, List, Bool, true, false, cond, ◌&&◌, ◌||◌, length, get_or, eqb, ltb, Option, Some, None}
+use Rattle.std.specs.Prelude.{ℕ, zero, suc, ◌+◌, ◌-◌, ◌*◌, ◌≤◌, ◌<◌, ◌≡◌, List, Bool, true, false, cond, ◌&&◌, ◌||◌, length, get_or, eqb, ltb, Option, Some, None}
 use Rattle.table.specs.declared.session.Record.{Record}
 use Rattle.table.specs.Record.{freed}
 use Rattle.table.specs.Table.{is_used}
 use Rattle.table.specs.WellFormed.{sound}
-use Rattle.index.specs.declared.order.Key.{Key}
 use Rattle.index.specs.Index.{precedes, lower, among, ranked_to, vacant, filled, coded}
 use Rattle.index.specs.Fits.{UsedAt, Stands}
-
--- an IV's key as one number
-abbrev pub worth : Key → ℕ
-worth key = key.0 * 2 ^ 32 + key.1
 
 -- entry k of an index's bytes
 abbrev pub entry_at : List ℕ → ℕ → ℕ

@@ -16,10 +16,10 @@ fn leave(table: &[u8], index: &mut [u8], place: usize)
     requires { (place < places table.now) × Indexed table.now index.old }
     ensures { Indexed (with_record table.now (Some place) freed) index.new }
 {
-    let record = session::read(table, place);
-    if record.used != 1 {
+    if !order::is_used(table, place) {
         return;
     }
+    let record = session::read(table, place);
     let at = lookup::rank(table, index, &record.iv);
     entries::close(&mut index[2 * at..]);
 }
@@ -60,10 +60,9 @@ fn enter_next(table: &[u8], index: &mut [u8], place: usize)
     requires { Made (records table.now) place index.old × WellFormed (records table.now) × (place < places table.now) }
     ensures { Made (records table.now) (place + 1) index.new }
 {
-    if !order::is_used(table, place) {
-        return;
+    if order::is_used(table, place) {
+        enter(table, index, place);
     }
-    enter(table, index, place);
 }
 
 // The index that fits a well-formed table, whatever stood in it.

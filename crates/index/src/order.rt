@@ -3,20 +3,17 @@ ghost use Rattle.std.specs.Prelude.{◌≡◌, ◌+◌, ◌≤◌, length};
 ghost use Rattle.cells.specs.Runs.{part};
 ghost use Rattle.cells.specs.Numbers.{number};
 ghost use Rattle.table.specs.Table.{records};
-ghost use Rattle.index.specs.InnerEntries.{worth, used_at, low_at};
+ghost use Rattle.index.specs.InnerEntries.{used_at, low_at};
 
 use table::session::SIZE;
 
-// An IV as one number, in two parts: two of them are compared sooner than twelve bytes.
-#[derive(Clone, Copy, PartialEq, Eq, PartialOrd, Ord)]
-pub struct Key(pub u64, pub u32);
-
-// The IV that stands in some bytes from byte at on.
-pub fn key_at(s: &[u8], at: usize) -> Key
+// The IV that stands in some bytes from byte at on, as one number: two of them are compared sooner than twelve bytes.
+pub fn key_at(s: &[u8], at: usize) -> u128
     requires { at + 12 ≤ length s.now }
-    ensures { worth result ≡ number (part s.now at 12) }
+    ensures { result ≡ number (part s.now at 12) }
 {
-    Key(cells::load64(s, at), cells::load32(s, at + 8))
+    u128::from(cells::load32(s, at)) * 0x1_0000_0000_0000_0000
+        + u128::from(cells::load64(s, at + 4))
 }
 
 // Whether a used record stands at a place, which may be any number.

@@ -6,7 +6,6 @@ ghost use Rattle.table.specs.WellFormed.{well_formed};
 ghost use Rattle.index.specs.Index.{vacant, index_of};
 ghost use Rattle.index.specs.InnerEntries.{rises_at, vacant_at, every, TallyIs};
 
-use super::order::Key;
 use super::{entries, order};
 use table::rule;
 use table::session::SIZE;
@@ -31,7 +30,7 @@ fn tally(table: &[u8]) -> Option<usize>
 fn climb(table: &[u8], entries: &[u8]) -> bool
     ensures { result ≡ every (rises_at (records table.now) entries.now) (length entries.now / 2) }
 {
-    let mut last = Key(0, 0);
+    let mut last = 0;
     for k in 0..entries.len() / 2 {
         let place = entries::read(entries, k);
         if !order::is_used(table, place) {

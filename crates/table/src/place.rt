@@ -13,10 +13,7 @@ pub fn has_iv(table: &[u8], place: usize, iv: &[u8]) -> bool
     ensures { result ≡ holds iv.now (record_at table.now place) }
 {
     let at = SIZE * place;
-    if table[at] != 1 {
-        return false;
-    }
-    same_iv(table, at + 1, iv)
+    (table[at] == 1) & same_iv(table, at + 1, iv)
 }
 
 // Whether the IV stands in the table from byte at on. An IV is no secret, and two numbers are compared sooner than twelve bytes.

@@ -1,16 +1,16 @@
 -- An entry that names a used record is compared with the one before it.
 use Rattle.std.proofs.Common.{arith, sym, ◌∙◌, ◌≡◌, ◌<◌, ◌+◌, ◌-◌, ap, ap₂, true, List, ℕ}
-use borrow.Author.Tests.{not-true, not-false}
+use borrow.Author.Tests.{lt-ltb, le-ltb}
 use lib.Dec.{ltb}
 use Rattle.cells.specs.Runs.{Bytes}
 use Rattle.table.specs.Table.{records}
 use Rattle.table.proofs.Records.{length_records}
 use Rattle.index.specs.InnerEntries.{entry_at, used_at, rises_at, every}
-use Rattle.index.proofs.Keys.{iv_of, keys_ge, lower_number, told_within, used_within}
+use Rattle.index.proofs.Keys.{iv_of, lower_number, told_within, used_within}
 use Rattle.index.proofs.Held.{used_told}
 use Rattle.index.proofs.Fitting.{every_at, every_none, every_more, every_not, risen_used, rises_unused, rises_later, rises_at_lem}
 use Rattle.index.proofs.rule.climb.Goals as goal
-use Rattle.index.proofs.rule.climb.Goals.{else-k-gt0-via-then-k-gt0+else-ge, else-k-gt0-via-else-k-gt0}
+use Rattle.index.proofs.rule.climb.Goals.{else-k-gt0-via-then-k-gt0+else-last-next, else-k-gt0-via-else-k-gt0}
 
 -- what the two numbers tell of an entry behind the first
 compared : (table index : List ℕ) (k : ℕ) → Bytes table → every (rises_at (records table) index) k ≡ true
@@ -24,7 +24,7 @@ compared table index k bytes rises named o =
     (used_within table _ named)
 
 pub loop-k-init : goal.loop-k-init
-loop-k-init c = (every_none _, omega arith, λ o. absurd (omega arith))
+loop-k-init c = (every_none _, λ o. absurd (omega arith))
 
 pub returns-then-not-is_used : goal.returns-then-not-is_used
 returns-then-not-is_used c =
@@ -34,14 +34,13 @@ returns-then-not-is_used c =
 pub key_at-next-requires : goal.key_at-next-requires
 key_at-next-requires c = let inside = told_within _ _ c.is_used.ensures c.if-not-is_used.false in omega arith
 
-pub returns-then-ge : goal.returns-then-ge
-returns-then-ge c =
+pub returns-then-last-next : goal.returns-then-last-next
+returns-then-last-next c =
     let loop = c.loop-k in
     let named = rw c.read-place.ensures at (sym c.is_used.ensures ∙ c.if-not-is_used.false) in
-    let told = not-true _ (sym (keys_ge loop.last c.key_at-next.result (omega arith) (omega arith)) ∙ sym c.ge.ensures ∙ c.if-ge.true) in
     sym (every_not _ _ _ c.loop-k-test.true
     (compared c.args.table.now c.args.entries.now loop.k (λ i. (c.type_inv.table i).fits) loop.invariant.0 named c.if-k-gt0.true
-    ∙ ap₂ ltb (sym (loop.invariant.2 c.if-k-gt0.true)) (sym (rw c.read-place.ensures at c.key_at-next.ensures)) ∙ told))
+    ∙ ap₂ ltb (sym (loop.invariant.1 c.if-k-gt0.true)) (sym (rw c.read-place.ensures at c.key_at-next.ensures)) ∙ le-ltb _ _ c.if-last-next.true))
 
 pub loop-k-preserved : goal.loop-k-preserved
 loop-k-preserved c =
@@ -52,13 +51,11 @@ loop-k-preserved c =
     let keyed = rw c.read-place.ensures at c.key_at-next.ensures in
     let same : loop.k ≡ loop.k + 1 - 1 = omega arith in (
       every_more _ _ loop.invariant.0 (elim c.else-k-gt0.branch [
-        | else-k-gt0-via-then-k-gt0+else-ge w ↦
-            let told = not-false _ (sym (keys_ge loop.last c.key_at-next.result (omega arith) (omega arith)) ∙ sym w.ge.ensures ∙ w.if-ge.false) in
+        | else-k-gt0-via-then-k-gt0+else-last-next w ↦
             compared table index loop.k (λ i. (c.type_inv.table i).fits) loop.invariant.0 named w.if-k-gt0.true
-            ∙ ap₂ ltb (sym (loop.invariant.2 w.if-k-gt0.true)) (sym keyed) ∙ told
+            ∙ ap₂ ltb (sym (loop.invariant.1 w.if-k-gt0.true)) (sym keyed) ∙ lt-ltb _ _ w.if-last-next.false
         | else-k-gt0-via-else-k-gt0 w ↦
             rises_at_lem (records table) index loop.k (used_told (records table) _ named) (λ o. absurd (omega (arith, w.if-k-gt0.false)))
       ]),
-      omega arith,
       λ o. keyed ∙ ap (iv_of table index) same,
     )
