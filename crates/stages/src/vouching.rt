@@ -22,6 +22,8 @@ pub fn unseal(server_key: &[u8; 32], fields: &Fields) -> Result<Token, Refusal>
 }
 
 // Checks 10 and 11, of a token that opened.
+// Kept: this clause on the notes, which signs and signed::code have too. A struct of covered, brought and notes is no plainer: each of the three
+// places that note would make one for this call alone.
 pub fn vouch(
     covered: &Covered,
     clock: Time,
