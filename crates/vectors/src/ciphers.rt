@@ -6,12 +6,12 @@ use std::io::Write;
 
 // aes KEY BLOCK
 pub fn aes<W: Write>(out: &mut W, key: &[u8], block: &[u8]) -> io::Result<()> {
+    let Ok(key) = <&[u8; 32]>::try_from(key) else {
+        return Ok(());
+    };
     let Ok(block) = block.try_into() else {
         return Ok(());
     };
-    if key.len() != 32 {
-        return Ok(());
-    }
     print(out, &aes::encrypt(&aes::expand(key), block))
 }
 
