@@ -4,10 +4,9 @@ use mathlib.Core.Path.{◌≡◌, refl, sym, ◌∙◌}
 use mathlib.Core.Bool.{Bool, true, false, cond, not, ◌&&◌}
 use mathlib.Core.List.{List, [], ◌∷◌}
 use mathlib.Core.Option.{Option, none, some, get_or}
-use Prim.Native.Nat.{ℕ, ◌≤◌, ◌<◌}
+use Prim.Native.Nat.{ℕ, ◌≤◌}
 use native.Mathlib.Omega.{arith}
-use borrow.Author.Tests.{le-leb, lt-leb}
-use lib.Dec.{eqb}
+use lib.Dec.{eqb, leb}
 use Rattle.std.specs.Prelude.{Result, Ok, Err}
 use Rattle.std.specs.Prelude as P
 use Rattle.cells.specs.Run.{run_of}
@@ -107,16 +106,16 @@ opens q fields lies (P.Some token) told a is = rw is (record {
 
 -- what the token and the signature come to, of a token that opened
 module _ (q : Request) (token : Held) (o : Opens q (Ok token)) where
-  pub lapsed : token.expiry.0 ≤ q.clock → 10 ≡ first (vouching_part q)
+  pub lapsed : leb token.expiry.0 q.clock ≡ true → 10 ≡ first (vouching_part q)
   lapsed late =
-      let ten : first (token_part q) ≡ 10 = o.lasts ∙ rw (le-leb token.expiry.0 q.clock late) refl in
+      let ten : first (token_part q) ≡ 10 = o.lasts ∙ rw late refl in
       sym (stopped_by (token_part q) (signature_part q) (token_numbered q) (λ z. omega arith) ∙ ten)
 
-  pub vouched_by : q.clock < token.expiry.0 → (signed : Bool) → signed ≡ same (signature_of q) (code_under token.key q)
+  pub vouched_by : leb token.expiry.0 q.clock ≡ false → (signed : Bool) → signed ≡ same (signature_of q) (code_under token.key q)
       → cond (not signed) 11 0 ≡ first (vouching_part q)
   unfolding signature_part code_of
   vouched_by early signed is =
-      sym (passed_by (token_part q) (signature_part q) (token_numbered q) (o.lasts ∙ rw (lt-leb token.expiry.0 q.clock early) refl) ∙ simp (← o.holds.key, ← is))
+      sym (passed_by (token_part q) (signature_part q) (token_numbered q) (o.lasts ∙ rw early refl) ∙ simp (← o.holds.key, ← is))
 
 -- the hash that a request's h names
 pub read_hash : (q : Request) {r : ArmorRequest} {hash : Hash} → Holds q.value (carried q.value) r → hash ≡ named r.h → hash_of q ≡ hash

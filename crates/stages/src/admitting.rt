@@ -29,7 +29,8 @@ pub fn admit(
     let Some(session) = session else {
         return Err(Refusal::NoSession);
     };
-    if u64::from(session.record.hash) != Hash::named(request.h).mask() {
+    let hash = Hash::named(request.h);
+    if u64::from(session.record.hash) != hash.mask() {
         return Err(Refusal::NotAsOrdered);
     }
     if time::idle(request.t, request.lt, limits.idle) {

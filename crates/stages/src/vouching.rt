@@ -36,7 +36,7 @@ pub fn vouch(
     requires { NotesOf (covered_names covered.now.mask covered.now.extra.now) brought.now.lines.head.now brought.now.lines.aside.now notes.now }
     ensures { VouchIs covered.now clock.0 token.now request.now fields.now brought.now result }
 {
-    if token.expiry.0 <= clock.0 {
+    if token.expiry <= clock {
         return Err(Refusal::Expired);
     }
     if !signs(covered, &token.key, request, fields, brought, notes) {
