@@ -105,7 +105,10 @@ pub fn end_by_sixteens<F: Fn(u8) -> bool + Copy>(run: &[u8], at: usize, passes: 
     ensures { (p : ℕ → Bool) → ((b : ℕ) (r : Bool) → b < 256 → F.post passes b r → r ≡ p b) → Spans p run.now at result }
 {
     let mut i = at;
-    while (16 <= run.len() - i) && all(&run[i..i + 16], passes) {
+    for sixteen in run[at..].chunks_exact(16) {
+        if !all(sixteen, passes) {
+            break;
+        }
         i += 16;
     }
     end(run, i, passes)
