@@ -2,7 +2,7 @@
 // 32768 more if others do too.
 ghost use Rattle.std.specs.Prelude.{◌≤◌};
 
-// Kept: a note is a number; an enum of the three takes 256 bytes more of gate's stack, of which 104 are left.
+// Kept: a note is a number, since an enum of the three takes twice the bytes of the stack, on which gate has a bound.
 
 // Those of either block, as many as names are covered, in their order.
 #[derive(Drop)]

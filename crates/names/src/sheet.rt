@@ -14,7 +14,7 @@ use super::{Covered, KnownNames, Names, has_name, name_end, same_name};
 pub struct Sheet<'a> {
     pub known: &'a [u8],
     pub extra: &'a [u8],
-    // Kept: 0 for none, since an Option<u16> takes twice the bytes, and gate's calls have 104 of their stack left.
+    // Kept: 0 for none, since an Option<u16> takes twice the bytes of the stack, on which gate has a bound.
     pub entries: [u16; 192],
     // How many names there are.
     pub count: usize,
