@@ -1,5 +1,6 @@
 -- Laws of the parts of a line: where each ends.
 -- Assumes nothing.
+use Rattle.std.proofs.Common.{Option, Some, None}
 use mathlib.Core.Path.{◌≡◌, refl, sym, ap, ap₂, ◌∙◌}
 use mathlib.Core.List.{List, [], ◌∷◌}
 use mathlib.Core.Bool.{Bool, true, false, ◌&&◌, and-false, and_assoc}
@@ -15,7 +16,7 @@ use Rattle.cells.specs.Runs.{same}
 use Rattle.cells.specs.Spans.{all, leading, Spans}
 use Rattle.cells.proofs.Tests.{tested, both}
 use Rattle.logs.specs.Line.{Kind, ◌then◌, byte, space, date, other, one_or_more, digit, size}
-use Rattle.logs.specs.InnerParts.{word_part, date_part, request_part, Past}
+use Rattle.logs.specs.InnerParts.{word_part, date_part, request_part, PastIs}
 use Rattle.logs.proofs.Texts.{is_other, byte_then, byte_none, word_ends, date_ends, quoted, request_quote, request_plain, request_shield, request_none}
 
 -- a space, after what has to be good
@@ -36,34 +37,29 @@ module _ (xs : List ℕ) where
   byte_past : (d : ℕ) (b : Kind) (i : ℕ) → length xs ≤ i → (byte d then b) (drop i xs) ≡ false
   byte_past d b i h = rw (drop_of_length-le xs {i = i} h) (byte_none d b)
 
-  -- a part that does not stand at index at, whatever follows it
-  past_none : (part : Kind → Kind) (at r : ℕ) → r ≡ length xs → ((rest : Kind) → part rest (drop at xs) ≡ false) → Past part xs at r
-  past_none part at r h none =
-      record { is = λ rest e. none rest ∙ sym e ∙ ap rest (sym (drop_of_length-le xs {i = r} (omega arith))); within = omega arith }
+  -- a part that ends where another does
+  past_as : (a b : Kind → Kind) (at end : ℕ) → ((rest : Kind) → a rest (drop at xs) ≡ b rest (drop end xs)) → (r : Option ℕ) → PastIs b xs end r → PastIs a xs at r
+  past_as a b at end e None p = λ rest. e rest ∙ p rest
+  past_as a b at end e (Some r) p = record { is = λ rest. e rest ∙ p.is rest; within = p.within }
 
-  pub space_none : (good : Bool) (end : ℕ) → end ≡ length xs → Past (after good) xs end end
-  space_none good end h =
-      past_none (after good) end end h (λ rest. ap (λ (t : Bool). good && t) (byte_past 32 rest end (omega arith)) ∙ and-false good)
+  pub space_none : (good : Bool) (end : ℕ) → end ≡ length xs → PastIs (after good) xs end None
+  space_none good end h = λ rest. ap (λ (t : Bool). good && t) (byte_past 32 rest end (omega arith)) ∙ and-false good
 
-  pub space_there : (good : Bool) (end : ℕ) → end < length xs → (good && eqb (get_or xs end 0) 32) ≡ true → Past (after good) xs end (end + 1)
+  pub space_there : (good : Bool) (end : ℕ) → end < length xs → (good && eqb (get_or xs end 0) 32) ≡ true → PastIs (after good) xs end (Some (end + 1))
   space_there good end h t =
       let parts = both good (eqb (get_or xs end 0) 32) t in
-      record { is = λ rest e. rw (byte_at 32 rest end h, parts.0, parts.1) refl; within = omega arith }
+      record { is = λ rest. rw (byte_at 32 rest end h, parts.0, parts.1) refl; within = omega arith }
 
-  pub space_missing : (good : Bool) (end : ℕ) → end < length xs → (good && eqb (get_or xs end 0) 32) ≡ false → Past (after good) xs end (length xs)
+  pub space_missing : (good : Bool) (end : ℕ) → end < length xs → (good && eqb (get_or xs end 0) 32) ≡ false → PastIs (after good) xs end None
   space_missing good end h t =
-      past_none (after good) end (length xs) refl
-      (λ rest. rw (byte_at 32 rest end h, ← (and_assoc good (eqb (get_or xs end 0) 32) (rest (drop (end + 1) xs))), t) refl)
+      λ rest. rw (byte_at 32 rest end h, ← (and_assoc good (eqb (get_or xs end 0) 32) (rest (drop (end + 1) xs))), t) refl
 
   -- where a word ends
-  pub word_past : (at end r : ℕ) → Spans (other 32) xs at end → Past (after (ltb at end)) xs end r → Past word_part xs at r
-  word_past at end r s p = record {
-    is = λ rest e.
-        word_ends rest (drop at xs)
-        ∙ ap₂ ◌&&◌ size (ap (space then rest) (drop-drop (leading (other 32) (drop at xs)) at xs ∙ ap (λ (n : ℕ). drop n xs) (sym s.is)))
-        ∙ p.is rest e;
-    within = p.within;
-  }
+  pub word_past : (at end : ℕ) (r : Option ℕ) → Spans (other 32) xs at end → PastIs (after (ltb at end)) xs end r → PastIs word_part xs at r
+  word_past at end r s = past_as word_part (after (ltb at end)) at end (λ rest.
+      word_ends rest (drop at xs)
+      ∙ ap₂ ◌&&◌ size (ap (space then rest) (drop-drop (leading (other 32) (drop at xs)) at xs ∙ ap (λ (n : ℕ). drop n xs) (sym s.is))))
+      r
     where
       size : ltb 0 (leading (other 32) (drop at xs)) ≡ ltb at end
       size =
@@ -93,22 +89,20 @@ module _ (xs : List ℕ) where
       ∙ ap (byte 93 then b) (drop-drop k (at + 1) xs ∙ ap (λ (n : ℕ). drop n xs) ends)))
       (λ e. rw e refl)
 
-  pub date_past : (at end r : ℕ) → Spans (other 93) xs at end → end < length xs → Past (after (eqb (get_or xs at 0) 91)) xs (end + 1) r → Past date_part xs at r
-  date_past at end r s h p = record {
-    is = λ rest e.
-        date_front at end (space then rest) (omega (arith, s.is)) s
-        ∙ ap (λ (t : Bool). eqb (get_or xs at 0) 91 && t) (byte_at 93 (space then rest) end h ∙ rw (eq-eqb (get_or xs end 0) 93 (found 93 at end s h)) refl)
-        ∙ p.is rest e;
-    within = p.within;
-  }
+  pub date_past : (at end : ℕ) (r : Option ℕ) → Spans (other 93) xs at end → end < length xs
+      → PastIs (after (eqb (get_or xs at 0) 91)) xs (end + 1) r → PastIs date_part xs at r
+  date_past at end r s h = past_as date_part (after (eqb (get_or xs at 0) 91)) at (end + 1) (λ rest.
+      date_front at end (space then rest) (omega (arith, s.is)) s
+      ∙ ap (λ (t : Bool). eqb (get_or xs at 0) 91 && t) (byte_at 93 (space then rest) end h ∙ rw (eq-eqb (get_or xs end 0) 93 (found 93 at end s h)) refl))
+      r
 
-  pub date_none : (at end : ℕ) → Spans (other 93) xs at end → end ≡ length xs → Past date_part xs at end
-  date_none at end s h = past_none date_part at end h (λ rest. elim (dec_lt at (length xs)) [
+  pub date_none : (at end : ℕ) → Spans (other 93) xs at end → end ≡ length xs → PastIs date_part xs at None
+  date_none at end s h = λ rest. elim (dec_lt at (length xs)) [
     | yes l ↦
         date_front at end (space then rest) l s
         ∙ ap (λ (t : Bool). eqb (get_or xs at 0) 91 && t) (byte_past 93 (space then rest) end (omega arith)) ∙ and-false (eqb (get_or xs at 0) 91)
     | no l ↦ byte_past 91 (date then byte 93 then space then rest) at (omega arith)
-  ])
+  ]
 
   -- a search for the quote that ends a request has come from index at to index i
   abbrev pub Searched : ℕ → ℕ → Type 0
@@ -129,29 +123,21 @@ module _ (xs : List ℕ) where
   request_front at i rest h g =
       byte_at 34 (quoted (space then rest) false) at h ∙ ap (λ (t : Bool). eqb (get_or xs at 0) 34 && t) (g (space then rest))
 
-  pub request_past : (at i r : ℕ) → Searched (at + 1) i → at < i → i < length xs → get_or xs i 0 ≡ 34
-      → Past (after (eqb (get_or xs at 0) 34)) xs (i + 1) r → Past request_part xs at r
-  request_past at i r g l h e p = record {
-    is = λ rest f.
-        request_front at i rest (omega arith) g
-        ∙ ap (λ (t : Bool). eqb (get_or xs at 0) 34 && t) (rw (add-one, drop-cons xs i 0 h) (request_quote (space then rest) (get_or xs i 0) (drop (suc i) xs) e))
-        ∙ p.is rest f;
-    within = p.within;
-  }
+  pub request_past : (at i : ℕ) (r : Option ℕ) → Searched (at + 1) i → at < i → i < length xs → get_or xs i 0 ≡ 34
+      → PastIs (after (eqb (get_or xs at 0) 34)) xs (i + 1) r → PastIs request_part xs at r
+  request_past at i r g l h e = past_as request_part (after (eqb (get_or xs at 0) 34)) at (i + 1) (λ rest.
+      request_front at i rest (omega arith) g
+      ∙ ap (λ (t : Bool). eqb (get_or xs at 0) 34 && t) (rw (add-one, drop-cons xs i 0 h) (request_quote (space then rest) (get_or xs i 0) (drop (suc i) xs) e)))
+      r
 
-  pub request_missing : (at i : ℕ) → Searched (at + 1) i → length xs ≤ i → Past request_part xs at (length xs)
-  request_missing at i g h = past_none request_part at (length xs) refl (λ rest. elim (dec_lt at (length xs)) [
+  pub request_missing : (at i : ℕ) → Searched (at + 1) i → length xs ≤ i → PastIs request_part xs at None
+  request_missing at i g h = λ rest. elim (dec_lt at (length xs)) [
     | yes l ↦
         request_front at i rest l g
         ∙ ap (λ (t : Bool). eqb (get_or xs at 0) 34 && t) (rw (drop_of_length-le xs {i = i} h) (request_none (space then rest)))
         ∙ and-false (eqb (get_or xs at 0) 34)
     | no l ↦ byte_past 34 (quoted (space then rest) false) at (omega arith)
-  ])
-
--- no part is empty
-pub word_none : (rest : Kind) → word_part rest [] ≡ false
-unfolding ◌then◌ one_or_more
-word_none rest = refl
+  ]
 
 -- a size is a dash alone, or digits
 pub size_dash : (xs : List ℕ) → 0 < length xs → get_or xs 0 0 ≡ 45 → eqb (length xs) 1 ≡ size xs

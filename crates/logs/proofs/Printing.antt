@@ -1,13 +1,13 @@
 -- Laws of the text that is printed: rows laid one after the other, and the sum taken entry by entry.
 -- Assumes nothing.
-use mathlib.Core.Path.{◌≡◌, ap, subst, ◌∙◌}
+use mathlib.Core.Path.{◌≡◌, refl, ap, subst, ◌∙◌}
 use mathlib.Core.List.{List, [], ◌∷◌, ◌++◌, append_assoc, append-nil}
-use Prim.Native.Nat.{ℕ, zero, suc, ◌+◌, ◌-◌, ◌≤◌, ◌<◌}
+use Prim.Native.Nat.{ℕ, zero, suc, ◌+◌, ◌-◌, ◌≤◌}
 use native.Mathlib.Nat.{add-zero}
-use native.Mathlib.Numerals.{add-one}
 use native.Mathlib.Omega.{arith}
-use lib.ListN.{length, get_or, drop, drop_of_length-le}
-use lib.Seq.{drop-cons}
+use lib.ListN.{length, get_or}
+use Rattle.std.specs.List.{sum as total}
+use Rattle.std.proofs.lemmas.List.Recursion.{is_sum_by}
 use Rattle.cells.specs.Decimal.{decimal}
 use Rattle.cells.specs.Text.{codes}
 use Rattle.cells.specs.InnerLaid.{Laid}
@@ -16,14 +16,10 @@ use Rattle.cells.proofs.Laid.{laid_more}
 use Rattle.logs.specs.Counts.{LF, sum}
 use Rattle.logs.specs.Printed.{row, status_row, rows, printed}
 
--- the entries from index i on: that one, and those after it; past the end there are none
-pub sum_from : (ns : List ℕ) (i : ℕ) → i < length ns → sum (drop i ns) ≡ get_or ns i 0 + sum (drop (i + 1) ns)
+-- the sum of std is that of the definition
+pub sum_is : (ns : List ℕ) → sum ns ≡ total ns
 unfolding sum
-sum_from ns i h = rw (add-one, drop-cons ns i 0 h)
-
-pub sum_past : (ns : List ℕ) (i : ℕ) → length ns ≤ i → sum (drop i ns) ≡ 0
-unfolding sum
-sum_past ns i h = rw (drop_of_length-le ns {i = i} h)
+sum_is = is_sum_by sum (λ (n : ℕ). n) refl (λ n ns. refl)
 
 -- four texts side by side
 laid_four : {out one two three left : List ℕ} {at second third fourth end : ℕ} {a b c d : List ℕ} → Laid out one at second a → Laid one two second third b

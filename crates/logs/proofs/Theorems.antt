@@ -16,7 +16,7 @@ use Rattle.logs.specs.Printed.{row, rows, printed}
 use Rattle.logs.specs.Taken.{Holds, TookInAll, joined}
 use Rattle.logs.specs.declared.state.State.{State}
 use Rattle.logs.proofs.Counting.{counts_none, counts_length, counts_at, counts_all, sum_all}
-use Rattle.logs.proofs.Statuses.{only_first}
+use Rattle.logs.proofs.Statuses.{only_first, none_first}
 use Rattle.logs.proofs.OneStatus.{one_status}
 
 -- the counts and unread add up to the lines
@@ -34,8 +34,8 @@ printed_total text = rw (counts_at (lines text) 0 (omega arith), total text) ref
 pub goes_under : (s : ℕ) (l : List ℕ) → 100 ≤ s → s < 600 → line s l ≡ true → under l ≡ s
 unfolding under
 goes_under s l low high is = only_first (λ t. line t l) s record {
+  from = low;
   below = high;
-  none = λ h. absurd (omega (arith, h));
   is = λ t a b.
       tested (line t l) (λ e. e ∙ sym (eq-eqb t s (one_status t s a b low high l e is)))
       (λ e. e ∙ sym (ne_eqb t s (λ same. false≢true (sym e ∙ ap (λ (n : ℕ). line n l) same ∙ is))));
@@ -44,11 +44,7 @@ goes_under s l low high is = only_first (λ t. line t l) s record {
 -- what is no line of any status is unread
 pub unread : (l : List ℕ) → ((s : ℕ) → 100 ≤ s → s < 600 → line s l ≡ false) → under l ≡ 0
 unfolding under
-unread l other = only_first (λ s. line s l) 0 record {
-  below = omega arith;
-  none = λ h. refl;
-  is = λ s a b. other s a b ∙ sym (ne_eqb s 0 (omega arith));
-}
+unread l other = none_first (λ s. line s l) other
 
 -- whatever the parts are, what `finish` answers are the counts of all of them together
 module _ (r : State) where

@@ -1,53 +1,51 @@
 // One line of the Common Log Format: document 02, K5.
 ghost use Rattle.std.specs.Prelude.{◌≡◌, [], ◌∷◌, ◌&&◌, ◌≤◌, ◌<◌, length, drop};
-ghost use Rattle.cells.specs.Spans.{all};
 ghost use Rattle.logs.specs.Line as L;
 ghost use Rattle.logs.specs.Line.{◌then◌, space, status, digit};
-ghost use Rattle.logs.specs.Counts.{under};
-ghost use Rattle.logs.specs.InnerParts.{word_part, date_part, request_part, status_part, Past, Only};
+ghost use Rattle.logs.specs.InnerParts.{word_part, date_part, request_part, status_part, PastIs, OnlyIs, GoesUnder};
 
 use crate::search::find;
 
-// The status that a line goes under, or 0: unread. Where a part is missing the place of the next one is the line's end, where no part stands.
-pub fn status(line: &[u8]) -> usize
-    ensures { (result ≡ under line.now) × (result < 600) }
+// The status that a line goes under; None: unread.
+pub fn status(line: &[u8]) -> Option<usize>
+    ensures { GoesUnder line.now result }
 {
     if line.len() > 8192 {
-        return 0;
+        return None;
     }
-    let ident = past_word(line, 0);
-    let user = past_word(line, ident);
-    let date = past_word(line, user);
-    let request = past_date(line, date);
-    let status = past_request(line, request);
+    let ident = past_word(line, 0)?;
+    let user = past_word(line, ident)?;
+    let date = past_word(line, user)?;
+    let request = past_date(line, date)?;
+    let status = past_request(line, request)?;
     ending(line, status)
 }
 
 // The place after the word that starts at byte at, and a space.
-fn past_word(line: &[u8], at: usize) -> usize
+fn past_word(line: &[u8], at: usize) -> Option<usize>
     requires { at ≤ length line.now }
-    ensures { Past word_part line.now at result }
+    ensures { PastIs word_part line.now at result }
 {
     let end = find(line, at, b' ');
     past_space(line, at < end, end)
 }
 
 // The place after the date in its brackets, and a space.
-fn past_date(line: &[u8], at: usize) -> usize
+fn past_date(line: &[u8], at: usize) -> Option<usize>
     requires { at ≤ length line.now }
-    ensures { Past date_part line.now at result }
+    ensures { PastIs date_part line.now at result }
 {
     let end = find(line, at, b']');
     if end == line.len() {
-        return end;
+        return None;
     }
     past_space(line, line[at] == b'[', end + 1)
 }
 
 // The place after the request in its quotes, and a space.
-fn past_request(line: &[u8], at: usize) -> usize
+fn past_request(line: &[u8], at: usize) -> Option<usize>
     requires { (at ≤ length line.now) × (length line.now ≤ 8192) }
-    ensures { Past request_part line.now at result }
+    ensures { PastIs request_part line.now at result }
 {
     let mut i = at + 1;
     while i < line.len() {
@@ -56,47 +54,47 @@ fn past_request(line: &[u8], at: usize) -> usize
         }
         i += if line[i] == b'\\' { 2 } else { 1 };
     }
-    line.len()
+    None
 }
 
 // The place after a part that ends at byte end, if it is good, and a space.
-fn past_space(line: &[u8], good: bool, end: usize) -> usize
+fn past_space(line: &[u8], good: bool, end: usize) -> Option<usize>
     requires { end ≤ length line.now }
-    ensures { Past (λ rest xs. good && (space then rest) xs) line.now end result }
+    ensures { PastIs (λ rest xs. good && (space then rest) xs) line.now end result }
 {
     if end == line.len() {
-        return end;
+        return None;
     }
     if good & (line[end] == b' ') {
-        end + 1
+        Some(end + 1)
     } else {
-        line.len()
+        None
     }
 }
 
-// The status at byte at, or 0 where no status, space and size are the rest of the line.
-fn ending(line: &[u8], at: usize) -> usize
+// The status at byte at, where a status, a space and a size are the rest of the line.
+fn ending(line: &[u8], at: usize) -> Option<usize>
     requires { at ≤ length line.now }
-    ensures { Only (λ s. status_part s (drop at line.now)) result }
+    ensures { OnlyIs (λ s. status_part s (drop at line.now)) result }
 {
     if line.len() - at < 5 {
-        return 0;
+        return None;
     }
     if (line[at + 3] == b' ') & size(&line[at + 4..]) {
         three(line[at], line[at + 1], line[at + 2])
     } else {
-        0
+        None
     }
 }
 
-// The status that three bytes are the digits of, or 0.
-fn three(a: u8, b: u8, c: u8) -> usize
-    ensures { Only (λ s. status s (a ∷ b ∷ c ∷ [])) result }
+// The status that three bytes are the digits of.
+fn three(a: u8, b: u8, c: u8) -> Option<usize>
+    ensures { OnlyIs (λ s. status s (a ∷ b ∷ c ∷ [])) result }
 {
-    if (49 <= a) & (a <= 53) & is_digit(b) & is_digit(c) {
-        100 * (a as usize) + 10 * (b as usize) + (c as usize) - 5328
+    if (b'1' <= a) & (a <= b'5') & is_digit(b) & is_digit(c) {
+        Some(100 * (a as usize) + 10 * (b as usize) + (c as usize) - 5328)
     } else {
-        0
+        None
     }
 }
 
@@ -108,24 +106,11 @@ fn size(text: &[u8]) -> bool
     if text[0] == b'-' {
         return text.len() == 1;
     }
-    are_digits(text)
-}
-
-fn are_digits(text: &[u8]) -> bool
-    ensures { result ≡ all digit text.now }
-{
-    let mut i: usize = 0;
-    while i < text.len() {
-        if !is_digit(text[i]) {
-            return false;
-        }
-        i += 1;
-    }
-    true
+    cells::all(text, is_digit)
 }
 
 fn is_digit(b: u8) -> bool
     ensures { result ≡ digit b }
 {
-    (48 <= b) & (b <= 57)
+    (b'0' <= b) & (b <= b'9')
 }

@@ -24,93 +24,68 @@ impl State {
         ensures { (sum result.counts ≡ 0) × Holds result [] }
     {
         State {
-            counts: [0u64; 600],
-            begun: [0u8; 8192],
+            counts: [0; 600],
+            begun: [0; 8192],
             size: 0,
         }
     }
 
-    // The state that has taken in part too.
-    pub fn take_in(self, part: &[u8]) -> State
-        requires { sum self.counts + length part.now < 2 ^ 64 }
-        ensures { TookIn self part.now result }
+    // Takes in part too.
+    pub fn take_in(&mut self, part: &[u8])
+        requires { sum self.old.counts + length part.now < 2 ^ 64 }
+        ensures { TookIn self.old part.now self.new }
     {
         let end = find(part, 0, b'\n');
-        let s = self.keep(&part[..end]);
-        if end == part.len() {
-            return s;
+        self.keep(&part[..end]);
+        if end < part.len() {
+            self.end_line();
+            self.whole(&part[end + 1..]);
         }
-        let t = s.end_line();
-        t.whole(&part[end + 1..])
     }
 
     // The counts of all that was taken in.
-    pub fn finish(self) -> [u64; 600]
+    pub fn finish(mut self) -> [u64; 600]
         requires { sum self.counts + 1 < 2 ^ 64 }
         ensures { ((text : List ℕ) → Holds self text → result ≡ counts (lines text)) × (sum result < 2 ^ 64) }
     {
-        if self.size == 0 {
-            return self.counts;
+        if self.size > 0 {
+            self.end_line();
         }
-        let s = self.end_line();
-        s.counts
+        self.counts
     }
 
     // No line ends in part.
-    fn keep(self, part: &[u8]) -> State
+    fn keep(&mut self, part: &[u8])
         requires { all (other LF) part.now ≡ true }
-        ensures { TookIn self part.now result }
+        ensures { TookIn self.old part.now self.new }
     {
-        let counts = self.counts;
-        let mut begun = self.begun;
-        let mut size = self.size;
-        if size <= 8192 && part.len() <= 8192 - size {
-            size = cells::put_at(&mut begun, size, part);
+        if self.size <= 8192 && part.len() <= 8192 - self.size {
+            self.size = cells::put_at(&mut self.begun, self.size, part);
         } else {
-            size = 8193;
-        }
-        State {
-            counts,
-            begun,
-            size,
+            self.size = 8193;
         }
     }
 
     // A line feed comes: the line that is begun ends.
-    fn end_line(self) -> State
-        requires { sum self.counts + 1 < 2 ^ 64 }
-        ensures { TookIn self (LF ∷ []) result × (result.size ≡ 0) }
+    fn end_line(&mut self)
+        requires { sum self.old.counts + 1 < 2 ^ 64 }
+        ensures { TookIn self.old (LF ∷ []) self.new × (self.new.size ≡ 0) }
     {
-        let mut counts = self.counts;
-        let begun = self.begun;
-        let size = self.size;
-        if size <= 8192 {
-            count(&mut counts, &begun[..size]);
+        if self.size <= 8192 {
+            count(&mut self.counts, &self.begun[..self.size]);
         } else {
-            counts[0] = counts[0] + 1;
+            self.counts[0] += 1;
         }
-        State {
-            counts,
-            begun,
-            size: 0,
-        }
+        self.size = 0;
     }
 
     // No line is begun: part's lines are counted where they lie.
-    fn whole(self, part: &[u8]) -> State
-        requires { (self.size ≡ 0) × (sum self.counts + length part.now < 2 ^ 64) }
-        ensures { TookIn self part.now result }
+    fn whole(&mut self, part: &[u8])
+        requires { (self.old.size ≡ 0) × (sum self.old.counts + length part.now < 2 ^ 64) }
+        ensures { TookIn self.old part.now self.new }
     {
-        let mut counts = self.counts;
-        let begun = self.begun;
-        let size = self.size;
-        let at = count_lines(&mut counts, part);
-        let s = State {
-            counts,
-            begun,
-            size,
-        };
-        s.keep(&part[at..])
+        let at = count_lines(&mut self.counts, part);
+        self.keep(&part[at..]);
     }
 }
 
@@ -119,7 +94,7 @@ fn count_lines(counts: &mut [u64; 600], part: &[u8]) -> usize
     requires { sum counts.old + length part.now < 2 ^ 64 }
     ensures { LinesCounted counts.old part.now counts.new result }
 {
-    let mut at: usize = 0;
+    let mut at = 0;
     let mut end = find(part, 0, b'\n');
     while end < part.len() {
         count(counts, &part[at..end]);
@@ -134,6 +109,5 @@ fn count(counts: &mut [u64; 600], line: &[u8])
     requires { sum counts.old + 1 < 2 ^ 64 }
     ensures { counts.new ≡ counted counts.old line.now }
 {
-    let s = status(line);
-    counts[s] = counts[s] + 1;
+    counts[status(line).unwrap_or(0)] += 1;
 }

@@ -1,5 +1,5 @@
 // The text that is printed of the counts.
-ghost use Rattle.std.specs.Prelude.{◌≡◌, ◌+◌, ◌^◌, ◌≤◌, ◌<◌, length};
+ghost use Rattle.std.specs.Prelude.{◌≡◌, ◌+◌, ◌^◌, ◌≤◌, ◌<◌, length, sum};
 ghost use Rattle.cells.specs.InnerLaid.{Laid};
 ghost use Rattle.logs.specs.Counts as C;
 ghost use Rattle.logs.specs.Printed as P;
@@ -16,13 +16,11 @@ pub fn print(counts: &[u64; 600], out: &mut [u8; TEXT_SIZE]) -> usize
     ensures { (result ≤ length out.new) × Laid out.old out.new 0 result (printed counts.now) }
 {
     let mut at = cells::put_at(out, 0, b"status lines\n");
-    let mut s: usize = 100;
-    while s < 600 {
+    for s in 100..600 {
         at = status_row(out, at, s, counts[s]);
-        s += 1;
     }
     let after_unread = row(out, at, b"unread", counts[0]);
-    row(out, after_unread, b"total", sum(counts))
+    row(out, after_unread, b"total", total(counts))
 }
 
 // The row of a status from byte at of out on, if lines go under it, and the place after it.
@@ -33,10 +31,7 @@ fn status_row(out: &mut [u8], at: usize, s: usize, n: u64) -> usize
     if n == 0 {
         return at;
     }
-    let shown = decimal::digits(s as u64);
-    let all = shown.all;
-    let start = shown.start;
-    row(out, at, &all[start..], n)
+    row(out, at, decimal::digits(s as u64).as_slice(), n)
 }
 
 // A row from byte at of out on, and the place after it.
@@ -44,24 +39,15 @@ fn row(out: &mut [u8], at: usize, name: &[u8], n: u64) -> usize
     requires { at + length name.now + 22 ≤ length out.old }
     ensures { (result ≤ at + length name.now + 22) × Laid out.old out.new at result (P.row name.now n) }
 {
-    let shown = decimal::digits(n);
-    let all = shown.all;
-    let start = shown.start;
     let after_name = cells::put_at(out, at, name);
     let number = cells::put_at(out, after_name, b" ");
-    let end = cells::put_at(out, number, &all[start..]);
+    let end = cells::put_at(out, number, decimal::digits(n).as_slice());
     cells::put_at(out, end, b"\n")
 }
 
-fn sum(counts: &[u64]) -> u64
-    requires { C.sum counts.now < 2 ^ 64 }
-    ensures { result ≡ C.sum counts.now }
+fn total(counts: &[u64]) -> u64
+    requires { sum counts.now < 2 ^ 64 }
+    ensures { result ≡ sum counts.now }
 {
-    let mut sum: u64 = 0;
-    let mut i: usize = 0;
-    while i < counts.len() {
-        sum = sum + counts[i];
-        i += 1;
-    }
-    sum
+    counts.iter().sum()
 }
