@@ -15,7 +15,7 @@ use borrow.Author.Tests.{eqb-true, ne_eqb, leb-true, leb-false, le-leb, lt-leb}
 use Rattle.cells.specs.Runs.{fronted}
 use Rattle.cells.specs.Numbers
 use Rattle.cells.proofs.Runs.{length_fronted, fronted_whole}
-use Rattle.std.specs.Prelude.{Some, None, Result, Ok, Err, unwrap_or}
+use Rattle.std.specs.Prelude.{Option, Some, None, MatchOption, Result, Ok, Err, unwrap_or}
 use Rattle.std.specs.Result.{result_unwrap_or}
 use Rattle.base_64.specs.declared.Undecoded.{Undecoded}
 use Rattle.base_64.specs.declared.Undecoded.TheVariants.{Bad, TooLong}
@@ -33,7 +33,7 @@ measured_by : (rule : Rule) (d : Decoding) → size_of d ≡ None → decoded_ob
 measured_by rule nothing e = refl
 measured_by rule (bytes bs) e = absurd (let z : ◌≡◌ {A = ℕ} 0 1 = cc in omega arith)
 
-pub measured_bad : (rule : Rule) (text : List ℕ) → measured text ≡ None → text_obeys rule text ≡ false
+measured_bad : (rule : Rule) (text : List ℕ) → measured text ≡ None → text_obeys rule text ≡ false
 unfolding measured text_obeys
 measured_bad rule text e = measured_by rule (decoded text) e
 
@@ -42,10 +42,17 @@ size_by : (rule : Rule) (f : ℕ → Bool) → ((bs : List ℕ) → obeys rule b
 size_by rule f h nothing n e = absurd (let z : ◌≡◌ {A = ℕ} 0 1 = cc in omega arith)
 size_by rule f h (bytes bs) n e = let size : length bs ≡ n = cc in rw (h bs, size)
 
-pub measured_size : (rule : Rule) (f : ℕ → Bool) → ((bs : List ℕ) → obeys rule bs ≡ f (length bs)) → (text : List ℕ) (n : ℕ)
+measured_size : (rule : Rule) (f : ℕ → Bool) → ((bs : List ℕ) → obeys rule bs ≡ f (length bs)) → (text : List ℕ) (n : ℕ)
     → measured text ≡ Some n → text_obeys rule text ≡ (leb 1 n && f n)
 unfolding measured text_obeys
 measured_size rule f h text n e = size_by rule f h (decoded text) n e
+
+-- a test of the size, which rules that a text that encodes nothing fails
+pub measured_test : (rule : Rule) (f g : ℕ → Bool) → ((bs : List ℕ) → obeys rule bs ≡ f (length bs)) → ((n : ℕ) → (leb 1 n && f n) ≡ g n)
+    → (P : ℕ → Type 0) (text : List ℕ) (o : Option ℕ) (r : Bool) → o ≡ measured text → MatchOption o (r ≡ false) P → ((n : ℕ) → P n → r ≡ g n)
+    → r ≡ text_obeys rule text
+measured_test rule f g h k P text None r e m is = m ∙ sym (measured_bad rule text (sym e))
+measured_test rule f g h k P text (Some n) r e m is = is n m ∙ sym (measured_size rule f h text n (sym e) ∙ k n)
 
 -- a text that was decoded into a buffer
 pub record Filled (text out left : List ℕ) (n : ℕ) : Type 0 where

@@ -78,10 +78,7 @@ fn is_sized(text: &[u8], low: usize, high: usize) -> bool
     requires { 1 ≤ low }
     ensures { result ≡ text_obeys (sized low high) text.now }
 {
-    let Some(n) = base_64::measure(text) else {
-        return false;
-    };
-    (low <= n) & (n <= high)
+    base_64::measure(text).is_some_and(|n| (low <= n) & (n <= high))
 }
 
 // Whether a text encodes one of two numbers of bytes.
@@ -89,20 +86,14 @@ fn is_either(text: &[u8], short: usize, long: usize) -> bool
     requires { (1 ≤ short) × (1 ≤ long) }
     ensures { result ≡ text_obeys (either short long) text.now }
 {
-    let Some(n) = base_64::measure(text) else {
-        return false;
-    };
-    (n == short) | (n == long)
+    base_64::measure(text).is_some_and(|n| (n == short) | (n == long))
 }
 
 // Whether a text encodes any bytes.
 fn is_some(text: &[u8]) -> bool
     ensures { result ≡ text_obeys free text.now }
 {
-    let Some(n) = base_64::measure(text) else {
-        return false;
-    };
-    1 <= n
+    base_64::measure(text).is_some_and(|n| 1 <= n)
 }
 
 // Whether a text encodes a number.

@@ -82,6 +82,7 @@ fn piece_end(value: &[u8], at: usize) -> usize
 }
 
 // What the fields of a value are, if it keeps its grammar.
+// Kept: a walk by places, and not over the parts that split gives, which don't say where they stand: a text's place goes into its Span.
 pub fn scan_value(value: &[u8]) -> Option<Seen<'_>>
     ensures { Scanned value.now result }
 {
