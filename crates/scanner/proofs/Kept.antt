@@ -1,58 +1,48 @@
 -- What the code reads of a state is the session that it tells of.
 -- Assumes nothing.
-use mathlib.Core.Path.{◌≡◌, refl, ap, ◌∙◌}
-use mathlib.Core.Bool.{true}
+use mathlib.Core.Path.{◌≡◌, refl, ◌∙◌}
+use mathlib.Core.Bool.{Bool, ◌&&◌}
 use mathlib.Core.List.{List}
 use Prim.Native.Nat.{ℕ, ◌+◌, ◌-◌, ◌≤◌}
 use native.Mathlib.Omega.{arith}
-use lib.ListN.{length}
+use lib.ListN.{length, get_or}
 use Rattle.cells.specs.Runs.{part, cut}
+use Rattle.cells.specs.Numbers.{number}
 use Rattle.cells.proofs.Cuts.{length_cut}
-use Rattle.names.specs.Extra.{good_extra}
-use Rattle.scanner.specs.declared.state.Held.{Held}
-use Rattle.scanner.specs.State.{state_size, Session, session_in}
-use Rattle.scanner.specs.InnerSteps.{Holds, session_of, Ready}
-use Rattle.scanner.proofs.States.{tells, extra_good}
+use borrow.Author.Tests.{eq-eqb, le-leb}
+use Rattle.cells.specs.Runs.{same}
+use Rattle.hashes.specs.declared.Hash.{Hash}
+use Rattle.hashes.specs.Hashes.{named}
+use Rattle.scanner.specs.State.{state_size, Session, state_of, session_in, good_session, in_session}
+use Rattle.scanner.specs.InnerSteps.{session_of}
 
 -- a part by its start and its end
 pub long_cut : (xs : List ℕ) (a n : ℕ) → a + n ≤ length xs → length (cut xs a (a + n)) ≡ n
 long_cut xs a n h = let e : a + n - a ≡ n = omega arith in length_cut xs a (a + n) h ∙ e
 
 -- the session that a state's numbers and parts make up
-pub session_read : (state : List ℕ) (r : Held) → Holds state r
-    → session_of r.last.0 r.next r.mask r.hash (part state 23 12) (part state 35 16) (part state 51 32) (cut state 83 (83 + r.s_len))
-    (cut state (83 + r.s_len) (83 + r.s_len + r.eah_len))
+pub session_read : (state : List ℕ) → let s_len = get_or state 21 0 in let extra_len = get_or state 22 0 in
+    session_of (number (part state 0 4)) (number (part state 4 8)) (number (part state 12 8)) (named (get_or state 20 0)) (part state 23 12) (part state 35 16)
+    (part state 51 32) (cut state 83 (83 + s_len)) (cut state (83 + s_len) (83 + s_len + extra_len))
     ≡ session_in state
 unfolding session_in
-session_read state r h =
-    let s : 83 + r.s_len - 83 ≡ r.s_len = omega arith in
-    let extra : 83 + r.s_len + r.eah_len - (83 + r.s_len) ≡ r.eah_len = omega arith in
-    rw (s, extra, h.last_time, h.next, h.mask, h.hash, h.s_size, h.extra_size) refl
+session_read state =
+    let s_len = get_or state 21 0 in
+    let extra_len = get_or state 22 0 in
+    let s : 83 + s_len - 83 ≡ s_len = omega arith in
+    let extra : 83 + s_len + extra_len - (83 + s_len) ≡ extra_len = omega arith in
+    rw (s, extra) refl
 
--- a state is long enough for its parts
-pub record Room (state : List ℕ) (r : Held) : Type 0 where
-  pub long : length state ≡ state_size
-  pub s_fits : r.s_len ≤ 118
-  pub extra_fits : r.eah_len ≤ 128
+pub session_made : (state : List ℕ) {time next mask n : ℕ} {hash : Hash} {iv tag key : List ℕ} → time ≡ number (part state 0 4) → next ≡ number (part state 4 8)
+    → mask ≡ number (part state 12 8) → hash ≡ named n → n ≡ get_or state 20 0 → iv ≡ part state 23 12 → tag ≡ part state 35 16 → key ≡ part state 51 32
+    → session_of time next mask hash iv tag key (cut state 83 (83 + get_or state 21 0))
+    (cut state (83 + get_or state 21 0) (83 + get_or state 21 0 + get_or state 22 0))
+    ≡ session_in state
+session_made state time next mask hash n iv tag key = rw (time, next, mask, hash, n, iv, tag, key) (session_read state)
 
--- a state that tells of a session, with a nonce left
-module _ (state : List ℕ) (r : Held) (ready : Ready state r) where
-  pub room : Room state r
-  room =
-      let t = tells state ready.is_in_session in
-      record {
-        long = t.long;
-        s_fits = omega (arith, ready.holds.s_size, t.s_fits);
-        extra_fits = omega (arith, ready.holds.extra_size, t.extra_fits);
-      }
-
-  pub s_long : length (cut state 83 (83 + r.s_len)) ≡ r.s_len
-  s_long = long_cut state 83 r.s_len (omega (arith, room))
-
-  pub extra_long : length (cut state (83 + r.s_len) (83 + r.s_len + r.eah_len)) ≡ r.eah_len
-  extra_long = long_cut state (83 + r.s_len) r.eah_len (omega (arith, room))
-
-  pub names_good : good_extra (cut state (83 + r.s_len) (83 + r.s_len + r.eah_len)) ≡ true
-  names_good =
-      ap (λ (k : Session). good_extra k.grant.extra) (session_read state r ready.holds)
-      ∙ extra_good (session_in state) (tells state ready.is_in_session).good
+-- whether a state tells of a session, by what is found of what it tells
+pub told_in : (state : List ℕ) (k : Session) → k ≡ session_in state → length state ≡ state_size → get_or state 21 0 ≤ 118 → get_or state 22 0 ≤ 128
+    → {good written : Bool} → good ≡ good_session k → written ≡ same state (state_of k) → in_session state ≡ (good && written)
+unfolding in_session
+told_in state k e long s extra good written =
+    rw (eq-eqb (length state) state_size long, le-leb (get_or state 21 0) 118 s, le-leb (get_or state 22 0) 128 extra, good, written, e) refl

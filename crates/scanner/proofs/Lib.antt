@@ -4,4 +4,5 @@ pub mod Kept
 pub mod Values
 pub mod Drafts
 pub mod Calls
+pub mod Steps
 pub mod Theorems

@@ -1,80 +1,79 @@
 -- What the code's own steps read, make and write.
 -- Assumes nothing.
-use Rattle.std.specs.Prelude.{ℕ, ◌≤◌, ◌≡◌, Bool, true, ◌&&◌, List, length, get_or, take}
-use Rattle.cells.specs.Runs.{part, same}
-use Rattle.cells.specs.Numbers.{number}
+use Rattle.std.specs.Prelude.{ℕ, ◌+◌, ◌≡◌, Bool, true, false, List, [], ◌∷◌, ◌++◌, length, take, cond, Option, None, Some}
 use Rattle.cells.specs.InnerLaid.{Laid}
+use Rattle.cells.specs.Text.{codes}
+use Rattle.cells.specs.Run.{run_of}
 use Rattle.hashes.specs.declared.Hash.{Hash}
 use Rattle.hashes.specs.Hashes.{digest_size, named}
 use Rattle.armor.specs.declared.Reply.{Reply}
-use Rattle.armor.specs.declared.ReplyRead.{ReplyRead}
-use Rattle.armor.specs.Value.{carried}
+use Rattle.armor.specs.Numerals.{number_bytes}
+use Rattle.armor.specs.Value.{carried, field, field_text, following}
 use Rattle.armor.specs.InnerAnswers.{HoldsReply}
+use Rattle.signed.specs.declared.brought.Brought.{Brought}
 use Rattle.reply.specs.LaidOut.{is_reply}
 use Rattle.window.specs.declared.time.Time.{Time}
-use Rattle.scanner.specs.declared.state.Held.{Held}
-use Rattle.scanner.specs.declared.state.Kept.{Kept}
-use Rattle.scanner.specs.declared.signing.Made.{Made}
-use Rattle.scanner.specs.Requests.{Grant, Message, client_code, client_value}
-use Rattle.scanner.specs.State.{Session, state_of, session_in, good_session, in_session}
-use Rattle.scanner.specs.Sign.{Draft, draft_of, draft_fits, draft_good, message_in}
+use Rattle.scanner.specs.declared.session.Session as Declared
+use Rattle.scanner.specs.Requests.{Message, client_code, client_value}
+use Rattle.scanner.specs.State.{Session, session_in, in_session}
+use Rattle.scanner.specs.Sign.{Draft, draft_of, draft_fits, draft_good, message_in, advanced}
 
 -- a reply, and what it brings if a setup writes such a one
-pub record Brings (text : List ℕ) (r : ReplyRead) : Type 0 where
-  pub is : r.good ≡ is_reply text
-  pub holds : r.good ≡ true → HoldsReply (carried text) r.reply
-
--- the numbers of a state, among them the lengths of s and eah
-pub record Holds (state : List ℕ) (r : Held) : Type 0 where
-  pub s_size : r.s_len ≡ get_or state 21 0
-  pub extra_size : r.eah_len ≡ get_or state 22 0
-  pub hash : r.hash ≡ named (get_or state 20 0)
-  pub mask : r.mask ≡ number (part state 12 8)
-  pub last_time : r.last.0 ≡ number (part state 0 4)
-  pub next : r.next ≡ number (part state 4 8)
-
--- whether a state tells of a session, and its numbers then
-pub record Reads (state : List ℕ) (r : Kept) : Type 0 where
-  pub is : r.good ≡ in_session state
-  pub holds : r.good ≡ true → Holds state r.held
-
--- a state whose lengths are such that it has room for them
-pub record Readable (state : List ℕ) (r : Held) : Type 0 where
-  pub long : length state ≡ 329
-  pub s_fits : r.s_len ≤ 118
-  pub extra_fits : r.eah_len ≤ 128
-  pub holds : Holds state r
-
-abbrev pub good_state : List ℕ → Bool
-good_state state = good_session (session_in state) && same state (state_of (session_in state))
+abbrev pub Brings : List ℕ → Option Reply → Type 0
+Brings text (Some r) = (is_reply text ≡ true) × HoldsReply (carried text) r
+Brings text None = is_reply text ≡ false
 
 -- from its parts
 abbrev pub session_of : ℕ → ℕ → ℕ → Hash → List ℕ → List ℕ → List ℕ → List ℕ → List ℕ → Session
 session_of last_time next mask hash iv tag key s extra =
     record { grant = record { s = s; iv = iv; tag = tag; key = key; hash = hash; mask = mask; extra = extra }; last_time = last_time; next = next }
 
--- a state as a reply leaves it, at a time
-abbrev pub Begins : Time → Reply → List ℕ → Type 0
-Begins time reply state =
-    state
-    ≡ state_of (session_of time.0 0 reply.ah (named reply.h) reply.iv reply.tag reply.key (take reply.s_len reply.s) (take reply.eah_len reply.eah))
+-- as the code holds it
+abbrev pub session_at : Declared.Session → Session
+session_at k = session_of k.last.0 k.next k.mask k.hash k.iv.now k.tag.now k.key.now k.s.now k.extra.now
 
--- a state that tells of a session, with a nonce left
-pub record Ready (state : List ℕ) (r : Held) : Type 0 where
-  pub is_in_session : in_session state ≡ true
-  pub holds : Holds state r
-  pub left : r.next ≤ 4294967295
+-- the session that a state tells of, if it tells of one
+abbrev pub ReadsSession : List ℕ → Option Declared.Session → Type 0
+ReadsSession state (Some r) = (in_session state ≡ true) × (session_at r ≡ session_in state)
+ReadsSession state None = in_session state ≡ false
 
--- whether a request may be signed, and its code then
-pub record Signs (d : Draft) (k : Session) (r : Made) : Type 0 where
-  pub is : r.good ≡ draft_good d k.grant
-  pub code : r.good ≡ true → take (digest_size k.grant.hash) r.code ≡ client_code k.grant (message_in k d)
+-- a session as a reply begins it, at a time
+abbrev pub BeginsWith : Time → Reply → Declared.Session → Type 0
+BeginsWith time reply r =
+    session_at r ≡ session_of time.0 0 reply.ah (named reply.h) reply.iv reply.tag reply.key (run_of reply.s) (run_of reply.eah)
 
--- the value of a message with these times and this nonce, whose code this is, stands at the front
-abbrev pub PutsValue : Grant → ℕ → ℕ → ℕ → List ℕ → List ℕ → List ℕ → ℕ → Type 0
-PutsValue g nonce time last_time code before after r =
-    (m : Message) → m.nonce ≡ nonce → m.time ≡ time → m.last_time ≡ last_time → client_code g m ≡ code → Laid before after 0 r (client_value g m)
+-- a session with another last time and next nonce
+abbrev pub advanced_to : Session → ℕ → ℕ → Session
+advanced_to k last next = record { grant = k.grant; last_time = last; next = next }
+
+-- those after a request
+abbrev pub AfterIs : Session → ℕ → Time × ℕ → Type 0
+AfterIs k clock r = advanced_to k r.0.0 r.1 ≡ advanced k clock
+
+-- what a request brings, at a time
+abbrev pub draft_in : ℕ → Brought → Draft
+draft_in clock b = draft_of clock b.method.now b.lines.head.now b.path.now b.body.now
 
 -- sizes, whatever the clock
-abbrev pub FitsIs : List ℕ → List ℕ → List ℕ → List ℕ → List ℕ → Bool → Type 0
-FitsIs method head path body out r = (clock : ℕ) → r ≡ draft_fits (draft_of clock method head path body) out
+abbrev pub BringsFitting : List ℕ → List ℕ → List ℕ → List ℕ → List ℕ → Option Brought → Type 0
+BringsFitting method head path body out (Some r) =
+    (clock : ℕ) → (draft_fits (draft_of clock method head path body) out ≡ true) × (draft_in clock r ≡ draft_of clock method head path body) × (r.lines.aside.now ≡ [])
+BringsFitting method head path body out None = (clock : ℕ) → draft_fits (draft_of clock method head path body) out ≡ false
+
+-- whether a request may be signed, and its code then
+abbrev pub Signs : Draft → Session → Option (List ℕ) → Type 0
+Signs d k (Some code) = (draft_good d k.grant ≡ true) × (take (digest_size k.grant.hash) code ≡ client_code k.grant (message_in k d))
+Signs d k None = draft_good d k.grant ≡ false
+
+-- s, and the fields up to tag
+abbrev pub main_text : Session → List ℕ → ℕ → List ℕ
+main_text k c time =
+    field_text (field (codes "s") k.grant.s)
+    ++ following (field (codes "c") c ∷ field (codes "t") (number_bytes time) ∷ field (codes "lt") (number_bytes k.last_time)
+    ∷ field (codes "iv") k.grant.iv ∷ field (codes "tag") k.grant.tag ∷ [])
+
+-- the value of a message at this time, whose code this is, stands at the front
+abbrev pub PutsValue : Session → ℕ → List ℕ → List ℕ → List ℕ → ℕ → Type 0
+PutsValue k time code before after r =
+    (m : Message) → m.nonce ≡ k.next → m.time ≡ time → m.last_time ≡ k.last_time → client_code k.grant m ≡ take (digest_size k.grant.hash) code
+    → Laid before after 0 r (client_value k.grant m)

@@ -1,187 +1,142 @@
-// What is kept of a session: the last time from byte 0 of a state on, the next nonce from 4, ah's mask from 12, h's mask at 20, the lengths of
-// s and eah at 21 and 22, iv from 23, tag from 35, the key from 51, and from 83 s, eah and zeros.
-ghost use Rattle.std.specs.Prelude.{◌≡◌, ◌≤◌, length};
-ghost use Rattle.scanner.specs.State.{no_session, state_of, session_in, most_next};
-ghost use Rattle.scanner.specs.Sign.{advanced};
-ghost use Rattle.scanner.specs.InnerSteps.{Holds, Reads, Readable, good_state, session_of, Begins, Ready};
+// A session as the bytes that a host lends for it.
+ghost use Rattle.std.specs.Prelude.{◌≡◌, true, ◌≤◌, length};
+ghost use Rattle.cells.specs.Runs as R;
+ghost use Rattle.hashes.specs.Hashes.{named};
+ghost use Rattle.scanner.specs.State.{no_session, state_of, session_in, most_next, good_session, in_session};
+ghost use Rattle.scanner.specs.InnerSteps.{ReadsSession, session_at, advanced_to, BeginsWith, AfterIs};
 
 use super::reading;
+use super::session::Session;
 use armor::Reply;
 use hashes::Hash;
 use window::time::Time;
 
 pub const SIZE: usize = 329;
 
-// The numbers of a state.
-#[derive(Clone, Copy)]
-pub struct Held {
-    pub s_len: usize,
-    pub eah_len: usize,
-    pub hash: Hash,
-    pub mask: u64,
-    pub last: Time,
-    pub next: u64,
-}
+// Where the parts of a session begin; the last time begins at byte 0, the extra names stand after s, and zeros after them.
+const NEXT: usize = 4;
 
-#[derive(Clone, Copy)]
-pub struct Kept {
-    pub good: bool,
-    pub held: Held,
-}
+const MASK: usize = 12;
 
-// The numbers of a state, if it tells of a session.
-pub fn read(state: &[u8]) -> Kept
-    ensures { Reads state.now result }
-{
-    if state.len() != SIZE {
-        return Kept {
-            good: false,
-            held: nothing(),
+const HASH: usize = 20;
+
+const S_SIZE: usize = 21;
+
+const EXTRA_SIZE: usize = 22;
+
+const IV: usize = 23;
+
+const TAG: usize = 35;
+
+const KEY: usize = 51;
+
+const S: usize = 83;
+
+impl<'a> Session<'a> {
+    // The session that a state tells of: what would be written of it is that state.
+    pub fn read(state: &'a [u8]) -> Option<Session<'a>>
+        ensures { ReadsSession state.now result }
+    {
+        if state.len() != SIZE || 118 < state[S_SIZE] || 128 < state[EXTRA_SIZE] {
+            return None;
+        }
+        let s_end = S + state[S_SIZE] as usize;
+        let end = s_end + state[EXTRA_SIZE] as usize;
+        let session = Session {
+            last: Time(cells::load32(state, 0)),
+            next: cells::load64(state, NEXT),
+            mask: cells::load64(state, MASK),
+            hash: Hash::named(u64::from(state[HASH])),
+            iv: &state[IV..TAG],
+            tag: &state[TAG..KEY],
+            key: state[KEY..S].first_chunk().unwrap(),
+            s: &state[S..s_end],
+            extra: &state[s_end..end],
         };
+        if !(session.is_good() & session.stands_in(state)) {
+            return None;
+        }
+        Some(session)
     }
-    let held = numbers(state);
-    if !((held.s_len <= 118) & (held.eah_len <= 128)) {
-        return Kept { good: false, held };
-    }
-    Kept {
-        good: is_good(state, held),
-        held,
-    }
-}
 
-fn nothing() -> Held {
-    Held {
-        s_len: 0,
-        eah_len: 0,
-        hash: Hash::Sha256,
-        mask: 0,
-        last: Time(0),
-        next: 0,
+    // The session that a setup's reply begins at a time: its first nonce is 0.
+    pub fn begun(time: Time, reply: &'a Reply) -> Session<'a>
+        ensures { BeginsWith time reply.now result }
+    {
+        Session {
+            last: time,
+            next: 0,
+            mask: reply.ah,
+            hash: Hash::named(reply.h),
+            iv: &reply.iv,
+            tag: &reply.tag,
+            key: &reply.key,
+            s: reply.s.as_slice(),
+            extra: reply.eah.as_slice(),
+        }
     }
-}
 
-fn numbers(state: &[u8]) -> Held
-    requires { length state.now ≡ 329 }
-    ensures { Holds state.now result }
-{
-    Held {
-        s_len: wide(state[21]) as usize,
-        eah_len: wide(state[22]) as usize,
-        hash: Hash::named(wide(state[20])),
-        mask: cells::load64(state, 12),
-        last: Time(cells::load32(state, 0)),
-        next: cells::load64(state, 4),
+    fn is_good(&self) -> bool
+        ensures { result ≡ good_session (session_at self.now) }
+    {
+        (1 <= self.s.len())
+            & (reading::are_good(self.mask, self.hash.mask(), self.extra)
+                & (self.next <= most_next(self.mask)))
     }
-}
 
-fn wide(b: u8) -> u64
-    ensures { result ≡ b }
-{
-    b as u64
-}
+    // Whether a state is what would be written of the session.
+    fn stands_in(&self, state: &[u8]) -> bool
+        ensures { result ≡ R.same state.now (state_of (session_at self.now)) }
+    {
+        let mut anew = [0; SIZE];
+        self.write(&mut anew);
+        cells::same(state, &anew)
+    }
 
-// Whether they are those of a session, and the state is what would be written of it.
-fn is_good(state: &[u8], held: Held) -> bool
-    requires { Readable state.now held }
-    ensures { result ≡ good_state state.now }
-{
-    let s_end = 83 + held.s_len;
-    let end = s_end + held.eah_len;
-    let mask = held.mask;
-    let hash = held.hash;
-    let last = held.last;
-    let next = held.next;
-    let mut anew = [0u8; SIZE];
-    write(
-        &mut anew,
-        last,
-        next,
-        mask,
-        hash,
-        &state[23..35],
-        &state[35..51],
-        &state[51..83],
-        &state[83..s_end],
-        &state[s_end..end],
-    );
-    ((1 <= held.s_len)
-        & (reading::are_good(mask, hash.mask(), &state[s_end..end])
-            & (next <= most_next(mask))))
-        & cells::same(state, &anew)
+    // Its state, over zeros.
+    pub fn write(&self, out: &mut [u8])
+        requires { out.old ≡ no_session }
+        ensures { out.new ≡ state_of (session_at self.now) }
+    {
+        cells::put32(out, 0, self.last.0);
+        cells::put64(out, NEXT, self.next);
+        cells::put64(out, MASK, self.mask);
+        let sizes = [
+            self.hash.mask() as u8,
+            self.s.len() as u8,
+            self.extra.len() as u8,
+        ];
+        cells::put_at(out, HASH, &sizes);
+        cells::put_at(out, IV, self.iv);
+        cells::put_at(out, TAG, self.tag);
+        cells::put_at(out, KEY, self.key.as_slice());
+        let at = cells::put_at(out, S, self.s);
+        cells::put_at(out, at, self.extra);
+    }
+
+    // The last time and the next nonce after a request: its nonce is used where nonces are ordered.
+    pub fn after(&self, clock: Time) -> (Time, u64)
+        requires { self.now.next ≤ 4294967295 }
+        ensures { AfterIs (session_at self.now) clock.0 result }
+    {
+        (clock, self.next + self.mask % 2)
+    }
 }
 
 // One more than the last nonce, or the first where nonces are not ordered.
 fn most_next(mask: u64) -> u64
     ensures { result ≡ most_next mask }
 {
-    if mask % 2 == 1 {
-        return 4294967296;
-    }
-    0
+    if mask % 2 == 1 { 4294967296 } else { 0 }
 }
 
-// A session's state, over zeros.
-fn write(
-    out: &mut [u8],
-    last: Time,
-    next: u64,
-    mask: u64,
-    hash: Hash,
-    iv: &[u8],
-    tag: &[u8],
-    key: &[u8],
-    s: &[u8],
-    eah: &[u8],
-)
-    requires { (out.old ≡ no_session) × (length iv.now ≡ 12) × (length tag.now ≡ 16) × (length key.now ≡ 32) × (length s.now ≤ 118) × (length eah.now ≤ 128) }
-    ensures { out.new ≡ state_of (session_of last.0 next mask hash iv.now tag.now key.now s.now eah.now) }
+// The state with another last time and next nonce.
+pub fn advance(state: &mut [u8], last: Time, next: u64)
+    requires { in_session state.old ≡ true }
+    ensures { state.new ≡ state_of (advanced_to (session_in state.old) last.0 next) }
 {
-    cells::put32(out, 0, last.0);
-    cells::put64(out, 4, next);
-    cells::put64(out, 12, mask);
-    let sizes = [hash.mask() as u8, s.len() as u8, eah.len() as u8];
-    cells::put_at(out, 20, &sizes);
-    cells::put_at(out, 23, iv);
-    cells::put_at(out, 35, tag);
-    cells::put_at(out, 51, key);
-    let at = cells::put_at(out, 83, s);
-    cells::put_at(out, at, eah);
-}
-
-// The state of a new session: its first nonce is 0.
-pub fn begin(state: &mut [u8], time: Time, reply: Reply)
-    requires { (length state.old ≡ 329) × (reply.s_len ≤ 118) × (reply.eah_len ≤ 128) }
-    ensures { Begins time reply state.new }
-{
-    let s = reply.s;
-    let s_len = reply.s_len;
-    let iv = reply.iv;
-    let tag = reply.tag;
-    let key = reply.key;
-    let eah = reply.eah;
-    let eah_len = reply.eah_len;
-    clear(state);
-    write(
-        state,
-        time,
-        0,
-        reply.ah,
-        Hash::named(reply.h),
-        &iv,
-        &tag,
-        &key,
-        &s[..s_len],
-        &eah[..eah_len],
-    );
-}
-
-// The state after a request: its time is the last, and its nonce is used where nonces are ordered.
-pub fn advance(state: &mut [u8], clock: Time, held: Held)
-    requires { Ready state.old held }
-    ensures { state.new ≡ state_of (advanced (session_in state.old) clock.0) }
-{
-    cells::put32(state, 0, clock.0);
-    cells::put64(state, 4, held.next + held.mask % 2);
+    cells::put32(state, 0, last.0);
+    cells::put64(state, NEXT, next);
 }
 
 // The state of no session.
@@ -189,6 +144,5 @@ pub fn clear(state: &mut [u8])
     requires { length state.old ≡ 329 }
     ensures { state.new ≡ no_session }
 {
-    let zeros = [0u8; SIZE];
-    cells::put_front(state, &zeros);
+    state.fill(0);
 }
