@@ -27,6 +27,7 @@ mod brought;
 pub use brought::Brought;
 
 // The HMAC under the session key of a request's signed text, at the front.
+// Kept: n, t and lt by themselves, since the gate has them in a request and the scanner in a draft.
 pub fn code(
     key: &[u8],
     hash: Hash,
