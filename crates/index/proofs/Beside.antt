@@ -26,10 +26,6 @@ use Rattle.index.proofs.Held.{indexed_holds}
 use Rattle.index.proofs.Changed.{Without}
 use Rattle.index.proofs.Kept.{freed_well, freed_ranked, freed_free, taken_well, rises, used, here, own, taken_ranked}
 
--- the same table under another name
-pub indexed_same : {table other index : List ℕ} → table ≡ other → Indexed other index → Indexed table index
-indexed_same e h = rw e h
-
 -- a table's bytes with a record stored, and the index beside them
 module _ (table : List ℕ) (place : ℕ) (within : place < places table) where
   inside : place < length (records table)

@@ -15,7 +15,7 @@ use Rattle.table.specs.WellFormed.{WellFormed}
 use Rattle.index.specs.Index.{among, ranked_to, vacant, filled, coded, index_of}
 use Rattle.index.specs.InnerEntries.{Holds, Enterable, Entered, Made}
 use Rattle.index.proofs.Ranked.{Rises, sorted_at, stands_in, in_ranked, length_ranked, used_most, ranked_rises}
-use Rattle.index.proofs.Coded.{length_coded, vacated, length_filled}
+use Rattle.index.proofs.Coded.{vacated}
 
 ranked_unused : (table : List Record) (n : ℕ) → is_used (get_or table n freed) ≡ false → ranked_to table (n + 1) ≡ ranked_to table n
 unfolding ranked_to
@@ -29,11 +29,6 @@ pub made_none : (table : List Record) (index : List ℕ) (n : ℕ) → length ta
 unfolding ranked_to
 made_none table index n small long e =
     record { small = small; bytes = e ∙ ap (λ (k : ℕ). replicate k 255) long ∙ sym (vacated (length table)) }
-
-pub made_long : (table : List Record) (n : ℕ) (index : List ℕ) → n ≤ length table → Made table n index → length index ≡ 2 * length table
-made_long table n index h m =
-    ap length m.bytes ∙ length_coded (filled (length table) (ranked_to table n))
-    ∙ ap (λ (k : ℕ). 2 * k) (length_filled (length table) (ranked_to table n) (omega (arith, length_ranked table n, used_most table n)))
 
 pub made_all : (table : List Record) (n : ℕ) (index : List ℕ) → n ≡ length table → Made table n index → index ≡ index_of table
 unfolding index_of

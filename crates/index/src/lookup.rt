@@ -18,6 +18,7 @@ pub fn rank(table: &[u8], index: &[u8], iv: &[u8; 12]) -> usize
 }
 
 // The place of the used record with this IV.
+// Kept: a struct of table and index would be two, one to read both and one to write both, and every caller holds them apart.
 pub fn find(table: &[u8], index: &[u8], iv: &[u8; 12]) -> Option<usize>
     requires { Indexed table.now index.now }
     ensures { Placed (found (records table.now) iv.now) (places table.now) result }

@@ -21,9 +21,6 @@ pub record Along {A : Type 0} (f : ℕ → List Record → A) (bytes : List ℕ)
   pub same : f start (drop start (records bytes)) ≡ f i (drop i (records bytes))
 
 module _ {A : Type 0} {f : ℕ → List Record → A} {bytes : List ℕ} {start : ℕ} where
-  pub along_begins : start ≤ places bytes → Along f bytes start (places bytes) start
-  along_begins h = record { count = refl; reached = h; same = refl }
-
   -- the record at i, and those after it
   pub along_here : {n i : ℕ} → Along f bytes start n i → i < n
       → f start (drop start (records bytes)) ≡ f i (record_at bytes i ∷ drop (i + 1) (records bytes))

@@ -8,6 +8,7 @@ use super::session::SIZE;
 use window::time::Time;
 
 // Whether a place has a used record with this IV.
+// Kept: that a place is within the table is what an index of a slice asks; a struct of table and place would be made for each call.
 pub fn has_iv(table: &[u8], place: usize, iv: &[u8]) -> bool
     requires { place < places table.now }
     ensures { result ≡ holds iv.now (record_at table.now place) }

@@ -2,7 +2,7 @@
 ghost use Rattle.std.specs.Prelude.{◌≡◌, [], ◌∷◌, ◌*◌, ◌<◌, length};
 ghost use Rattle.cells.specs.Runs.{spliced};
 ghost use Rattle.table.specs.Record.{size, record_of, record_bytes, freed, begun, window_of, with_window};
-ghost use Rattle.table.specs.Session.{held_at, with_record};
+ghost use Rattle.table.specs.Session.{with_record};
 ghost use Rattle.table.specs.Table.{places, record_at, holds, Within};
 
 use window::time::Time;
@@ -79,17 +79,6 @@ fn put_byte(out: &mut [u8], at: usize, x: u8)
     ensures { out.new ≡ spliced out.old at (x ∷ []) }
 {
     out[at] = x;
-}
-
-// What the record at a place holds; a free one where there is no place.
-pub fn held_at(table: &[u8], place: Option<usize>) -> Record
-    requires { Within (places table.now) place }
-    ensures { result ≡ held_at table.now place }
-{
-    match place {
-        Some(at) => read(table, at),
-        None => freed(),
-    }
 }
 
 // The record takes its place in the table, if it has one.
