@@ -12,14 +12,16 @@ use std::io::{Read, Write};
 use std::process::ExitCode;
 
 fn main(rt: HostRuntime) -> ExitCode {
-    let counts = match counted(&mut rt.stdin()) {
-        Ok(counts) => counts,
-        Err(error) => return failed(&rt, "status-counts: reading", error),
-    };
-    match write(&mut rt.stdout(), &counts) {
+    match run(&rt) {
         Ok(()) => ExitCode::SUCCESS,
-        Err(error) => failed(&rt, "status-counts: writing", error),
+        Err((what, error)) => failed(&rt, what, error),
     }
+}
+
+// What failed, and why, if anything.
+fn run(rt: &HostRuntime) -> Result<(), (&'static str, io::Error)> {
+    let counts = counted(&mut rt.stdin()).map_err(|error| ("status-counts: reading", error))?;
+    write(&mut rt.stdout(), &counts).map_err(|error| ("status-counts: writing", error))
 }
 
 // Says on standard error what failed, and why.
@@ -36,10 +38,7 @@ fn say(rt: &(impl Eprint + AllocGlobal), what: &str, error: io::Error) -> io::Re
 }
 
 fn reason(text: &str) -> &str {
-    match text.split_once(" (os error ") {
-        Some((why, _)) => why,
-        None => text,
-    }
+    text.split_once(" (os error ").map_or(text, |(why, _)| why)
 }
 
 fn large_buffer() -> [u8; 65536]
@@ -55,12 +54,13 @@ fn counted<R: Read>(input: &mut R) -> io::Result<[u64; 600]>
 {
     let mut buffer = large_buffer();
     let mut state = State::new();
-    let mut reads: u64 = 281474976710655;
     let mut n = input.read(&mut buffer)?;
-    while (reads > 0) & (n > 0) {
-        state = state.take_in(&buffer[..n]);
+    for _i in 0..281474976710655u64 {
+        if n == 0 {
+            break;
+        }
+        state.take_in(&buffer[..n]);
         n = input.read(&mut buffer)?;
-        reads -= 1;
     }
     if n != 0 {
         return Err(io::Error::other("the log does not end"));
@@ -72,7 +72,7 @@ fn write<W: Write>(out: &mut W, counts: &[u64; 600]) -> io::Result<()>
     requires { sum counts.now < 2 ^ 64 }
     ensures { OnOk result (Appends (W.contents out.old) (W.contents out.new) (printed counts.now)) }
 {
-    let mut text = [0u8; logs::TEXT_SIZE];
+    let mut text = [0; logs::TEXT_SIZE];
     let size = logs::print(counts, &mut text);
     out.write_all(&text[..size])
 }
