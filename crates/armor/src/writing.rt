@@ -1,4 +1,5 @@
 // Fields written into a buffer.
+// Kept: a buffer and a place in it, as cells::put_at takes them. A writer that holds both would be lent by &mut, and the place is the answer here.
 ghost use Rattle.std.specs.Prelude.{◌≡◌, [], ◌∷◌, ◌+◌, ◌*◌, ◌/◌, ◌≤◌, length};
 ghost use Rattle.cells.specs.InnerLaid.{Laid};
 ghost use Rattle.armor.specs.Numerals.{number_bytes, mask_bytes};
