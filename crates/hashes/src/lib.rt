@@ -31,6 +31,7 @@ impl TryFrom<u64> for Hash {
 
 impl Hash {
     // The mask of the hash alone.
+    // Kept: a From would not tell this number from the next.
     pub fn mask(self) -> u64
         ensures { result ≡ hash_mask self }
     {
@@ -61,6 +62,7 @@ impl Hash {
     }
 
     // The hash that a mask names alone; SHA-512 where it does not.
+    // Kept: beside try_from, since docs/CONTRACTS.md names it, and it answers for every mask.
     pub fn named(mask: u64) -> Hash
         ensures { result ≡ named mask }
     {
@@ -78,6 +80,7 @@ impl Hash {
     }
 
     // The same; SHA-256 where they have none.
+    // Kept: beside common, since docs/CONTRACTS.md names it, and it answers for every two masks.
     pub fn chosen(offered: u64, hashes: u64) -> Hash
         ensures { result ≡ chosen offered hashes }
     {
@@ -107,6 +110,7 @@ pub fn allowed_one(hashes: u64, mask: u64) -> bool
 }
 
 // Whether both sides have a hash.
+// Kept: beside common, since docs/CONTRACTS.md names it.
 pub fn in_common(offered: u64, hashes: u64) -> bool
     ensures { result ≡ in_common offered hashes }
 {

@@ -41,6 +41,7 @@ impl From<TryFromSliceError> for Undone {
 }
 
 // A call's answer.
+// Kept: the C interface: a call answers a number.
 fn number(done: Result<(), Undone>) -> u32
     ensures { result ≡ number_of done }
 {
@@ -51,8 +52,8 @@ fn number(done: Result<(), Undone>) -> u32
     }
 }
 
-// 2 ^ 60: a text to hash is shorter, which is far above what memory holds.
-const LIMIT: usize = 1152921504606846976;
+// A text to hash is shorter, which is far above what memory holds.
+const LIMIT: usize = 1 << 60;
 
 // The hash of text into out, which has as many bytes.
 fn digest(hash: Hash, text: &[u8], out: &mut [u8]) -> Result<(), Undone>
@@ -108,8 +109,8 @@ pub fn prim_hmac_sha512(key: &[u8], text: &[u8], out: &mut [u8]) -> u32
     number(code(Hash::Sha512, key, text, out))
 }
 
-// 2 ^ 36 - 32: SP 800-38D's longest text.
-const LONGEST: usize = 68719476704;
+// SP 800-38D's longest text.
+const LONGEST: usize = (1 << 36) - 32;
 
 // The sealed text into out, and the tag.
 fn seal(key: &[u8], iv: &[u8], text: &[u8], out: &mut [u8], tag: &mut [u8]) -> Result<(), Undone>

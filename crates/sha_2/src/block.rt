@@ -65,7 +65,8 @@ fn turn<W: Word>(v: Words<W>, w: &mut [W; 16], t: usize, k: u64) -> Words<W>
     round(v, W::constant(t, k), x)
 }
 
-// The rounds, each with its constant of 4.2.3, whose first half is that of 4.2.2: a table of them would lie on the stack.
+// The rounds, each with its constant of 4.2.3, whose first half is that of 4.2.2.
+// Kept: fixed memory: a table of the constants would lie on the stack, 640 bytes in each call.
 fn rounds_0_15<W: Word>(v: Words<W>, w: &mut [W; 16], block: &[u8]) -> Words<W>
     requires { length block.now ≡ Hash.block_size W.hash }
     ensures { (v0 : Numbers) → Turned W.hash block.now v0 0 (numbers W.value v) (map W.value w.old) → Turned W.hash block.now v0 16 (numbers W.value result) (map W.value w.new) }

@@ -13,6 +13,8 @@ use hashes::Hash;
 
 mod block;
 mod word;
+mod word256;
+mod word512;
 mod words;
 
 pub use words::Words;

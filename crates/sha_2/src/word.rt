@@ -1,11 +1,10 @@
 // A word of a hash, and the functions on words: FIPS 180-4, 3.2, 4.1.2 and 4.1.3. A word of SHA-256 has 32 bits, one of SHA-512 has 64.
 ghost use Rattle.std.specs.Prelude.{◌≡◌, ℕ, ◌+◌, ◌*◌, ◌%◌, ◌^◌, ◌<◌, ◌≤◌, length, slice_index};
 ghost use Rattle.std.specs.Mem.{type_size};
-ghost use Rattle.std.proofs.Common.{lit<};
 ghost use Rattle.cells.specs.Numbers.{number, bytes_of};
 ghost use Rattle.cells.specs.Runs.{part, spliced};
 ghost use Rattle.hashes.specs.declared.Hash.{Hash};
-ghost use Rattle.hashes.specs.declared.Hash.TheVariants.{Sha256, Sha512};
+ghost use Rattle.hashes.specs.declared.Hash.TheVariants.{Sha512};
 ghost use Rattle.sha_2.specs.Word as Word;
 ghost use Rattle.sha_2.specs.Word.{width, bits, ◌⊞⟨◌⟩◌};
 ghost use Rattle.sha_2.specs.Constants as Constants;
@@ -70,137 +69,4 @@ pub trait Word: Copy {
 
     // Sixteen words have room in memory.
     ghost small: { 16 * type_size Self.row < 2 ^ 63 };
-}
-
-// Ch and Maj have fewer operations than the standard writes them with. In a round y ^ z of Maj is x ^ y of the round before.
-//
-// The standard's rotations are rotations within rotations: first by the difference between two amounts, x mixed in, and in the end by the amount that both have.
-// Two of them so, and the third of SHA-256 beside them: all three within each other were measured slower there, since each step waits for the one before.
-impl Word for u32 {
-    ghost hash = { Sha256 };
-
-    ghost value = { λ x. x };
-
-    ghost small = { lit< tt };
-
-    fn width() -> usize {
-        4
-    }
-
-    fn rounds() -> usize {
-        64
-    }
-
-    fn low(x: u64) -> u32 {
-        (x % 4294967296) as u32
-    }
-
-    fn wide(self) -> u64 {
-        u64::from(self)
-    }
-
-    fn load(run: &[u8], at: usize) -> u32 {
-        cells::load32(run, at)
-    }
-
-    fn put(self, out: &mut [u8], at: usize) {
-        cells::put32(out, at, self);
-    }
-
-    // The constant's first 32 bits are that of SHA-256.
-    fn constant(_t: usize, k: u64) -> u32 {
-        (k >> 32) as u32
-    }
-
-    fn add(self, y: u32) -> u32 {
-        self.wrapping_add(y)
-    }
-
-    fn ch(self, y: u32, z: u32) -> u32 {
-        z ^ (self & (y ^ z))
-    }
-
-    fn maj(self, y: u32, z: u32) -> u32 {
-        y ^ ((self ^ y) & (y ^ z))
-    }
-
-    fn big_sigma0(self) -> u32 {
-        (self.rotate_right(21) ^ self).rotate_right(13) ^ self.rotate_right(22)
-    }
-
-    fn big_sigma1(self) -> u32 {
-        (self.rotate_right(27) ^ self).rotate_right(11) ^ self.rotate_right(25)
-    }
-
-    fn small_sigma0(self) -> u32 {
-        (self.rotate_right(21) ^ self).rotate_right(18) ^ (self >> 3)
-    }
-
-    fn small_sigma1(self) -> u32 {
-        (self.rotate_right(30) ^ self).rotate_right(19) ^ (self >> 10)
-    }
-}
-
-impl Word for u64 {
-    ghost hash = { Sha512 };
-
-    ghost value = { λ x. x };
-
-    ghost small = { lit< tt };
-
-    fn width() -> usize {
-        8
-    }
-
-    fn rounds() -> usize {
-        80
-    }
-
-    fn low(x: u64) -> u64 {
-        x
-    }
-
-    fn wide(self) -> u64 {
-        self
-    }
-
-    fn load(run: &[u8], at: usize) -> u64 {
-        cells::load64(run, at)
-    }
-
-    fn put(self, out: &mut [u8], at: usize) {
-        cells::put64(out, at, self);
-    }
-
-    fn constant(_t: usize, k: u64) -> u64 {
-        k
-    }
-
-    fn add(self, y: u64) -> u64 {
-        self.wrapping_add(y)
-    }
-
-    fn ch(self, y: u64, z: u64) -> u64 {
-        z ^ (self & (y ^ z))
-    }
-
-    fn maj(self, y: u64, z: u64) -> u64 {
-        y ^ ((self ^ y) & (y ^ z))
-    }
-
-    fn big_sigma0(self) -> u64 {
-        ((self.rotate_right(58) ^ self).rotate_right(59) ^ self).rotate_right(39)
-    }
-
-    fn big_sigma1(self) -> u64 {
-        ((self.rotate_right(60) ^ self).rotate_right(41) ^ self).rotate_right(41)
-    }
-
-    fn small_sigma0(self) -> u64 {
-        (self.rotate_right(57) ^ self).rotate_right(8) ^ (self >> 7)
-    }
-
-    fn small_sigma1(self) -> u64 {
-        (self.rotate_right(22) ^ self).rotate_right(61) ^ (self >> 6)
-    }
 }

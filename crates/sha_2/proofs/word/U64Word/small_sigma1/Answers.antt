@@ -1,8 +1,0 @@
-use Rattle.std.proofs.Common.{refl}
-use Rattle.sha_2.specs.Word.{SHR, σ1}
-use Rattle.sha_2.proofs.Rotations.{two_rotations}
-use Rattle.sha_2.proofs.word.U64Word.small_sigma1.Goals as goal
-
-pub returns : goal.returns
-unfolding σ1
-returns c = rw (c.rotate_right-2.ensures, c.rotate_right.ensures) (two_rotations 19 3 42 c.args.self (SHR 6 c.args.self) refl c.ranges.self.fits)
