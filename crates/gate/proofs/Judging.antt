@@ -5,7 +5,7 @@ use mathlib.Core.Bool.{Bool, true, false, true≢false, cond, not, ◌&&◌, ◌
 use mathlib.Core.List.{List, [], ◌∷◌, ◌++◌}
 use Prim.Native.Nat.{ℕ, zero, suc, ◌*◌, ◌≤◌, ◌<◌}
 use native.Mathlib.Omega.{arith}
-use borrow.Author.Tests.{eq-eqb, ne_eqb, eqb-true}
+use borrow.Author.Tests.{eq-eqb, ne_eqb, eqb-true, leb-true}
 use lib.Dec.{eqb}
 use lib.ListN.{length, get_or}
 use Rattle.std.specs.Prelude.{Option, Some, None, Result, Ok, Err, IfOk}
@@ -14,6 +14,7 @@ use Rattle.hashes.specs.declared.Hash.{Hash}
 use Rattle.reply.specs.Replies.{invalidation}
 use Rattle.cells.proofs.Tests.{both}
 use Rattle.token.specs.Token.{has_token}
+use Rattle.table.proofs.Found.{found_at}
 use Rattle.table.proofs.Records.{length_record_bytes, length_records}
 use Rattle.table.proofs.One.{one_place, one_record, records_single, one_found}
 use Rattle.table.specs.declared.session.Record.{Record}
@@ -23,20 +24,25 @@ use Rattle.index.specs.Index.{index_of, Indexed}
 use Rattle.index.proofs.Held.{length_index_of}
 use Rattle.index.proofs.Alike.{index_same}
 use Rattle.stages.specs.declared.refusal.Refusal.{Refusal}
+use Rattle.stages.specs.declared.refusal.Refusal.TheVariants as R
+use Rattle.stages.specs.declared.admitting.Session.{Session}
 use Rattle.stages.specs.declared.settling.Decision.{Decision}
 use Rattle.stages.specs.Refusals.{number_of, number_in}
 use Rattle.stages.specs.Request.{Request}
 use Rattle.stages.specs.Checks.{Check, first, nowhere}
 use Rattle.table.specs.Session.{place_of, held_at, with_record}
 use Rattle.stages.specs.Parts.{iv_of, ordered, next_of, opened_of, reading_part, token_part, vouching_part, admitting_part, invalidates}
-use Rattle.stages.specs.InnerStages.{tells, opening_part, stored_of, Settles}
-use Rattle.stages.proofs.Checks.{numbered, lacks, first_lacks, first_small, passed_by, stopped_by}
+use Rattle.stages.specs.InnerStages.{tells, opening_part, stored_of, StandsAt, Settles}
+use Rattle.stages.proofs.Checks.{numbered, lacks, first_lacks, passed_by, stopped_by}
 use Rattle.stages.proofs.Parts.{reading_numbered, reading_ten, reading_thirteen}
+use Rattle.stages.proofs.Refusals.{small_number}
 use Rattle.gate.specs.State.{State, holding, indexed, outcome, untouched, replied}
-use Rattle.gate.specs.Sizes.{state_fits, table_fits, lent_fits, request_fits}
+use Rattle.orders.specs.Orders.{orders_good}
+use Rattle.gate.specs.Sizes.{exactly, state_fits, table_fits, brought_fits, lent_fits, request_fits}
+use Rattle.gate.specs.Entry.{state_checks}
 use Rattle.gate.specs.Judge.{entry_part, request_checks, state_after, answered, outcome_at, judged}
-use Rattle.gate.specs.InnerDecisions.{Refuses, Judges, after_entry, Decides, DecidesAs, left_at, left_by, answered_by, Keeps}
-use Rattle.gate.proofs.Numbers.{Entered, indexed_by, request_stated, entry_numbered, entry_ten, entry_thirteen, entry_passed, request_small, some_number, small_number, answer_is}
+use Rattle.gate.specs.InnerDecisions.{StandsIn, Refuses, Judges, after_entry, Decides, DecidesAs, left_at, left_by, answered_by, Keeps}
+use Rattle.gate.proofs.Numbers.{Entered, indexed_by, request_stated, entry_numbered, entry_ten, entry_thirteen, entry_passed, sizes_refuse, orders_refuse, state_decides, never_zero, answer_is}
 
 pub told : (n : ℕ) → invalidates n ≡ true → tells n ≡ true
 told n e = by (eqb n 0)
@@ -57,8 +63,8 @@ found_indexed q state h = indexed_by state (request_stated q state h.sizes) h.fo
 stopped : (xs ys : List Check) → numbered xs ≡ true → lacks 10 xs ≡ true → lacks 13 xs ≡ true → (e : Refusal) → first xs ≡ number_of e → Refuses (xs ++ ys) e
 stopped xs ys numbers ten thirteen e f =
     record {
-      is = stopped_by xs ys numbers (λ o. some_number e (sym f ∙ o)) ∙ f;
-      alone = tells_none (number_of e) (some_number e) (never 10 ten (λ o. absurd (omega arith))) (never 13 thirteen (λ o. absurd (omega arith)));
+      is = stopped_by xs ys numbers (λ o. never_zero e (sym f ∙ o)) ∙ f;
+      alone = tells_none (number_of e) (never_zero e) (never 10 ten (λ o. absurd (omega arith))) (never 13 thirteen (λ o. absurd (omega arith)));
     }
   where
     never : (k : ℕ) → lacks k xs ≡ true → (k ≡ 0 → ⊥) → number_of e ≡ k → ⊥
@@ -195,7 +201,7 @@ module _ (q : Request) (state : State) (d : Decision) (h : DecidesAs q state d) 
           → left_at o d.place state ≡ cond (eqb (number_in o) 0) (cond (ordered q) (holding (with_record state.table d.place (next_of q state.table)) state.index) state)
           (cond (invalidates (number_in o)) (indexed (with_record state.table d.place freed)) state)
       by (Ok next) e = stored (ordered q) _ next e
-      by (Err e) u = rw (ne_eqb (number_of e) 0 (some_number e))
+      by (Err e) u = rw (ne_eqb (number_of e) 0 (never_zero e))
 
   pub applied_judged : answered_by d q.reply (left_by d state) ≡ judged q state
   unfolding judged
@@ -211,3 +217,34 @@ refused_judged q state e r =
     neither : (t u : Bool) → (t || u) ≡ false → (t ≡ false) × (u ≡ false)
     neither true u z = absurd (true≢false z)
     neither false u z = (refl, z)
+
+-- check 1, check 2, and the sessions that the twins find
+module _ (q : Request) (state : State) where
+  pub state_entry : request_fits q state ≡ true → orders_good q.orders ≡ true → first (entry_part q state) ≡ first (state_checks state)
+  unfolding entry_part
+  state_entry = state_decides _ _ _
+
+  pub sizes_judged : request_fits q state ≡ false → outcome 1 q.reply state ≡ judged q state
+  unfolding entry_part
+  sizes_judged e = refused_judged q state R.WrongSize (unentered q state _ (sizes_refuse _ _ _ e))
+
+  pub orders_judged : request_fits q state ≡ true → orders_good q.orders ≡ false → outcome 2 q.reply state ≡ judged q state
+  unfolding entry_part
+  orders_judged e f = refused_judged q state R.BadOrders (unentered q state _ (orders_refuse _ _ _ e f))
+
+  pub reply_room : request_fits q state ≡ true → 1024 ≤ length q.reply
+  unfolding request_fits lent_fits
+  reply_room e =
+      leb-true _ _ (both (brought_fits q) _ (both (exactly 32 q.server_key) _ (both (lent_fits q) (state_fits state) e).0).1).1
+
+pub stands : (q : Request) (table iv : List ℕ) (session : Option Session) → iv ≡ iv_of q → StandsIn table iv session → StandsAt q table session
+stands q table iv (Some s) e h = rw (← e) h
+stands q table iv None e h = rw (← e) h
+
+-- a session that is found stands within its table
+pub found_within : (table iv : List ℕ) → Within (places table) (place_of table iv)
+found_within table iv = by (place_of table iv) refl
+  where
+    by : (p : Option ℕ) → place_of table iv ≡ p → Within (places table) p
+    by (Some i) e = rw (← length_records table) (found_at (records table) iv i e).within
+    by None e = tt

@@ -6,7 +6,6 @@ use mathlib.Core.Bool.{Bool, true, false, cond, not, ◌&&◌}
 use mathlib.Core.List.{List, [], ◌∷◌}
 use Prim.Native.Nat.{ℕ, ◌+◌, ◌-◌, ◌*◌, ◌%◌, ◌≤◌, ◌<◌}
 use native.Mathlib.Omega.{arith}
-use borrow.Author.Rules.{rules}
 use borrow.Author.Tests.{leb-true, eqb-true}
 use lib.Dec.{eqb, leb}
 use lib.ListN.{length, get_or}
@@ -25,6 +24,7 @@ use Rattle.stages.specs.Request.{Request}
 use Rattle.stages.specs.Checks.{first}
 use Rattle.stages.specs.Parts.{reading_part, covering_part, token_part, signature_part, session_part, nonce_part}
 use Rattle.stages.proofs.Checks.{numbered, lacks, small}
+use Rattle.stages.proofs.Refusals.{some_number}
 use Rattle.gate.specs.State.{State, indexed, outcome}
 use Rattle.gate.specs.Calls.{Setup}
 use Rattle.gate.specs.Sizes.{long_from, exactly, table_fits, state_fits, lent_fits, request_fits, end_fits}
@@ -175,14 +175,10 @@ module _ (fits : Bool) (o : Orders) (state : State) where
   unfolding entry_checks
   state_decides e f = rw (e, f)
 
--- a refusal's number
-pub some_number : (e : Refusal) → number_of e ≡ 0 → ⊥
-some_number e = search rules
+-- a refusal's number is not 0, and no two have one
+pub never_zero : (e : Refusal) → number_of e ≡ 0 → ⊥
+never_zero e z = absurd (omega (arith, some_number e))
 
-pub small_number : (e : Refusal) → number_of e < 256
-small_number e = search rules
-
--- by their numbers
 unfoldable all_refusals : List Refusal
 all_refusals = R.WrongSize ∷ R.BadOrders ∷ R.BadTable ∷ R.BadGrammar ∷ R.WrongFields ∷ R.BadLines ∷ R.NameTwice ∷ R.NotAsOrdered ∷ R.BadToken ∷ R.Expired ∷ R.WrongSignature ∷ R.NoSession ∷ R.Idle ∷ R.TooOld ∷ R.NonceTooLow ∷ R.NonceSeen ∷ R.IvInUse ∷ R.TableFull ∷ R.NoCommonHash ∷ R.ExpiryTooLate ∷ R.TooFarAhead ∷ R.BadIndex ∷ R.BadReply ∷ []
 

@@ -4,7 +4,7 @@ use mathlib.Core.Path.{◌≡◌, refl, sym, ap, ◌∙◌}
 use mathlib.Core.Bool.{Bool, true, false, cond, not}
 use mathlib.Core.List.{List, [], ◌∷◌, ◌++◌}
 use mathlib.Core.Option.{Option, none, some, get_or}
-use Prim.Native.Nat.{ℕ, ◌*◌, ◌≤◌}
+use Prim.Native.Nat.{ℕ, ◌+◌, ◌*◌, ◌≤◌}
 use native.Mathlib.Omega.{arith}
 use borrow.Author.Tests.{leb-true, eqb-true, ne_eqb}
 use lib.Dec.{leb}
@@ -14,7 +14,11 @@ use Rattle.hashes.specs.declared.Hash.{Hash}
 use Rattle.std.specs.Prelude.{Option as Maybe, Some, None, Result, Ok, Err}
 use Rattle.armor.specs.declared.Unread.{Unread}
 use Rattle.armor.specs.InnerAnswers.{setup_from, setup_answer}
+use Rattle.orders.specs.Orders.{orders_good, OrderedBy}
+use Rattle.orders.specs.declared.Limits.{Limits}
+use Rattle.orders.specs.declared.Ordered.{Ordered}
 use Rattle.stages.specs.declared.refusal.Refusal.{Refusal}
+use Rattle.stages.specs.declared.refusal.Refusal.TheVariants as R
 use Rattle.stages.specs.Refusals.{number_of, RefusedUnread}
 use Rattle.armor.specs.Fields.{the, setup_fields}
 use Rattle.armor.specs.Keys.{key_r}
@@ -27,12 +31,14 @@ use Rattle.gate.specs.declared.setup.Offer.{Offer}
 use Rattle.gate.specs.declared.lent.Lent.{Lent as LentParts}
 use Rattle.gate.specs.declared.setup.Start.{Start}
 use Rattle.gate.specs.InnerSizes.{SetsUp}
+use Rattle.stages.proofs.Refusals.{small_number}
 use Rattle.gate.specs.State.{State, outcome, replied}
 use Rattle.gate.specs.Calls.{Setup}
 use Rattle.gate.specs.Sizes.{state_fits, setup_fits}
+use Rattle.gate.specs.Entry.{state_checks}
 use Rattle.gate.specs.Setup.{offered, chosen_of, expiry_of, entry_part, offer_part, lasting_part, room_part, setup_checks, new_token, sealed_of, reply_of, with_session, set_up}
-use Rattle.gate.specs.InnerStarts.{RefusedBy, Lasts, Starts, StartIs, start_at}
-use Rattle.gate.proofs.Numbers.{Entered, entry_numbered, entry_passed, offer_numbered, some_number, small_number, one_number, answer_is}
+use Rattle.gate.specs.InnerStarts.{RefusedBy, Lasts, LastsUntil, HasRoom, Starts, StartIs, start_at}
+use Rattle.gate.proofs.Numbers.{Entered, entry_numbered, entry_passed, offer_numbered, sizes_refuse, orders_refuse, state_decides, never_zero, one_number, answer_is}
 
 -- reading a value decides 4 and 5, and leaves its mask to 19 and 20
 abbrev Told : ℕ → List Check → List Check → Result ℕ Unread → Type 0
@@ -106,9 +112,13 @@ module _ (s : Setup) (state : State) where
   unfolding setup_checks entry_part
   opened e = entry_passed _ _ _ (none_holds (entry_part s state) _ (entry_numbered _ _ _) e).none
 
+  pub state_entry : setup_fits s state ≡ true → orders_good s.orders ≡ true → first (entry_part s state) ≡ first (state_checks state)
+  unfolding entry_part
+  state_entry = state_decides _ _ _
+
   pub entry_refuses : (e : Refusal) → first (entry_part s state) ≡ number_of e → RefusedBy (setup_checks s state) e
   unfolding setup_checks entry_part
-  entry_refuses e f = stopped_by (entry_part s state) _ (entry_numbered _ _ _) (λ o. some_number e (sym f ∙ o)) ∙ f
+  entry_refuses e f = stopped_by (entry_part s state) _ (entry_numbered _ _ _) (λ o. never_zero e (sym f ∙ o)) ∙ f
 
   -- after them the offer decides, and after it the room
   module _ (passed : first (entry_part s state) ≡ 0) where
@@ -117,12 +127,23 @@ module _ (s : Setup) (state : State) where
     later = passed_by (entry_part s state) _ (entry_numbered _ _ _) passed
 
     pub offer_refuses : (e : Refusal) → RefusedBy (offer_part s) e → RefusedBy (setup_checks s state) e
-    offer_refuses e r = later ∙ stopped_by (offer_part s) _ (offer_numbered s) (λ z. some_number e (sym r ∙ z)) ∙ r
+    offer_refuses e r = later ∙ stopped_by (offer_part s) _ (offer_numbered s) (λ z. never_zero e (sym r ∙ z)) ∙ r
 
     -- 17, 18 or neither, after an offer that lasts
     module _ (offered : first (offer_part s) ≡ 0) where
       pub room_refuses : (e : Refusal) → RefusedBy (room_part s state.table) e → RefusedBy (setup_checks s state) e
       room_refuses e r = later ∙ passed_by (offer_part s) _ (offer_numbered s) offered ∙ r
+
+      pub begins : (r : Offer) → LastsUntil (offer_part s) (chosen_of s) (expiry_of s) r → (place : ℕ) → HasRoom (room_part s state.table) state.table s.iv s.clock place
+          → Starts s state (record { place = place; hash = r.hash; expiry = r.expiry })
+      begins r l place h = record {
+        none = later ∙ passed_by (offer_part s) _ (offer_numbered s) l.none ∙ h.none;
+        is = h.is;
+        within = h.within;
+        new = h.new;
+        by = l.by;
+        until = l.is;
+      }
 
   -- the outcome of each decision
   pub starts : (l : LentParts) (r : Start) → SetsUp s l → Starts s state r → start_at s.orders.numbers.mask s.orders.extra l r state.table s.reply ≡ set_up s state
@@ -132,8 +153,21 @@ module _ (s : Setup) (state : State) where
   pub refuses : (e : Refusal) → RefusedBy (setup_checks s state) e → outcome (number_of e) s.reply state ≡ set_up s state
   unfolding set_up
   refuses e r =
-      rw (r, ne_eqb (number_of e) 0 (some_number e))
+      rw (r, ne_eqb (number_of e) 0 (never_zero e))
       (answer_is _ _ 0 s.reply state (omega arith) (small_number e))
+
+  pub sizes_set_up : setup_fits s state ≡ false → outcome 1 s.reply state ≡ set_up s state
+  unfolding entry_part
+  sizes_set_up e = refuses R.WrongSize (entry_refuses R.WrongSize (sizes_refuse _ _ _ e))
+
+  pub orders_set_up : setup_fits s state ≡ true → orders_good s.orders ≡ false → outcome 2 s.reply state ≡ set_up s state
+  unfolding entry_part
+  orders_set_up e f = refuses R.BadOrders (entry_refuses R.BadOrders (orders_refuse _ _ _ e f))
+
+-- the session would last from now on for the session life
+pub expires : (s : Setup) (ordered : Ordered) → OrderedBy s.orders ordered → expiry_of s ≡ s.clock + ordered.limits.session_life
+unfolding expiry_of
+expires s ordered by = ap (λ (l : Limits). s.clock + l.session_life) (sym by.limits)
 
 -- two answers that `setup::decide` may give are one
 pub start_determined : (s : Setup) (state : State) (a b : Result Start Refusal) → StartIs s state a → StartIs s state b → a ≡ b
@@ -142,6 +176,6 @@ start_determined s state (Ok a) (Ok b) p q =
     let until : a.expiry ≡ b.expiry = ap (λ (t : ℕ). record { 0 = t }) (p.until ∙ sym q.until) in
     let by : a.hash ≡ b.hash = p.by ∙ sym q.by in
     cc
-start_determined s state (Ok a) (Err e) p q = absurd (some_number e (sym q ∙ p.none))
-start_determined s state (Err e) (Ok b) p q = absurd (some_number e (sym p ∙ q.none))
+start_determined s state (Ok a) (Err e) p q = absurd (never_zero e (sym q ∙ p.none))
+start_determined s state (Err e) (Ok b) p q = absurd (never_zero e (sym p ∙ q.none))
 start_determined s state (Err d) (Err e) p q = ap Err (one_number d e (sym p ∙ q))

@@ -2,7 +2,7 @@
 -- Assumes nothing.
 use Rattle.std.specs.Prelude.{◌≡◌, Bool, List, ◌++◌, ℕ, Result, ⊤}
 use Rattle.armor.specs.declared.Reply.{Reply}
-use Rattle.armor.specs.declared.fields.Fields.{Fields}
+use Rattle.armor.specs.declared.Fields.{Fields}
 use Rattle.armor.specs.Value.{Field, carried}
 use Rattle.armor.specs.InnerAnswers.{Lies, HoldsReply}
 use Rattle.orders.specs.Orders.{OrderedBy}

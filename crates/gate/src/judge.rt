@@ -11,7 +11,7 @@ ghost use Rattle.gate.specs.InnerDecisions.{DecidesRequest, JudgesRequest, Stand
 
 use super::asked::Asked;
 use super::entry;
-use armor::fields::Fields;
+use armor::Fields;
 use index::{change, lookup};
 use lines::noting::Notes;
 use names::KnownNames;

@@ -109,10 +109,12 @@ pub fn apply(
         lent.session_id,
         start.expiry,
     );
+    // Kept: no plainer, since an array of a struct goes into another by a variable of its own.
+    let tag = sealed.tag;
     let told = Reply {
         s: sealed.s,
         iv: *lent.iv,
-        tag: sealed.tag,
+        tag,
         key: *lent.session_key,
         h: start.hash.mask(),
         ah: covered.mask,

@@ -6,8 +6,7 @@ ghost use Rattle.gate.specs.InnerTrials.{SameTokenIs, AgainstIs};
 
 use super::asked::Asked;
 use super::sizes;
-use armor::Reply;
-use armor::fields::Fields;
+use armor::{Fields, Reply};
 use lines::noting::Notes;
 use names::KnownNames;
 use orders::{Numbers, Ordered};

@@ -7,7 +7,8 @@ use Rattle.cells.specs.Run.{run_of}
 use Rattle.reply.specs.Replies.{invalidation, invalidation_size}
 use Rattle.reply.proofs.Lengths.{length_invalidation}
 use Rattle.stages.specs.Refusals.{number_of, number_in}
-use Rattle.gate.proofs.Numbers.{answer_is, some_number, small_number}
+use Rattle.stages.proofs.Refusals.{small_number}
+use Rattle.gate.proofs.Numbers.{answer_is, never_zero}
 use Rattle.gate.proofs.Judging.{answered_zero, answered_freed, answered_kept}
 use Rattle.gate.proofs.judge.answer.Goals as goal
 use Rattle.gate.proofs.judge.answer.Goals.{After-number}
@@ -47,4 +48,4 @@ returns-in-Err-2 c s =
     let d = c.args.decision.now in
     let e : number_in d.outcome ≡ number_of c.in-Err.refusal = ap number_in c.in-Err.is in
     answer_is _ (number_of c.in-Err.refusal) 0 _ s (omega (arith, c.number-in-Err-2.ensures, ap number_of c.in-Err-2.refusal-is)) (small_number _)
-    ∙ sym (rw e (answered_kept _ _ _ _ _ s (some_number _) (sym c.invalidates.ensures ∙ c.if-invalidates.false)))
+    ∙ sym (rw e (answered_kept _ _ _ _ _ s (never_zero _) (sym c.invalidates.ensures ∙ c.if-invalidates.false)))

@@ -1,0 +1,22 @@
+-- Answers for `gate_judge_one`.
+-- Assumes nothing.
+use Rattle.std.proofs.Common.{rules, sym, ap, ◌∙◌}
+use Rattle.gate.proofs.gate_judge_one.Goals as goal
+
+pub returns-in_default : goal.returns-in_default
+returns-in_default c = ?
+
+pub returns-in_default-check : goal.returns-in_default-check
+returns-in_default-check c = ?
+
+pub after-requires : goal.after-requires
+after-requires c = ?
+
+pub answer-requires : goal.answer-requires
+answer-requires c = ?
+
+pub returns-in-Ok : goal.returns-in-Ok
+returns-in-Ok c = ?
+
+pub returns-in-Err : goal.returns-in-Err
+returns-in-Err c = ?
