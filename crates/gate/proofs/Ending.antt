@@ -1,28 +1,24 @@
 -- Ending a session: what its checks come to, and what it leaves.
 -- Assumes nothing.
 use mathlib.Core.Path.{◌≡◌, refl, sym, ap, ◌∙◌}
-use mathlib.Core.Bool.{true, false}
+use mathlib.Core.Bool.{Bool, true, false, ◌&&◌}
 use mathlib.Core.List.{List, []}
 use Prim.Native.Nat.{ℕ}
 use native.Mathlib.Omega.{arith}
-use borrow.Author.Tests.{eqb-true, ne_eqb}
+use borrow.Author.Tests.{ne_eqb}
 use lib.ListN.{length}
-use Rattle.cells.specs.Runs.{same}
-use Rattle.cells.proofs.Tests.{both}
-use Rattle.cells.proofs.Equality.{same_equal}
 use Rattle.std.specs.Prelude.{Option, None}
 use Rattle.table.specs.Record.{freed}
 use Rattle.table.specs.Table.{records}
 use Rattle.table.specs.Session.{place_of, with_record, without}
-use Rattle.table.specs.WellFormed.{well_formed}
-use Rattle.index.specs.Index.{index_of, Indexed}
+use Rattle.index.specs.Index.{Indexed}
 use Rattle.stages.specs.Checks.{first, nowhere}
 use Rattle.stages.proofs.Checks.{numbered, small, first_small, passed_by, stopped_by}
 use Rattle.gate.specs.State.{State, holding, outcome}
 use Rattle.gate.specs.Sizes.{exactly, state_fits, end_fits}
 use Rattle.gate.specs.Entry.{state_checks}
 use Rattle.gate.specs.End.{end_checks, ended}
-use Rattle.gate.proofs.Numbers.{answer_is, state_passed, indexed_by, end_stated}
+use Rattle.gate.proofs.Numbers.{answer_is}
 use Rattle.gate.proofs.Judging.{left_indexed}
 
 state_numbered : (state : State) → numbered (state_checks state) ≡ true
@@ -33,6 +29,27 @@ state_small : (state : State) → small (state_checks state) ≡ true
 unfolding state_checks
 state_small state = refl
 
+-- 1
+pub end_unsized : (iv : List ℕ) (state : State) → end_fits iv state ≡ false → outcome 1 [] state ≡ ended iv state
+unfolding ended end_checks
+end_unsized iv state e = rw e
+
+pub end_wrong_iv : (iv : List ℕ) (state : State) → (length iv ≡ 12 → ⊥) → end_fits iv state ≡ false
+unfolding end_fits
+end_wrong_iv iv state h = rw (ne_eqb _ _ h)
+
+pub end_wrong_state : (iv : List ℕ) (state : State) → state_fits state ≡ false → end_fits iv state ≡ false
+unfolding end_fits
+end_wrong_state iv state e = rw e (by (exactly 12 iv))
+  where
+    by : (b : Bool) → (b && false) ≡ false
+    by true = refl
+    by false = refl
+
+pub end_sized : (iv : List ℕ) (state : State) → length iv ≡ 12 → state_fits state ≡ true → end_fits iv state ≡ true
+unfolding end_fits
+end_sized iv state e f = rw (e, f)
+
 module _ (iv : List ℕ) (state : State) (fits : end_fits iv state ≡ true) where
   -- 3 or 22
   pub end_refused : (n : ℕ) → n ≡ first (state_checks state) → (n ≡ 0 → ⊥) → outcome n [] state ≡ ended iv state
@@ -42,14 +59,6 @@ module _ (iv : List ℕ) (state : State) (fits : end_fits iv state ≡ true) whe
       (answer_is n n 0 [] state (omega arith) (rw e (first_small (state_checks state) (state_small state))))
 
   module _ (passed : first (state_checks state) ≡ 0) where
-    pub end_indexed : (length iv ≡ 12) × Indexed state.table state.index
-    unfolding end_fits
-    end_indexed =
-        let told = both (well_formed (records state.table)) (same state.index (index_of (records state.table))) (state_passed state passed) in (
-          eqb-true _ _ (both (exactly 12 iv) (state_fits state) fits).0,
-          indexed_by state (end_stated iv state fits) told.0 (same_equal _ _ told.1),
-        )
-
     pub end_missing : place_of state.table iv ≡ None → outcome 12 [] state ≡ ended iv state
     unfolding ended end_checks
     end_missing e = rw (fits, passed_by (state_checks state) _ (state_numbered state) passed, e)

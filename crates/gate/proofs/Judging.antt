@@ -8,7 +8,8 @@ use native.Mathlib.Omega.{arith}
 use borrow.Author.Tests.{eq-eqb, ne_eqb, eqb-true, leb-true}
 use lib.Dec.{eqb}
 use lib.ListN.{length, get_or}
-use Rattle.std.specs.Prelude.{Option, Some, None, Result, Ok, Err, IfOk}
+use Rattle.std.specs.Prelude.{Option, Some, None, Result, Ok, Err, IfOk, is_some, unwrap_or}
+use Rattle.std.specs.Bool.{then_some}
 use Rattle.cells.specs.Run.{run_of}
 use Rattle.hashes.specs.declared.Hash.{Hash}
 use Rattle.reply.specs.Replies.{invalidation}
@@ -16,7 +17,7 @@ use Rattle.cells.proofs.Tests.{both}
 use Rattle.token.specs.Token.{has_token}
 use Rattle.table.proofs.Found.{found_at}
 use Rattle.table.proofs.Records.{length_record_bytes, length_records}
-use Rattle.table.proofs.One.{one_place, one_record, records_single, one_found}
+use Rattle.table.proofs.One.{one_place, one_record, one_stored, records_single, one_found}
 use Rattle.table.specs.declared.session.Record.{Record}
 use Rattle.table.specs.Record.{freed, record_bytes, Fits}
 use Rattle.table.specs.Table.{places, records, holds, Within}
@@ -28,7 +29,7 @@ use Rattle.stages.specs.declared.refusal.Refusal.TheVariants as R
 use Rattle.stages.specs.declared.admitting.Session.{Session}
 use Rattle.stages.specs.declared.settling.Decision.{Decision}
 use Rattle.stages.specs.Refusals.{number_of, number_in}
-use Rattle.stages.specs.Request.{Request}
+use Rattle.stages.specs.Request.{Request, request_of}
 use Rattle.stages.specs.Checks.{Check, first, nowhere}
 use Rattle.table.specs.Session.{place_of, held_at, with_record}
 use Rattle.stages.specs.Parts.{iv_of, ordered, next_of, opened_of, reading_part, token_part, vouching_part, admitting_part, invalidates}
@@ -37,11 +38,14 @@ use Rattle.stages.proofs.Checks.{numbered, lacks, first_lacks, passed_by, stoppe
 use Rattle.stages.proofs.Parts.{reading_numbered, reading_ten, reading_thirteen}
 use Rattle.stages.proofs.Refusals.{small_number}
 use Rattle.gate.specs.State.{State, holding, indexed, outcome, untouched, replied}
-use Rattle.orders.specs.Orders.{orders_good}
+use Rattle.orders.specs.Orders.{Orders, orders_good, OrderedBy}
+use Rattle.orders.specs.declared.Ordered.{Ordered}
+use Rattle.gate.specs.declared.asked.Asked.{Asked}
+use Rattle.gate.specs.InnerSizes.{Brings, request_by}
 use Rattle.gate.specs.Sizes.{exactly, state_fits, table_fits, brought_fits, lent_fits, request_fits}
 use Rattle.gate.specs.Entry.{state_checks}
 use Rattle.gate.specs.Judge.{entry_part, request_checks, state_after, answered, outcome_at, judged}
-use Rattle.gate.specs.InnerDecisions.{StandsIn, Refuses, Judges, after_entry, Decides, DecidesAs, left_at, left_by, answered_by, Keeps}
+use Rattle.gate.specs.InnerDecisions.{StandsIn, DecidesRequest, Refuses, Judges, after_entry, Decides, DecidesAs, left_at, left_by, answered_by, Keeps}
 use Rattle.gate.proofs.Numbers.{Entered, indexed_by, request_stated, entry_numbered, entry_ten, entry_thirteen, entry_passed, sizes_refuse, orders_refuse, state_decides, never_zero, answer_is}
 
 pub told : (n : ℕ) → invalidates n ≡ true → tells n ≡ true
@@ -171,6 +175,10 @@ module _ (n : ℕ) (id key : List ℕ) (hash : Hash) (reply : List ℕ) (state :
   unfolding answered
   answered_kept z u = rw (ne_eqb n 0 z, u)
 
+pub is_there : (place : Option ℕ) → nowhere place ≡ not (is_some place)
+is_there (Some p) = refl
+is_there None = refl
+
 -- a decision over one record: its place is the first, and an accepted request leaves the record used and its IV as it is
 pub one_kept : (q : Request) (r : Record) (f : Fits r) (d : Decision) → DecidesAs q (indexed (record_bytes r)) d → Keeps d r
 unfolding next_of
@@ -237,6 +245,41 @@ module _ (q : Request) (state : State) where
   reply_room e =
       leb-true _ _ (both (brought_fits q) _ (both (exactly 32 q.server_key) _ (both (lent_fits q) (state_fits state) e).0).1).1
 
+-- sizes that are not those of check 1
+and_false : (b : Bool) → (b && false) ≡ false
+and_false true = refl
+and_false false = refl
+
+module _ (q : Request) (state : State) where
+  pub request_sized : lent_fits q ≡ true → state_fits state ≡ true → request_fits q state ≡ true
+  unfolding request_fits
+  request_sized e f = rw (e, f)
+
+  pub lent_unsized : lent_fits q ≡ false → request_fits q state ≡ false
+  unfolding request_fits
+  lent_unsized e = rw e
+
+  pub state_unsized : state_fits state ≡ false → request_fits q state ≡ false
+  unfolding request_fits
+  state_unsized e = rw e (and_false (lent_fits q))
+
+-- a decision on what the sizes' check told of a request is one on that request
+module _ (o : Orders) (clock : ℕ) (key value method head aside path body reply server_key : List ℕ) (a : Asked)
+    (same : server_key ≡ key) (brings : Brings value method head aside path body a) where
+  abbrev asked_for : Request
+  asked_for = request_of o clock key value method head aside path body reply
+
+  pub the_request : request_by o clock server_key a reply ≡ asked_for
+  the_request = rw (same, brings.value, brings.method, brings.head, brings.aside, brings.path, brings.body)
+
+  pub lent_for : lent_fits asked_for ≡ true → lent_fits (request_by o clock server_key a reply) ≡ true
+  lent_for e = ap lent_fits the_request ∙ e
+
+  pub decided_for : (ordered : Ordered) (state : State) (r : Result Decision Refusal) → DecidesRequest ordered clock server_key a state r
+      → orders_good o ≡ true → OrderedBy o ordered → request_fits asked_for state ≡ true → Decides asked_for state r
+  decided_for ordered state r d good by =
+      subst (λ (q : Request). request_fits q state ≡ true → Decides q state r) the_request (d o reply good by)
+
 pub stands : (q : Request) (table iv : List ℕ) (session : Option Session) → iv ≡ iv_of q → StandsIn table iv session → StandsAt q table session
 stands q table iv (Some s) e h = rw (← e) h
 stands q table iv None e h = rw (← e) h
@@ -246,5 +289,32 @@ pub found_within : (table iv : List ℕ) → Within (places table) (place_of tab
 found_within table iv = by (place_of table iv) refl
   where
     by : (p : Option ℕ) → place_of table iv ≡ p → Within (places table) p
-    by (Some i) e = rw (← length_records table) (found_at (records table) iv i e).within
+    by (Some i) e = rw (← length_records table) (found_at (records table) iv i e).0
     by None e = tt
+
+-- what becomes of the one record of a table
+module _ (d : Decision) (r : Record) (f : Fits r) (h : Keeps d r) (there : nowhere d.place ≡ false) where
+  stored : (place : Option ℕ) (next : Record) → Within 1 place → nowhere place ≡ false → length next.iv ≡ 12
+      → record_bytes next ≡ with_record (record_bytes r) place next
+  stored (Some zero) next w t g = sym (one_stored r next f.iv g)
+  stored (Some (suc k)) next w t g = absurd (omega arith)
+  stored None next w t g = absurd (true≢false t)
+
+  pub one_left : (next : Record) → Fits next → d.outcome ≡ Ok (Some next) → indexed (record_bytes next) ≡ left_by d (indexed (record_bytes r))
+  one_left next g z =
+      let kept = h.next next there z in
+      rw z (ap₂ holding (stored d.place next h.within there g.iv) (one_index r next f g kept.0 kept.1))
+
+  pub one_goes_on : (next : Option Record) (after : Record) → after ≡ unwrap_or next r → Fits after → d.outcome ≡ Ok next
+      → indexed (record_bytes after) ≡ left_by d (indexed (record_bytes r))
+  one_goes_on (Some next) after e g z = rw e (one_left next (rw e at g) z)
+  one_goes_on None after e g z = rw (e, z) refl
+
+  pub one_freed : (e : Refusal) → invalidates (number_of e) ≡ true → d.outcome ≡ Err e → indexed (record_bytes freed) ≡ left_by d (indexed (record_bytes r))
+  one_freed e u z = rw (z, u) (ap indexed (stored d.place freed h.within there refl))
+
+-- the session of an IV, if it is that record's
+pub one_stands : (r : Record) (f : Fits r) (iv : List ℕ) (own : Bool) (session : Option Session) → own ≡ holds iv r
+    → session ≡ then_some own (record { place = 0; «record» = r }) → StandsIn (record_bytes r) iv session
+one_stands r f iv true session o e = rw e (rw (one_found r f iv, ← o), one_record r f)
+one_stands r f iv false session o e = rw e (rw (one_found r f iv, ← o))

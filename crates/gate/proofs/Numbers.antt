@@ -140,6 +140,11 @@ indexed_by state e w i =
     let size = stated state e in
     record { few = omega (arith, size.few); formed = w; fits = i }
 
+pub passed_indexed : (state : State) → state_fits state ≡ true → first (state_checks state) ≡ 0 → Indexed state.table state.index
+passed_indexed state e passed =
+    let told = both (well_formed (records state.table)) (same state.index (index_of (records state.table))) (state_passed state passed) in
+    indexed_by state e told.0 (same_equal _ _ told.1)
+
 pub request_stated : (q : Request) (state : State) → request_fits q state ≡ true → state_fits state ≡ true
 unfolding request_fits
 request_stated q state e = (both (lent_fits q) (state_fits state) e).1

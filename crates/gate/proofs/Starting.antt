@@ -1,6 +1,6 @@
 -- Setting up a session: its checks in the parts that the stages make, what passing them says, and what a decision comes to.
 -- Assumes nothing.
-use mathlib.Core.Path.{◌≡◌, refl, sym, ap, ◌∙◌}
+use mathlib.Core.Path.{◌≡◌, refl, sym, ap, subst, ◌∙◌}
 use mathlib.Core.Bool.{Bool, true, false, cond, not}
 use mathlib.Core.List.{List, [], ◌∷◌, ◌++◌}
 use mathlib.Core.Option.{Option, none, some, get_or}
@@ -11,10 +11,14 @@ use lib.Dec.{leb}
 use lib.ListN.{length}
 use Rattle.cells.specs.Runs.{fronted}
 use Rattle.hashes.specs.declared.Hash.{Hash}
-use Rattle.std.specs.Prelude.{Option as Maybe, Some, None, Result, Ok, Err}
+use Rattle.window.specs.declared.time.Time.{Time}
+use Rattle.std.specs.Prelude.{Option as Maybe, Some, None, Result, Ok, Err, MatchResult, is_some, ok_or}
+use Rattle.table.specs.Table.{places, records, taken, Placed}
+use Rattle.table.specs.Session.{place_of}
 use Rattle.armor.specs.declared.Unread.{Unread}
 use Rattle.armor.specs.InnerAnswers.{setup_from, setup_answer}
-use Rattle.orders.specs.Orders.{orders_good, OrderedBy}
+use Rattle.names.specs.declared.covered.Covered.{Covered}
+use Rattle.orders.specs.Orders.{orders_good, CoveredBy, OrderedBy}
 use Rattle.orders.specs.declared.Limits.{Limits}
 use Rattle.orders.specs.declared.Ordered.{Ordered}
 use Rattle.stages.specs.declared.refusal.Refusal.{Refusal}
@@ -30,15 +34,16 @@ use Rattle.stages.proofs.Checks.{none_holds, passed_by, stopped_by}
 use Rattle.gate.specs.declared.setup.Offer.{Offer}
 use Rattle.gate.specs.declared.lent.Lent.{Lent as LentParts}
 use Rattle.gate.specs.declared.setup.Start.{Start}
-use Rattle.gate.specs.InnerSizes.{SetsUp}
+use Rattle.gate.specs.InnerSizes.{SetsUp, setup_by}
+use Rattle.index.specs.Index.{Indexed}
 use Rattle.stages.proofs.Refusals.{small_number}
 use Rattle.gate.specs.State.{State, outcome, replied}
 use Rattle.gate.specs.Calls.{Setup}
 use Rattle.gate.specs.Sizes.{state_fits, setup_fits}
 use Rattle.gate.specs.Entry.{state_checks}
 use Rattle.gate.specs.Setup.{offered, chosen_of, expiry_of, entry_part, offer_part, lasting_part, room_part, setup_checks, new_token, sealed_of, reply_of, with_session, set_up}
-use Rattle.gate.specs.InnerStarts.{RefusedBy, Lasts, LastsUntil, HasRoom, Starts, StartIs, start_at}
-use Rattle.gate.proofs.Numbers.{Entered, entry_numbered, entry_passed, offer_numbered, sizes_refuse, orders_refuse, state_decides, never_zero, one_number, answer_is}
+use Rattle.gate.specs.InnerStarts.{RefusedBy, Lasts, LastsUntil, HasRoom, Starts, StartIs, DecidesStart, start_at}
+use Rattle.gate.proofs.Numbers.{Entered, indexed_by, entry_numbered, entry_passed, offer_numbered, sizes_refuse, orders_refuse, state_decides, never_zero, one_number, answer_is}
 
 -- reading a value decides 4 and 5, and leaves its mask to 19 and 20
 abbrev Told : ℕ → List Check → List Check → Result ℕ Unread → Type 0
@@ -68,6 +73,22 @@ pub offer_lasts : (s : Setup) (hash : Hash) (end : ℕ) (r : Result Offer Refusa
     → Lasts (offer_part s) hash end r
 offer_lasts s hash end (Ok o) t u = record { none = t ∙ u.none; is = u.is; by = u.by }
 offer_lasts s hash end (Err e) t u = t ∙ u
+
+-- no hash in common
+pub no_common : (t : Bool) (hash : Hash) → None ≡ cond t (Some hash) None → t ≡ false
+no_common true hash e = cc
+no_common false hash e = refl
+
+pub unplaced : (place : Maybe ℕ) → is_some place ≡ false → place ≡ None
+unplaced (Some p) e = cc
+unplaced None e = refl
+
+-- 17 and 18, by the places that are found and to be taken
+pub room_by : (s : Setup) (table : List ℕ) → place_of table s.iv ≡ None → (o : Maybe ℕ) → Placed (taken (records table) s.clock) (places table) o
+    → (r : Result ℕ Refusal) → r ≡ ok_or o R.TableFull → MatchResult r (HasRoom (room_part s table) table s.iv s.clock) (RefusedBy (room_part s table))
+unfolding room_part
+room_by s table new (Some p) h r e = rw e (record { none = simp (new, ← h.is); is = sym h.is; within = h.within; new = new })
+room_by s table new None h r e = rw e (simp (new, ← h.is))
 
 -- what the sizes of a setup say
 pub record Lent (s : Setup) (state : State) : Type 0 where
@@ -134,21 +155,21 @@ module _ (s : Setup) (state : State) where
       pub room_refuses : (e : Refusal) → RefusedBy (room_part s state.table) e → RefusedBy (setup_checks s state) e
       room_refuses e r = later ∙ passed_by (offer_part s) _ (offer_numbered s) offered ∙ r
 
-      pub begins : (r : Offer) → LastsUntil (offer_part s) (chosen_of s) (expiry_of s) r → (place : ℕ) → HasRoom (room_part s state.table) state.table s.iv s.clock place
+      pub begins : (r : Offer) (end : ℕ) → expiry_of s ≡ end → LastsUntil (offer_part s) (chosen_of s) end r → (place : ℕ) → HasRoom (room_part s state.table) state.table s.iv s.clock place
           → Starts s state (record { place = place; hash = r.hash; expiry = r.expiry })
-      begins r l place h = record {
+      begins r end e l place h = record {
         none = later ∙ passed_by (offer_part s) _ (offer_numbered s) l.none ∙ h.none;
         is = h.is;
         within = h.within;
         new = h.new;
         by = l.by;
-        until = l.is;
+        until = l.is ∙ sym e;
       }
 
   -- the outcome of each decision
-  pub starts : (l : LentParts) (r : Start) → SetsUp s l → Starts s state r → start_at s.orders.numbers.mask s.orders.extra l r state.table s.reply ≡ set_up s state
+  pub starts : (covered : Covered) (l : LentParts) (r : Start) → CoveredBy s.orders covered → SetsUp s l → Starts s state r → start_at covered l r state.table s.reply ≡ set_up s state
   unfolding start_at set_up with_session reply_of sealed_of new_token
-  starts l r u h = simp (u.server_key, u.session_key, u.iv, u.session_id, h.by, h.until, h.none, h.is)
+  starts covered l r b u h = simp (b.mask, b.extra, u.server_key, u.session_key, u.iv, u.session_id, h.by, h.until, h.none, h.is)
 
   pub refuses : (e : Refusal) → RefusedBy (setup_checks s state) e → outcome (number_of e) s.reply state ≡ set_up s state
   unfolding set_up
@@ -175,7 +196,26 @@ start_determined s state (Ok a) (Ok b) p q =
     let there : Some a.place ≡ Some b.place = sym p.is ∙ q.is in
     let until : a.expiry ≡ b.expiry = ap (λ (t : ℕ). record { 0 = t }) (p.until ∙ sym q.until) in
     let by : a.hash ≡ b.hash = p.by ∙ sym q.by in
-    cc
+    let place : a.place ≡ b.place = cc in
+    let same : a ≡ b =
+    ap (λ (p : ℕ). record { place = p; hash = a.hash; expiry = a.expiry }) place
+    ∙ ap (λ (h : Hash). record { place = b.place; hash = h; expiry = a.expiry }) by
+    ∙ ap (λ (e : Time). record { place = b.place; hash = b.hash; expiry = e }) until
+    in
+    ap Ok same
 start_determined s state (Ok a) (Err e) p q = absurd (never_zero e (sym q ∙ p.none))
 start_determined s state (Err e) (Ok b) p q = absurd (never_zero e (sym p ∙ q.none))
 start_determined s state (Err d) (Err e) p q = ap Err (one_number d e (sym p ∙ q))
+
+-- a decision on what the sizes' check told of a setup is one on that setup
+pub started_for : (s : Setup) (l : LentParts) (u : SetsUp s l) (ordered : Ordered) (state : State) (r : Result Start Refusal)
+    → DecidesStart ordered s.clock l state r → orders_good s.orders ≡ true → OrderedBy s.orders ordered → setup_fits s state ≡ true → StartIs s state r
+started_for s l u ordered state r d good by =
+    subst (λ (p : Setup). setup_fits p state ≡ true → StartIs p state r) the_setup (d s.orders s.reply good by)
+  where
+    the_setup : setup_by s.orders s.clock l s.reply ≡ s
+    the_setup = rw (u.server_key, u.session_key, u.iv, u.session_id, u.value)
+
+-- past the first checks the index fits
+pub start_indexed : (s : Setup) (state : State) → setup_fits s state ≡ true → first (setup_checks s state) ≡ 0 → Indexed state.table state.index
+start_indexed s state fits begun = let past = opened s state begun in indexed_by state (lent s state fits).kept past.formed past.index

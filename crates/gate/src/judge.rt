@@ -37,10 +37,19 @@ pub fn decide(
 {
     entry::state(table, index)?;
     judged(known, ordered, clock, server_key, asked, |iv| {
-        lookup::find(table, index, iv).map(|place| Session {
-            place,
-            record: session::read(table, place),
-        })
+        found(table, index, iv)
+    })
+}
+
+// The session of an IV, through the index.
+fn found(table: &[u8], index: &[u8], iv: &[u8; 12]) -> Option<Session>
+    requires { Indexed table.now index.now }
+    ensures { StandsIn table.now iv.now result }
+{
+    let place = lookup::find(table, index, iv)?;
+    Some(Session {
+        place,
+        record: session::read(table, place),
     })
 }
 
@@ -53,7 +62,7 @@ pub fn judged<F: Fn(&[u8; 12]) -> Option<Session>>(
     asked: &Asked,
     find: F,
 ) -> Result<Decision, Refusal>
-    requires { F.IsAlwaysCallable find }
+    requires { (iv : _) → F.pre find iv }
     ensures { (table : List ℕ) → ((iv : _) (session : _) → F.post find iv session → StandsIn table iv.now session) → JudgesRequest ordered.now clock.0 server_key.now asked.now table result }
 {
     let mut fields = Fields::new();
@@ -71,9 +80,7 @@ pub fn judged<F: Fn(&[u8; 12]) -> Option<Session>>(
     let token = vouching::unseal(server_key, &fields)?;
     let session = find(&fields.iv);
     let covered = &ordered.covered;
-    let vouched = vouching::vouch(
-        covered, clock, &token, &request, &fields, brought, &notes,
-    );
+    let vouched = vouching::vouch(covered, clock, &token, &request, &fields, brought, &notes);
     Ok(settling::settle(
         covered.mask % 2 == 1,
         clock,

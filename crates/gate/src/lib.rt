@@ -163,7 +163,6 @@ pub fn gate_judge_one<'a>(
     ) else {
         return Refusal::WrongSize.number();
     };
-    let known = names::known();
     let numbers = Numbers {
         mask,
         hashes,
@@ -171,23 +170,17 @@ pub fn gate_judge_one<'a>(
         idle,
         session_life,
     };
-    let Some(ordered) = orders::check(&known, numbers, extra) else {
-        return Refusal::BadOrders.number();
-    };
-    match one::decide(
-        &known,
-        &ordered,
+    let (answer, next) = one::judge(
+        numbers,
+        extra,
         Time(clock),
         server_key,
         &asked,
         *record,
-    ) {
-        Ok(decision) => {
-            *record = one::after(&decision, *record);
-            judge::answer(&decision, reply)
-        }
-        Err(refusal) => refusal.number(),
-    }
+        reply,
+    );
+    *record = next;
+    answer
 }
 
 // Ends the session that has this IV.
@@ -201,7 +194,9 @@ pub fn gate_end(iv: &[u8], table: &mut [u8], index: &mut [u8]) -> u32
 fn end(iv: &[u8], table: &mut [u8], index: &mut [u8]) -> Result<(), Refusal>
     ensures { outcome (number_in result) [] (holding table.new index.new) ≡ ended iv.now (holding table.old index.old) }
 {
-    let iv = <&[u8; 12]>::try_from(iv).map_err(|_| Refusal::WrongSize)?;
+    let Ok(iv) = <&[u8; 12]>::try_from(iv) else {
+        return Err(Refusal::WrongSize);
+    };
     if !sizes::state_fits(table, index) {
         return Err(Refusal::WrongSize);
     }
@@ -247,15 +242,7 @@ pub fn gate_fits<'a>(
 ) -> u32
     ensures { result ≡ tried (trial_of setup_reply.now value.now method.now head.now aside.now path.now body.now) }
 {
-    number(trying::fits(
-        setup_reply,
-        value,
-        method,
-        head,
-        aside,
-        path,
-        body,
-    ))
+    number(trying::fits(setup_reply, value, method, head, aside, path, body))
 }
 
 // The number of a call that writes no reply: 0 where nothing refuses it.

@@ -1,16 +1,20 @@
 // Judging a request over one session's record, as a table of that one record would.
-ghost use Rattle.std.specs.Prelude.{◌≡◌};
+ghost use Rattle.std.specs.Prelude.{◌≡◌, true};
+ghost use Rattle.orders.specs.Orders.{orders};
 ghost use Rattle.table.specs.Record.{record_bytes};
 ghost use Rattle.stages.specs.Checks.{first};
 ghost use Rattle.stages.specs.Refusals.{number_in};
-ghost use Rattle.gate.specs.State.{indexed};
+ghost use Rattle.gate.specs.State.{indexed, outcome};
+ghost use Rattle.gate.specs.Sizes.{lent_fits};
+ghost use Rattle.gate.specs.InnerSizes.{request_by};
+ghost use Rattle.gate.specs.Judge.{judged};
 ghost use Rattle.gate.specs.Entry.{state_checks};
-ghost use Rattle.gate.specs.InnerDecisions.{DecidesRequest, left_by, Keeps};
+ghost use Rattle.gate.specs.InnerDecisions.{StandsIn, DecidesRequest, left_by, Keeps};
 
 use super::asked::Asked;
 use super::judge;
 use names::KnownNames;
-use orders::Ordered;
+use orders::{Numbers, Ordered};
 use stages::admitting::Session;
 use stages::refusal::Refusal;
 use stages::settling::Decision;
@@ -18,7 +22,30 @@ use table::session::Record;
 use table::{rule, session};
 use window::time::Time;
 
-pub fn decide(
+// The answer, and the record after it.
+pub fn judge(
+    numbers: Numbers,
+    extra: &[u8],
+    clock: Time,
+    server_key: &[u8; 32],
+    asked: &Asked,
+    record: Record,
+    reply: &mut [u8],
+) -> (u32, Record)
+    requires { lent_fits (request_by (orders numbers extra.now) clock.0 server_key.now asked.now reply.old) ≡ true }
+    ensures { outcome result.0 reply.new (indexed (record_bytes result.1)) ≡ judged (request_by (orders numbers extra.now) clock.0 server_key.now asked.now reply.old) (indexed (record_bytes «record»)) }
+{
+    let known = names::known();
+    let Some(ordered) = orders::check(&known, numbers, extra) else {
+        return (Refusal::BadOrders.number(), record);
+    };
+    match decide(&known, &ordered, clock, server_key, asked, record) {
+        Ok(decision) => (judge::answer(&decision, reply), after(&decision, record)),
+        Err(refusal) => (refusal.number(), record),
+    }
+}
+
+fn decide(
     known: &KnownNames,
     ordered: &Ordered,
     clock: Time,
@@ -30,8 +57,15 @@ pub fn decide(
 {
     sound(record)?;
     judge::judged(known, ordered, clock, server_key, asked, |iv| {
-        record.is_of(iv).then_some(Session { place: 0, record })
+        found(record, iv)
     })
+}
+
+// The session of an IV, if it is the record's: in a table of its own that stands at the first place.
+fn found(record: Record, iv: &[u8; 12]) -> Option<Session>
+    ensures { StandsIn (record_bytes «record») iv.now result }
+{
+    record.is_of(iv).then_some(Session { place: 0, record })
 }
 
 // Whether a table of this record, beside the index that fits it, is well formed: checks 3 and 22.
@@ -46,7 +80,7 @@ fn sound(record: Record) -> Result<(), Refusal>
 }
 
 // The record after a decision, where it is the session's.
-pub fn after(decision: &Decision, record: Record) -> Record
+fn after(decision: &Decision, record: Record) -> Record
     requires { Keeps decision.now «record» }
     ensures { indexed (record_bytes result) ≡ left_by decision.now (indexed (record_bytes «record»)) }
 {
@@ -54,8 +88,8 @@ pub fn after(decision: &Decision, record: Record) -> Record
         return record;
     }
     match decision.outcome {
-        Ok(Some(next)) => next,
+        Ok(next) => next.unwrap_or(record),
         Err(refusal) if judge::invalidates(refusal) => session::freed(),
-        _ => record,
+        Err(_) => record,
     }
 }

@@ -71,8 +71,12 @@ fn offered(value: &[u8], hashes: u64, clock: Time, life: u32) -> Result<Offer, R
 fn until(mask: u64, hashes: u64, clock: Time, life: u32) -> Result<Offer, Refusal>
     ensures { UntilIs mask hashes (clock.0 + life) result }
 {
-    let hash = Hash::common(mask, hashes).ok_or(Refusal::NoCommonHash)?;
-    let end = clock.0.checked_add(life).ok_or(Refusal::ExpiryTooLate)?;
+    let Some(hash) = Hash::common(mask, hashes) else {
+        return Err(Refusal::NoCommonHash);
+    };
+    let Some(end) = clock.0.checked_add(life) else {
+        return Err(Refusal::ExpiryTooLate);
+    };
     Ok(Offer {
         hash,
         expiry: Time(end),

@@ -26,9 +26,12 @@ pub fn fits<'a>(
 ) -> Result<(), Refusal>
     ensures { number_in result ≡ tried (trial_of setup_reply.now value.now method.now head.now aside.now path.now body.now) }
 {
-    let asked = sizes::trial(setup_reply, value, method, head, aside, path, body)
-        .ok_or(Refusal::WrongSize)?;
-    let reply = reading::read(setup_reply).ok_or(Refusal::BadReply)?;
+    let Some(asked) = sizes::trial(setup_reply, value, method, head, aside, path, body) else {
+        return Err(Refusal::WrongSize);
+    };
+    let Some(reply) = reading::read(setup_reply) else {
+        return Err(Refusal::BadReply);
+    };
     let known = names::known();
     let numbers = Numbers {
         mask: reply.ah,
@@ -37,8 +40,9 @@ pub fn fits<'a>(
         idle: 0,
         session_life: 0,
     };
-    let ordered =
-        orders::check(&known, numbers, reply.eah.as_slice()).ok_or(Refusal::BadReply)?;
+    let Some(ordered) = orders::check(&known, numbers, reply.eah.as_slice()) else {
+        return Err(Refusal::BadReply);
+    };
     against(&known, &ordered, &reply, &asked)
 }
 

@@ -1,22 +1,30 @@
 -- Answers for `gate_judge_one`.
 -- Assumes nothing.
-use Rattle.std.proofs.Common.{rules, sym, ap, ◌∙◌}
+use Rattle.std.proofs.Common.{◌≡◌, sym, ap, ◌∙◌}
+use Rattle.orders.specs.Orders.{orders_of}
+use Rattle.stages.specs.Request.{Request}
+use Rattle.table.specs.Record.{record_bytes}
+use Rattle.gate.specs.State.{indexed}
+use Rattle.gate.specs.Judge.{judged}
+use Rattle.gate.proofs.Judging.{lent_unsized, sizes_judged, the_request, lent_for}
 use Rattle.gate.proofs.gate_judge_one.Goals as goal
 
 pub returns-in_default : goal.returns-in_default
-returns-in_default c = ?
+returns-in_default c =
+    let a = c.args in
+    let o = orders_of a.mask a.hashes a.extra.now a.request_life a.idle a.session_life in
+    rw c.number.ensures (sizes_judged _ _ (lent_unsized _ _ (c.in_default.ensures o a.clock)))
 
-pub returns-in_default-check : goal.returns-in_default-check
-returns-in_default-check c = ?
+pub judge-answer-requires : goal.judge-answer-requires
+judge-answer-requires c =
+    let a = c.args in
+    let o = orders_of a.mask a.hashes a.extra.now a.request_life a.idle a.session_life in
+    let told = c.in-Some.ensures o a.clock in
+    lent_for o a.clock _ _ _ _ _ _ _ a.reply.now _ c.in-Some.asked told.1 told.2 told.0
 
-pub after-requires : goal.after-requires
-after-requires c = ?
-
-pub answer-requires : goal.answer-requires
-answer-requires c = ?
-
-pub returns-in-Ok : goal.returns-in-Ok
-returns-in-Ok c = ?
-
-pub returns-in-Err : goal.returns-in-Err
-returns-in-Err c = ?
+pub returns : goal.returns
+returns c =
+    let a = c.args in
+    let o = orders_of a.mask a.hashes a.extra.now a.request_life a.idle a.session_life in
+    let told = c.in-Some.ensures o a.clock in
+    c.judge-answer.ensures ∙ ap (λ (q : Request). judged q (indexed (record_bytes a.«record».now))) (the_request o a.clock _ _ _ _ _ _ _ a.reply.now _ c.in-Some.asked told.1 told.2)

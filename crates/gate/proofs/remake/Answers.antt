@@ -11,13 +11,13 @@ returns-then-not-state_fits c = simp (sym c.state_fits.ensures ∙ c.if-not-stat
 
 pub returns-then-not-well_formed : goal.returns-then-not-well_formed
 unfolding remade remake_checks
-returns-then-not-well_formed c = simp (sym c.state_fits.ensures ∙ c.if-not-state_fits.false, sym c.well_formed.ensures ∙ c.if-not-well_formed.true)
+returns-then-not-well_formed c = simp (sym c.state_fits.ensures ∙ c.if-not-state_fits.false, sym c.well_formed-2.ensures ∙ c.if-not-well_formed.true)
 
 pub make-requires : goal.make-requires
 make-requires c =
     let size = stated _ (sym c.state_fits.ensures ∙ c.if-not-state_fits.false) in
-    (omega (arith, size.few), size.long, sym c.well_formed.ensures ∙ c.if-not-well_formed.false)
+    (omega (arith, size.few), size.long, sym c.well_formed-2.ensures ∙ c.if-not-well_formed.false)
 
 pub returns : goal.returns
 unfolding remade remake_checks
-returns c = simp (sym c.state_fits.ensures ∙ c.if-not-state_fits.false, sym c.well_formed.ensures ∙ c.if-not-well_formed.false, c.make.ensures)
+returns c = simp (sym c.state_fits.ensures ∙ c.if-not-state_fits.false, sym c.well_formed-2.ensures ∙ c.if-not-well_formed.false, c.make.ensures)

@@ -12,7 +12,7 @@ returns-then-fits c = sym (state_good _ (sym c.fits.ensures ∙ c.if-fits.true))
 
 pub returns-then-well_formed : goal.returns-then-well_formed
 returns-then-well_formed c =
-    sym (state_unindexed _ (sym c.well_formed.ensures ∙ c.if-well_formed.true) (sym c.fits.ensures ∙ c.if-fits.false))
+    sym (state_unindexed _ (sym c.well_formed-2.ensures ∙ c.if-well_formed.true) (sym c.fits.ensures ∙ c.if-fits.false))
 
 pub returns : goal.returns
-returns c = sym (state_unformed _ (sym c.well_formed.ensures ∙ c.if-well_formed.false))
+returns c = sym (state_unformed _ (sym c.well_formed-2.ensures ∙ c.if-well_formed.false))

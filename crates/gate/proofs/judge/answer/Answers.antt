@@ -1,17 +1,22 @@
 -- Answers for `judge::answer`.
 -- Assumes nothing.
+use Rattle.std.specs.Prelude.{Result, Err}
 use Rattle.std.proofs.Common.{◌≡◌, ◌≤◌, length, sym, ap, ◌∙◌, arith}
 use Rattle.hashes.specs.declared.Hash.{Hash}
 use Rattle.hashes.specs.declared.Hash.TheVariants.{Sha256, Sha512}
 use Rattle.cells.specs.Run.{run_of}
 use Rattle.reply.specs.Replies.{invalidation, invalidation_size}
 use Rattle.reply.proofs.Lengths.{length_invalidation}
+use Rattle.stages.specs.declared.refusal.Refusal.{Refusal}
 use Rattle.stages.specs.Refusals.{number_of, number_in}
 use Rattle.stages.proofs.Refusals.{small_number}
 use Rattle.gate.proofs.Numbers.{answer_is, never_zero}
 use Rattle.gate.proofs.Judging.{answered_zero, answered_freed, answered_kept}
 use Rattle.gate.proofs.judge.answer.Goals as goal
 use Rattle.gate.proofs.judge.answer.Goals.{After-number}
+
+same_err : {A : Type 0} {d e : Refusal} → ◌≡◌ {A = Result A Refusal} (Err d) (Err e) → d ≡ e
+same_err p = cc
 
 -- an invalidation is so short that 256 times its length fits 32 bits
 short : (c : After-number) → c.invalidate-len.result ≤ 90
@@ -47,5 +52,5 @@ pub returns-in-Err-2 : goal.returns-in-Err-2
 returns-in-Err-2 c s =
     let d = c.args.decision.now in
     let e : number_in d.outcome ≡ number_of c.in-Err.refusal = ap number_in c.in-Err.is in
-    answer_is _ (number_of c.in-Err.refusal) 0 _ s (omega (arith, c.number-in-Err-2.ensures, ap number_of c.in-Err-2.refusal-is)) (small_number _)
+    answer_is _ (number_of c.in-Err.refusal) 0 _ s (omega (arith, c.number-in-Err-2.ensures, ap number_of (same_err (sym c.in-Err-2.is ∙ c.in-Err.is)))) (small_number _)
     ∙ sym (rw e (answered_kept _ _ _ _ _ s (never_zero _) (sym c.invalidates.ensures ∙ c.if-invalidates.false)))

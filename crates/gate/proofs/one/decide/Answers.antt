@@ -13,5 +13,5 @@ returns-in_err-sound c o reply good by fits =
 
 pub returns : goal.returns
 returns c o reply good by fits =
-    let entered = state_entry _ _ fits good ∙ sym c.in_ok-0.ensures in
-    decided_by _ _ entered (reply_room _ _ fits) (found_within _ _) c.judged.result (c.judged.ensures _ ? o reply by)
+    let entered = state_entry _ _ fits good ∙ sym c.in_ok-sound.ensures in
+    decided_by _ _ entered (reply_room _ _ fits) (found_within _ _) c.judged.result (c.judged.ensures _ (λ iv session p. search rules) o reply by)
