@@ -173,8 +173,7 @@ fn temp(w: [u8; 4], i: usize) -> [u8; 4]
 }
 
 // The schedule of a key.
-pub fn expand(key: &[u8]) -> [u8; 240]
-    requires { length key.now ≡ 32 }
+pub fn expand(key: &[u8; 32]) -> [u8; 240]
     ensures { result ≡ C.key_expansion key.now }
 {
     let mut w = [0; 240];

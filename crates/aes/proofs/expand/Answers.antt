@@ -11,7 +11,7 @@ pub loop-i-init : goal.loop-i-init
 loop-i-init c =
     let key = c.args.key.now in
     let e = c.put_front.ensures in
-    (ap length e ∙ length_fronted key _ (omega arith), ap (take 32) e ∙ begun key _ c.requires)
+    (ap length e ∙ length_fronted key _ (omega arith), ap (take 32) e ∙ begun key _ c.told-key)
 
 pub loop-i-preserved : goal.loop-i-preserved
 unfolding next_word
