@@ -24,8 +24,7 @@ pub fn open(run: &mut [u8], entry: usize)
     ensures { run.new ≡ bytes_of 2 entry ++ take (length run.old - 2) run.old }
 {
     run.copy_within(..run.len() - 2, 2);
-    run[0] = (entry / 256) as u8;
-    run[1] = (entry % 256) as u8;
+    run[..2].copy_from_slice(&(entry as u16).to_be_bytes());
 }
 
 // The first of some entries goes; the others move down by one, and the last is vacant.

@@ -29,7 +29,7 @@ pub fn record_sound(session: Record) -> bool
     if session.used == 0 {
         return session == session::freed();
     }
-    (session.used == 1) & (hashes::names_one(session.hash as u64) & window_sound(session))
+    (session.used == 1) & (hashes::names_one(u64::from(session.hash)) & window_sound(session))
 }
 
 // Whether the record at a place is sound. Of a session with a nonce, the usual one, four bytes are looked at where they lie.
@@ -41,7 +41,7 @@ pub fn sound_at(table: &[u8], place: usize) -> bool
     if (table[at] != 1) | (table[at + 17] != 1) {
         return record_sound(session::read(table, place));
     }
-    hashes::names_one(table[at + 30] as u64) & (table[at + 29] % 2 == 1)
+    hashes::names_one(u64::from(table[at + 30])) & (table[at + 29] % 2 == 1)
 }
 
 // Whether the record at a place is sound, and no record after it has its IV where it is used.

@@ -11,6 +11,6 @@ returns c =
     let a = c.args in
     let one = both_one _ _ c.if-table-at.false in
     ap₂ (λ (s t : Bool). s && t)
-    (c.names_one.ensures ∙ ap names_one (sym (hash_at a.table.now a.place c.requires)))
+    (c.names_one.ensures ∙ ap names_one (c.from.ensures ∙ sym (hash_at a.table.now a.place c.requires)))
     (ap (λ (n : ℕ). eqb n 1) (sym (lowest_at a.table.now a.place c.requires)))
     ∙ sym (sound_usual _ (used_at_lem a.table.now a.place c.requires ∙ one.0) (any_at a.table.now a.place c.requires ∙ one.1))
