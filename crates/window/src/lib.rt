@@ -11,6 +11,7 @@ pub mod time;
 #[derive(Clone, Copy, PartialEq, Eq, PartialOrd, Ord)]
 pub struct Nonce(pub u32);
 
+// Kept: an Option of the rest in the place of `any` may not be: specs/History.antt and its theorems name the three fields.
 #[derive(Clone, Copy)]
 pub struct Window {
     // Whether a nonce was accepted yet.
@@ -20,6 +21,7 @@ pub struct Window {
     pub bits: u64,
 }
 
+// Kept: a Result may not be: specs/Window.antt gives a window beside each verdict, which specs/History.antt goes on from.
 #[derive(Clone, Copy, PartialEq, Eq)]
 pub enum Verdict {
     Accepted,
