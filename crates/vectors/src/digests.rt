@@ -72,8 +72,6 @@ pub fn hmac<W: Write>(
     key: &[u8],
     text: &[u8],
     shown: usize,
-) -> io::Result<()>
-    requires { shown ≤ 64 }
-{
-    print(out, &code(hash, key, text)[..shown])
+) -> io::Result<()> {
+    print(out, &code(hash, key, text)[..shown.min(64)])
 }
