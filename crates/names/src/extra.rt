@@ -5,11 +5,14 @@ ghost use Rattle.names.specs.InnerWalk.{names_left};
 
 use super::{KnownNames, Names, same_name, token};
 
+// Bytes of extra names.
+const MOST: usize = 128;
+
 pub fn good_extra(known: &KnownNames, extra: &[u8]) -> bool
     ensures { result ≡ good_extra extra.now }
 {
     // Saves going through the names of a long run.
-    if 128 < extra.len() {
+    if MOST < extra.len() {
         return false;
     }
     let names = Names::of(extra);

@@ -6,13 +6,13 @@ use Rattle.names.specs.InnerWalk.{names_left}
 use Rattle.names.proofs.Sizes.{few_extra}
 use Rattle.names.proofs.extra.good_extra.Goals as goal
 
-pub returns-then-extra-gt128 : goal.returns-then-extra-gt128
+pub returns-then-extra-gt-MOST : goal.returns-then-extra-gt-MOST
 unfolding good_extra
-returns-then-extra-gt128 c = simp (lt-leb _ _ c.if-extra-gt128.true)
+returns-then-extra-gt-MOST c = simp (lt-leb _ _ c.if-extra-gt-MOST.true)
 
 pub count-requires-clause-fits : goal.count-requires-clause-fits
 count-requires-clause-fits c =
-    let few : length (names_left c.of-names.result) ≤ 129 = omega (arith, few_extra c.args.extra.now, ap length c.of-names.ensures, c.if-extra-gt128.false) in
+    let few : length (names_left c.of-names.result) ≤ 129 = omega (arith, few_extra c.args.extra.now, ap length c.of-names.ensures, c.if-extra-gt-MOST.false) in
     search rules
 
 pub returns : goal.returns
@@ -20,4 +20,4 @@ unfolding good_extra
 returns c =
     let count : c.count.result ≡ length (extra_names c.args.extra.now) =
     count_from_yields_List _ _ c.count.ensures.ran (YieldsList-from_first (λ x. x.now) names_left _ refl) ∙ ap length c.of-names.ensures in
-    simp (c.good_names.ensures, count, c.of-names.ensures, le-leb _ _ c.if-extra-gt128.false)
+    simp (c.good_names.ensures, count, c.of-names.ensures, le-leb _ _ c.if-extra-gt-MOST.false)
