@@ -1,9 +1,9 @@
 -- What the notes on the covered names come to: checks 6 to 8, and the notes for the signature.
 -- Assumes nothing.
-use mathlib.Core.Path.{◌≡◌, sym}
+use mathlib.Core.Path.{◌≡◌}
 use mathlib.Core.Bool.{Bool, true, false, cond, not, and-false}
 use Prim.Native.Nat.{ℕ}
-use Rattle.std.specs.Prelude.{Ok, Err}
+use Rattle.std.specs.Prelude.{Err}
 use Rattle.names.specs.Names.{is_token}
 use Rattle.names.specs.Covered.{covered_names}
 use Rattle.names.specs.declared.covered.Covered.{Covered}

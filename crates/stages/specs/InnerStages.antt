@@ -1,7 +1,7 @@
 -- What the code's stages answer for a request, by the parts of its checks. A stage is lent only what it looks at; what it answers holds
 -- whatever the rest of the request is.
 -- Assumes nothing.
-use Rattle.std.specs.Prelude.{◌≡◌, Bool, not, cond, ◌||◌, List, [], ◌∷◌, ◌++◌, Option, Some, None, Result, Ok, IfOk, OnOk, ℕ, eqb, leb}
+use Rattle.std.specs.Prelude.{◌≡◌, Bool, not, cond, ◌||◌, List, [], ◌∷◌, ◌++◌, Option, Some, None, Result, Ok, IfOk, ℕ, eqb, leb}
 use Rattle.cells.specs.Runs.{same}
 use Rattle.hashes.specs.declared.Hash.{Hash}
 use Rattle.hashes.specs.Hashes.{named}
