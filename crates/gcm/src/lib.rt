@@ -93,35 +93,26 @@ fn pre_counter(iv: &[u8; 12]) -> u128
     u128::from_be_bytes(block)
 }
 
-// A block of text, which may be short, added to the cipher of its counter block.
-fn mask(keys: &[u8; 240], counter: u128, text: &[u8], out: &mut [u8])
-    requires { (length text.now ≤ 16) × (length out.old ≡ length text.now) }
-    ensures { out.new ≡ G.added text.now (cipher keys.now (bytes_of 16 counter)) }
+// The cipher of its counter block added to a block of text, which may be short.
+fn mask(keys: &[u8; 240], counter: u128, text: &mut [u8])
+    requires { length text.old ≤ 16 }
+    ensures { text.new ≡ G.added text.old (cipher keys.now (bytes_of 16 counter)) }
 {
     let stream = aes::encrypt(keys, counter.to_be_bytes());
-    add(text, &stream, out);
-}
-
-// text added to the front of stream.
-fn add(text: &[u8], stream: &[u8; 16], out: &mut [u8])
-    requires { (length text.now ≤ 16) × (length out.old ≡ length text.now) }
-    ensures { out.new ≡ G.added text.now stream.now }
-{
-    for (i, b) in out.iter_mut().enumerate() {
-        *b = text[i] ^ stream[i];
+    for (i, b) in text.iter_mut().enumerate() {
+        *b ^= stream[i];
     }
 }
 
-// GCTR of text, from the counter block first on.
-fn stream(keys: &[u8; 240], first: u128, text: &[u8], out: &mut [u8])
-    requires { length out.old ≡ length text.now }
-    ensures { (key : List ℕ) → keys.now ≡ key_expansion key → out.new ≡ G.gctr key first text.now }
+// GCTR of text in its place, from the counter block first on.
+fn stream(keys: &[u8; 240], first: u128, text: &mut [u8])
+    ensures { (key : List ℕ) → keys.now ≡ key_expansion key → text.new ≡ G.gctr key first text.old }
 {
     let mut counter = first;
     for n in 0..text.len().div_ceil(16) {
         let at = 16 * n;
         let end = text.len().min(at + 16);
-        mask(keys, counter, &text[at..end], &mut out[at..end]);
+        mask(keys, counter, &mut text[at..end]);
         counter = next(counter);
     }
 }
@@ -133,12 +124,13 @@ fn hash_key(keys: &[u8; 240]) -> u128
 }
 
 // The tag of a cipher text.
-fn tag_of(keys: &[u8; 240], iv: &[u8; 12], cipher: &[u8], tag: &mut [u8; 16])
+fn tag_of(keys: &[u8; 240], iv: &[u8; 12], cipher: &[u8]) -> [u8; 16]
     requires { length cipher.now < 2 ^ 61 }
-    ensures { (key : List ℕ) → keys.now ≡ key_expansion key → tag.new ≡ S.tag_of key iv.now [] cipher.now }
+    ensures { (key : List ℕ) → keys.now ≡ key_expansion key → result ≡ S.tag_of key iv.now [] cipher.now }
 {
-    let s = digest(hash_key(keys), cipher).to_be_bytes();
-    stream(keys, pre_counter(iv), &s, tag);
+    let mut tag = digest(hash_key(keys), cipher).to_be_bytes();
+    stream(keys, pre_counter(iv), &mut tag);
+    tag
 }
 
 // text under key and iv into out, and the tag of that.
@@ -147,8 +139,9 @@ pub fn seal(key: &[u8; 32], iv: &[u8; 12], text: &[u8], out: &mut [u8], tag: &mu
     ensures { (out.new ≡ (S.sealed key.now iv.now [] text.now).cipher) × (tag.new ≡ (S.sealed key.now iv.now [] text.now).tag) }
 {
     let keys = aes::expand(key);
-    stream(&keys, next(pre_counter(iv)), text, out);
-    tag_of(&keys, iv, out, tag);
+    out.copy_from_slice(text);
+    stream(&keys, next(pre_counter(iv)), out);
+    *tag = tag_of(&keys, iv, out);
 }
 
 // Why nothing was opened: the tag is not that of the cipher text.
@@ -167,11 +160,10 @@ pub fn unseal(
     ensures { (result ≡ answer (S.opened key.now iv.now [] cipher.now tag.now)) × (out.new ≡ left (S.opened key.now iv.now [] cipher.now tag.now) out.old) }
 {
     let keys = aes::expand(key);
-    let mut right = [0; 16];
-    tag_of(&keys, iv, cipher, &mut right);
-    if !cells::same(tag, &right) {
+    if !cells::same(tag, &tag_of(&keys, iv, cipher)) {
         return Err(WrongTag);
     }
-    stream(&keys, next(pre_counter(iv)), cipher, out);
+    out.copy_from_slice(cipher);
+    stream(&keys, next(pre_counter(iv)), out);
     Ok(())
 }
