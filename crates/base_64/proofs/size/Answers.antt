@@ -21,9 +21,10 @@ loop-group-preserved c =
 
 pub returns-then-not-is_empty : goal.returns-then-not-is_empty
 returns-then-not-is_empty c =
-    let some = c.is_empty-2.ensures in
-    sym (c.loop-group.invariant.is ∙ ap (plus c.loop-group.n) (ends _ false (omega (arith, c.in_default.ensures.cases)) (sym c.if-not-is_empty.true ∙ some)))
+    let left = ends _ false (omega (arith, c.in_default.ensures.cases)) (sym c.if-not-is_empty.true ∙ c.is_empty-2.ensures) in
+    sym (c.loop-group.invariant.is ∙ ap (plus c.loop-group.n) left)
 
 pub returns : goal.returns
 returns c =
-    sym (c.loop-group.invariant.is ∙ ap (plus c.loop-group.n) (ends _ true (omega (arith, c.in_default.ensures.cases)) (sym c.if-not-is_empty.false ∙ c.is_empty-2.ensures)) ∙ ap Some (add-zero _))
+    let left = ends _ true (omega (arith, c.in_default.ensures.cases)) (sym c.if-not-is_empty.false ∙ c.is_empty-2.ensures) in
+    sym (c.loop-group.invariant.is ∙ ap (plus c.loop-group.n) left ∙ ap Some (add-zero _))
