@@ -1,6 +1,6 @@
 -- What the code's own steps take and answer.
 -- Assumes nothing.
-use Rattle.std.specs.Prelude.{ℕ, ◌≤◌, ◌≡◌, List, [], ◌∷◌, ◌++◌, true, false, length, take, Option, None, Some}
+use Rattle.std.specs.Prelude.{ℕ, ◌≤◌, ◌≡◌, List, [], ◌∷◌, ◌++◌, false, length, take, Option, None, Some}
 use Rattle.names.specs.Extra.{extra_names as listed}
 use Rattle.lines.specs.Values.{joined}
 use Rattle.structured.specs.Texts.{quote, string}

@@ -1,6 +1,6 @@
 -- What is lent has not the sizes, is refused, or is signed.
 -- Assumes nothing.
-use Rattle.std.proofs.Common.{◌≡◌, refl, sym, ◌∙◌}
+use Rattle.std.proofs.Common.{refl}
 use Rattle.carrier.specs.Sign.{signed}
 use Rattle.carrier.proofs.Numbers.{sign_unfit, signed_done, signed_refused}
 use Rattle.carrier.proofs.carrier_sign.Goals as goal

@@ -1,6 +1,6 @@
 -- What is lent has not the sizes, is refused, or is verified.
 -- Assumes nothing.
-use Rattle.std.proofs.Common.{refl, sym, ap, ◌∙◌}
+use Rattle.std.proofs.Common.{refl}
 use Rattle.carrier.specs.Verify.{verified}
 use Rattle.carrier.proofs.Numbers.{verify_unfit, verify_long, verify_brief, verify_wide, verify_judged, verified_done, verified_refused}
 use Rattle.carrier.proofs.carrier_verify.Goals as goal

@@ -1,8 +1,7 @@
 -- The base64 of the code fills its array.
 -- Assumes nothing.
-use Rattle.std.proofs.Common.{◌≡◌, refl, arith, length, take}
+use Rattle.std.proofs.Common.{refl, arith}
 use lib.Seq.{length-take-le}
-use Rattle.base_64.specs.Encoding.{encoded}
 use Rattle.signatures.specs.Fields.{signature_value}
 use Rattle.carrier.proofs.Writing.{digest_text}
 use Rattle.carrier.proofs.sign.put_code.Goals as goal

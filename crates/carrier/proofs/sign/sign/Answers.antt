@@ -1,6 +1,6 @@
 -- A refusal of sizes or time, of what is asked, or the two lines.
 -- Assumes nothing.
-use Rattle.std.proofs.Common.{refl, sym, ◌∙◌, arith}
+use Rattle.std.proofs.Common.{refl, sym, ◌∙◌}
 use Rattle.std.proofs.lemmas.Result.{err_from_is_err_and}
 use Rattle.carrier.specs.InnerSteps.{asked_in}
 use Rattle.carrier.proofs.Writing.{text_short, may_be}

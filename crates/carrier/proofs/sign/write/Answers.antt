@@ -1,12 +1,11 @@
 -- Five pieces are laid one after the other, and the code is that of the parameters among them.
 -- Assumes nothing.
-use Rattle.std.proofs.Common.{◌≡◌, refl, sym, ap, ◌∙◌, arith, List, ℕ, [], ◌∷◌, ◌++◌, ◌+◌, length, take, length-append}
+use Rattle.std.proofs.Common.{refl, sym, ap, arith, List, ℕ, [], ◌∷◌, ◌++◌, length, take, length-append}
 use lib.Seq.{length-take-le}
 use Rattle.cells.specs.Text.{codes}
 use Rattle.structured.proofs.Laying.{laying_none, laying_more, laying_all}
-use Rattle.signatures.specs.Base.{base_with, base, code_of}
-use Rattle.signatures.specs.Fields.{input_value, signature_value, field_lines}
-use Rattle.carrier.specs.Sign.{input_of, signature_of, sign_text}
+use Rattle.signatures.specs.Fields.{input_value, field_lines}
+use Rattle.carrier.specs.Sign.{input_of, sign_text}
 use Rattle.carrier.specs.InnerSteps.{asked_in}
 use Rattle.carrier.proofs.Parts.{granted, components}
 use Rattle.carrier.proofs.Writing.{params_short, text_short, text_size, signature_length, may_be, laid_past, coded}

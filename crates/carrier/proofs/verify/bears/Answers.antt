@@ -1,6 +1,6 @@
 -- The array has room for the value.
 -- Assumes nothing.
-use Rattle.std.proofs.Common.{sym, ap, ◌∙◌, arith, List, ℕ, take}
+use Rattle.std.proofs.Common.{sym, ap, ◌∙◌, arith, List, ℕ}
 use lib.Seq.{length-take-le}
 use Rattle.cells.specs.Runs.{same}
 use Rattle.signatures.proofs.Told.{laid_within, laid_front}

@@ -1,6 +1,6 @@
 -- What is laid, and then what is joined from place on, is the text.
 -- Assumes nothing.
-use Rattle.std.proofs.Common.{ℕ, ◌-◌, length}
+use Rattle.std.proofs.Common.{◌-◌, length}
 use Rattle.lines.specs.Values.{joined}
 use Rattle.lines.specs.InnerPlaces.{Stands, own_at}
 use Rattle.structured.proofs.Laying.{Laying}

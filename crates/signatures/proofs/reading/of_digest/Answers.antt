@@ -1,6 +1,6 @@
 -- A text that encodes no bytes encodes no 32.
 -- Assumes nothing.
-use Rattle.std.proofs.Common.{◌≡◌, refl, ap, ◌∙◌, Some}
+use Rattle.std.proofs.Common.{◌≡◌, refl, ◌∙◌, Some}
 use Rattle.std.specs.Option.{option_eq}
 use lib.Dec.{eqb}
 use Rattle.base_64.specs.Decoding.{Decoding, nothing, bytes, decoded}

@@ -2,7 +2,7 @@
 -- Assumes nothing.
 use Rattle.std.proofs.Common.{sym, arith}
 use lib.Seq.{length-take-le}
-use Rattle.signatures.proofs.Told.{Reading, digits_few, list_room, key_room, names_told, key_told, time_told}
+use Rattle.signatures.proofs.Told.{Reading, digits_few, names_told, key_told, time_told}
 use Rattle.signatures.proofs.reading.read_input.Goals as goal
 
 pub overflow_add-created : goal.overflow_add-created

@@ -1,6 +1,6 @@
 -- A derived component's value is what is lent, and a field's that of its lines.
 -- Assumes nothing.
-use Rattle.std.proofs.Common.{refl, ap, arith, sym, ◌∙◌}
+use Rattle.std.proofs.Common.{refl, ap, arith}
 use Rattle.cells.specs.Text.{codes}
 use Rattle.lines.specs.Values.{joined}
 use Rattle.lines.proofs.Joined.{joined_one, own_short}
