@@ -8,12 +8,14 @@ ghost use Rattle.carrier.specs.Sign.{signed};
 ghost use Rattle.carrier.specs.Verify.{verified};
 
 use refusal::Refusal;
+use values::Values;
 
 mod asked;
 mod checks;
 mod refusal;
 mod sign;
 mod sizes;
+mod values;
 mod verify;
 
 const MOST_VALUE: usize = 4096;
@@ -66,7 +68,7 @@ pub fn carrier_verify(
     if MOST_VALUE < input.len() || MOST_VALUE < signature.len() || created.len() != TIME_SIZE {
         return Refusal::BadSize.number();
     }
-    match verify::judge(&asked, input, signature) {
+    match verify::judge(&asked, &Values { input, signature }) {
         Ok(time) => {
             cells::put64(created, 0, time);
             0

@@ -11,31 +11,32 @@ ghost use Rattle.carrier.specs.InnerSteps.{asked_in, VerdictIs};
 use super::asked::Asked;
 use super::refusal::Refusal;
 use super::sign;
+use super::values::Values;
 use signatures::{Input, reading};
 
 // When the signature is said to have been created.
-pub fn judge(asked: &Asked, input: &[u8], signature: &[u8]) -> Result<u64, Refusal>
-    requires { (length input.now ≤ 4096) × (length signature.now ≤ 4096) }
-    ensures { VerdictIs (asked_in asked.now) input.now signature.now result }
+pub fn judge(asked: &Asked, values: &Values) -> Result<u64, Refusal>
+    ensures { VerdictIs (asked_in asked.now) values.now.input.now values.now.signature.now result }
 {
     let mut names_room = [0; 4096];
     let mut key_room = [0; 4096];
-    let told = reading::read_input(input, &mut names_room, &mut key_room);
-    first(asked.check(), check_told(asked, input, signature, &told))?;
-    if !agrees(asked, input, signature, &told) {
+    let told = reading::read_input(values.input, &mut names_room, &mut key_room);
+    first(asked.check(), check_told(asked, values, &told))?;
+    if !agrees(asked, values, &told) {
         return Err(Refusal::BadSignature);
     }
     Ok(told.created)
 }
 
 // What is refused of the two values, the list and the code apart, by what the first tells.
-fn check_told(asked: &Asked, input: &[u8], signature: &[u8], told: &Input) -> Result<(), Refusal>
-    requires { (length input.now ≤ 4096) × (length signature.now ≤ 4096) × Tells input.now told.now }
-    ensures { number_in result ≡ told_number (asked_in asked.now) input.now signature.now }
+fn check_told(asked: &Asked, values: &Values, told: &Input) -> Result<(), Refusal>
+    requires { Tells values.now.input.now told.now }
+    ensures { number_in result ≡ told_number (asked_in asked.now) values.now.input.now values.now.signature.now }
 {
-    let formed = reading::good_input(input, told) & reading::good_signature(signature);
+    let formed = reading::good_input(values.input, told)
+        & reading::good_signature(values.signature);
     let asked_for = cells::same(asked.label, told.label)
-        & (cells::same(asked.label, reading::label_of(signature))
+        & (cells::same(asked.label, reading::label_of(values.signature))
             & cells::same(asked.key_id, told.key_id));
     if !formed {
         return Err(Refusal::Malformed);
@@ -58,13 +59,13 @@ fn first(asked: Result<(), Refusal>, told: Result<(), Refusal>) -> Result<(), Re
 }
 
 // Whether the list is the one that is asked for, and the code that of the message.
-fn agrees(asked: &Asked, input: &[u8], signature: &[u8], told: &Input) -> bool
-    requires { (length input.now ≤ 4096) × Tells input.now told.now × (asked_number (asked_in asked.now) ≡ 0) × (told_number (asked_in asked.now) input.now signature.now ≡ 0) }
-    ensures { result ≡ agrees (asked_in asked.now) input.now signature.now }
+fn agrees(asked: &Asked, values: &Values, told: &Input) -> bool
+    requires { Tells values.now.input.now told.now × (asked_number (asked_in asked.now) ≡ 0) × (told_number (asked_in asked.now) values.now.input.now values.now.signature.now ≡ 0) }
+    ensures { result ≡ agrees (asked_in asked.now) values.now.input.now values.now.signature.now }
 {
-    let params = structured::reading::past(input, asked.label.len() + 1);
+    let params = structured::reading::past(values.input, asked.label.len() + 1);
     let code = signatures::code(&asked.message, asked.names, params, asked.key);
-    cells::same(asked.names, told.names) & bears(asked.label, &code, signature)
+    cells::same(asked.names, told.names) & bears(asked.label, &code, values.signature)
 }
 
 // Whether a value of Signature is the label with a code: every byte is looked at, whatever the others are.

@@ -1,6 +1,6 @@
 -- What the code's own steps read, make and write.
 -- Assumes nothing.
-use Rattle.std.specs.Prelude.{ℕ, ◌+◌, ◌≡◌, Bool, true, false, List, [], ◌∷◌, ◌++◌, length, take, cond, Option, None, Some}
+use Rattle.std.specs.Prelude.{ℕ, ◌≡◌, true, false, List, [], ◌∷◌, ◌++◌, take, Option, None, Some}
 use Rattle.cells.specs.InnerLaid.{Laid}
 use Rattle.cells.specs.Text.{codes}
 use Rattle.cells.specs.Run.{run_of}

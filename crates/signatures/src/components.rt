@@ -13,6 +13,7 @@ use super::message::Message;
 use names::{Names, token};
 
 // Whether method, authority, path and lines are what they are to be.
+// Kept: what may not change (good_message takes parts of any length, and a Message has short ones).
 pub fn good_message(method: &[u8], authority: &[u8], path: &[u8], block: &[u8]) -> bool
     ensures { result ≡ good_message (message_of method.now authority.now path.now block.now) }
 {

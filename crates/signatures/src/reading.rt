@@ -29,6 +29,7 @@ pub fn read_input<'a>(text: &'a [u8], names: &'a mut [u8], key_id: &'a mut [u8])
 }
 
 // Whether a value of Signature-Input is what is written of what it tells.
+// Kept: the new form is no plainer (a type that says what a text tells would hold the text too, and an Input that is written has none).
 pub fn good_input(text: &[u8], told: &Input) -> bool
     requires { (length text.now ≤ 4096) × Tells text.now told.now }
     ensures { result ≡ good_input text.now }

@@ -1,6 +1,6 @@
 -- A state of another size, a reply that is too long, one that no setup writes, or a new session.
 -- Assumes nothing.
-use Rattle.std.proofs.Common.{◌≡◌, refl, sym, ap, ◌∙◌, List, ℕ}
+use Rattle.std.proofs.Common.{◌≡◌, refl, ap, ◌∙◌, List, ℕ}
 use Rattle.std.proofs.lemmas.Result.{err_from_is_err_and}
 use Rattle.cells.specs.Run.{run_of}
 use Rattle.hashes.specs.Hashes.{named}

@@ -1,10 +1,10 @@
 -- No session, no nonce left, a part that no gate would take, or a value and the session after it.
 -- Assumes nothing.
-use Rattle.std.proofs.Common.{◌≡◌, refl, sym, ap, ◌∙◌, arith, List, ℕ, ◌≤◌, Some, take}
+use Rattle.std.proofs.Common.{◌≡◌, refl, sym, ap, ◌∙◌, arith, List, ℕ, ◌≤◌, Some}
 use mathlib.Core.Path.{ap₂, subst}
 use Rattle.std.proofs.lemmas.Result.{err_from_is_err_and}
 use Rattle.scanner.specs.State.{Session, state_of, session_in, good_session}
-use Rattle.scanner.specs.Sign.{Draft, draft_of, draft_good, value_in, advanced, message_in}
+use Rattle.scanner.specs.Sign.{Draft, draft_of, draft_good, value_in, message_in}
 use Rattle.scanner.specs.InnerSteps.{session_at, draft_in, AfterIs, Signs, PutsValue}
 use Rattle.scanner.proofs.States.{tells}
 use Rattle.scanner.proofs.Drafts.{fitting}

@@ -14,8 +14,8 @@ pub code-code-requires : goal.code-code-requires
 code-code-requires c =
     let z = sized_of c.args.asked.now in (
       z.names,
-      components (granted (asked_in c.args.asked.now) c.requires.2),
-      omega (arith, ap length c.past-params.ensures, length-drop (length c.args.asked.now.label.now + 1) c.args.input.now),
+      components (granted (asked_in c.args.asked.now) c.requires.1),
+      omega (arith, ap length c.past-params.ensures, length-drop (length c.args.asked.now.label.now + 1) c.args.values.now.input.now, c.args.values.now.input_fits),
       z.key,
     )
 
@@ -25,7 +25,7 @@ bears-requires c = (sized_of c.args.asked.now).label
 pub returns : goal.returns
 returns c =
     let a = asked_in c.args.asked.now in
-    ap₂ ◌&&◌ (c.same.ensures ∙ ap (same a.names) c.requires.1.names)
-    (c.bears.ensures ∙ ap (λ (d : List ℕ). same (signature_value a.label d) c.args.signature.now)
+    ap₂ ◌&&◌ (c.same.ensures ∙ ap (same a.names) c.requires.0.names)
+    (c.bears.ensures ∙ ap (λ (d : List ℕ). same (signature_value a.label d) c.args.values.now.signature.now)
     (c.code-code.ensures ∙ ap (λ (ps : List ℕ). code_of a.key (base_with a.message a.names ps)) c.past-params.ensures))
-    ∙ sym (agreed (fielded a c.args.input.now c.args.signature.now c.requires.3))
+    ∙ sym (agreed (fielded a c.args.values.now.input.now c.args.values.now.signature.now c.requires.2))

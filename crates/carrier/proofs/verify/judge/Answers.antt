@@ -13,23 +13,23 @@ pub returns-in_err-first : goal.returns-in_err-first
 returns-in_err-first c =
     let refusal = err_from_is_err_and c.from_residual.result c.from_residual.ensures.1 in
     rw (refusal.1, refusal.2)
-    (judged_refused (asked_in c.args.asked.now) c.args.input.now c.args.signature.now
+    (judged_refused (asked_in c.args.asked.now) c.args.values.now.input.now c.args.values.now.signature.now
     (sym (ap₂ first_refusal c.check.ensures c.check_told.ensures) ∙ sym c.in_err-first.ensures) _ refl)
 
 pub agrees-requires : goal.agrees-requires
 agrees-requires c =
     let none = none_refused _ _ (sym (ap₂ first_refusal c.check.ensures c.check_told.ensures) ∙ sym c.in_ok-first.ensures) in
-    (c.requires.0, c.read_input-told.ensures, none.0, none.1)
+    (c.read_input-told.ensures, none.0, none.1)
 
 pub returns-then-not-agrees : goal.returns-then-not-agrees
 returns-then-not-agrees c =
-    judged_agreed (asked_in c.args.asked.now) c.args.input.now c.args.signature.now
+    judged_agreed (asked_in c.args.asked.now) c.args.values.now.input.now c.args.values.now.signature.now
     (sym (ap₂ first_refusal c.check.ensures c.check_told.ensures) ∙ sym c.in_ok-first.ensures) refl
     ∙ rw (← c.agrees.ensures, c.if-not-agrees.true) refl
 
 pub returns : goal.returns
 returns c = (
-  judged_agreed (asked_in c.args.asked.now) c.args.input.now c.args.signature.now
+  judged_agreed (asked_in c.args.asked.now) c.args.values.now.input.now c.args.values.now.signature.now
       (sym (ap₂ first_refusal c.check.ensures c.check_told.ensures) ∙ sym c.in_ok-first.ensures) refl
       ∙ rw (← c.agrees.ensures, c.if-not-agrees.false) refl,
   c.read_input-told.ensures.created,

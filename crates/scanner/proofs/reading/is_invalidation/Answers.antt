@@ -1,7 +1,6 @@
 -- The invalidation is written and compared.
 -- Assumes nothing.
-use Rattle.std.proofs.Common.{◌≡◌, ◌≤◌, sym, ap, ◌∙◌, arith}
-use mathlib.Core.List.{List}
+use Rattle.std.proofs.Common.{◌≤◌, sym, ap, ◌∙◌, arith}
 use lib.ListN.{replicate}
 use lib.Seq.{length-take-le}
 use Rattle.cells.specs.Runs.{same}

@@ -1,11 +1,11 @@
 -- A reply that is laid out as one, and whose orders are good.
 -- Assumes nothing.
-use Rattle.std.proofs.Common.{◌≡◌, refl, sym, ap, ◌∙◌, ℕ, List}
+use Rattle.std.proofs.Common.{◌≡◌, refl, ℕ, List}
 use Rattle.cells.specs.Run.{run_of}
 use Rattle.armor.specs.declared.Reply.{Reply}
 use Rattle.armor.specs.Value.{Field}
 use Rattle.armor.specs.InnerAnswers.{HoldsReply}
-use Rattle.orders.specs.Orders.{orders_of, orders_good}
+use Rattle.orders.specs.Orders.{orders_of}
 use Rattle.reply.specs.LaidOut.{orders_told, is_reply}
 use Rattle.scanner.proofs.reading.reply.Goals as goal
 

@@ -1,7 +1,6 @@
 -- Notes on the head, and then the code of the signed text.
 -- Assumes nothing.
-use Rattle.std.proofs.Common.{◌≡◌, refl, sym, ap, ◌∙◌, arith, length, not, ◌&&◌}
-use Rattle.std.specs.Result.{is_err}
+use Rattle.std.proofs.Common.{refl, sym, ap, ◌∙◌, arith, length}
 use Rattle.names.specs.Covered.{covered_names}
 use Rattle.scanner.specs.Requests.{client_code}
 use Rattle.scanner.specs.Sign.{draft_good}

@@ -1,6 +1,6 @@
 -- Last time and next nonce stand in front of the rest.
 -- Assumes nothing.
-use Rattle.std.proofs.Common.{◌≡◌, ap, ◌∙◌, arith, List, ℕ, length}
+use Rattle.std.proofs.Common.{ap, ◌∙◌, arith, List, ℕ, length}
 use Rattle.cells.specs.Runs.{spliced}
 use Rattle.cells.specs.Numbers.{bytes_of}
 use Rattle.scanner.specs.State.{session_in}

@@ -1,6 +1,6 @@
 -- The fields of token, code and times, those of the orders, and the nonce, one after the other.
 -- Assumes nothing.
-use Rattle.std.proofs.Common.{arith, take}
+use Rattle.std.proofs.Common.{arith}
 use Rattle.scanner.specs.InnerSteps.{session_at}
 use Rattle.scanner.proofs.Values.{laid_value}
 use Rattle.scanner.proofs.writing.put.Goals as goal

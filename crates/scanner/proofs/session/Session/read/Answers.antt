@@ -1,6 +1,6 @@
 -- A state of another size, or with lengths that it has no room for, tells of none, and so does one that would not be written of what it tells.
 -- Assumes nothing.
-use Rattle.std.proofs.Common.{◌≡◌, refl, sym, ap, ◌∙◌, arith, ℕ, List, ◌+◌, length, get_or, take, drop}
+use Rattle.std.proofs.Common.{◌≡◌, refl, ap, ◌∙◌, arith, ℕ, List, ◌+◌, length, get_or, take, drop}
 use lib.Seq.{take-take}
 use borrow.Author.Tests.{eq-eqb, ne_eqb, le-leb, lt-leb}
 use Rattle.scanner.specs.State.{in_session}
