@@ -12,12 +12,14 @@ ghost use Rattle.sha_2.specs.InnerWords.{Fit};
 use crate::word::Word;
 use crate::words::Words;
 
+#[tactic(auto, unfolding(crate::specs::Block::mix))]
 fn mix<W: Word>(w2: W, w7: W, w15: W, w16: W) -> W
     ensures { W.value result ≡ Block.mix W.hash (W.value w2) (W.value w7) (W.value w15) (W.value w16) }
 {
     w2.small_sigma1().add(w7).add(w15.small_sigma0()).add(w16)
 }
 
+#[tactic(auto, unfolding(crate::specs::Block::T1, crate::specs::Block::T2, crate::specs::Block::round_of))]
 fn round<W: Word>(v: Words<W>, k: W, w: W) -> Words<W>
     ensures { numbers W.value result ≡ Block.round_of W.hash (numbers W.value v) (W.value k) (W.value w) }
 {
@@ -67,6 +69,7 @@ fn turn<W: Word>(v: Words<W>, w: &mut [W; 16], t: usize, k: u64) -> Words<W>
 
 // The rounds, each with its constant of 4.2.3, whose first half is that of 4.2.2.
 // Kept: fixed memory: a table of the constants would lie on the stack, 640 bytes in each call.
+#[tactic(auto, using(crate::proofs::Rounds::early), unfolding(crate::specs::Constants::K))]
 fn rounds_0_15<W: Word>(v: Words<W>, w: &mut [W; 16], block: &[u8]) -> Words<W>
     requires { length block.now ≡ Hash.block_size W.hash }
     ensures { (v0 : Numbers) → Turned W.hash block.now v0 0 (numbers W.value v) (map W.value w.old) → Turned W.hash block.now v0 16 (numbers W.value result) (map W.value w.new) }
@@ -90,6 +93,7 @@ fn rounds_0_15<W: Word>(v: Words<W>, w: &mut [W; 16], block: &[u8]) -> Words<W>
     first_turn(v, w, block, 15, 0xc19bf174cf692694)
 }
 
+#[tactic(auto, using(crate::proofs::Rounds::early), unfolding(crate::specs::Constants::K))]
 fn rounds_16_31<W: Word>(v: Words<W>, w: &mut [W; 16]) -> Words<W>
     ensures { (block : List ℕ) (v0 : Numbers) → Turned W.hash block v0 16 (numbers W.value v) (map W.value w.old) → Turned W.hash block v0 32 (numbers W.value result) (map W.value w.new) }
 {
@@ -112,6 +116,7 @@ fn rounds_16_31<W: Word>(v: Words<W>, w: &mut [W; 16]) -> Words<W>
     turn(v, w, 31, 0x142929670a0e6e70)
 }
 
+#[tactic(auto, using(crate::proofs::Rounds::early), unfolding(crate::specs::Constants::K))]
 fn rounds_32_47<W: Word>(v: Words<W>, w: &mut [W; 16]) -> Words<W>
     ensures { (block : List ℕ) (v0 : Numbers) → Turned W.hash block v0 32 (numbers W.value v) (map W.value w.old) → Turned W.hash block v0 48 (numbers W.value result) (map W.value w.new) }
 {
@@ -134,6 +139,7 @@ fn rounds_32_47<W: Word>(v: Words<W>, w: &mut [W; 16]) -> Words<W>
     turn(v, w, 47, 0x106aa07032bbd1b8)
 }
 
+#[tactic(auto, using(crate::proofs::Rounds::early), unfolding(crate::specs::Constants::K))]
 fn rounds_48_63<W: Word>(v: Words<W>, w: &mut [W; 16]) -> Words<W>
     ensures { (block : List ℕ) (v0 : Numbers) → Turned W.hash block v0 48 (numbers W.value v) (map W.value w.old) → Turned W.hash block v0 64 (numbers W.value result) (map W.value w.new) }
 {
@@ -157,6 +163,7 @@ fn rounds_48_63<W: Word>(v: Words<W>, w: &mut [W; 16]) -> Words<W>
 }
 
 // Those of SHA-512 alone.
+#[tactic(auto, unfolding(crate::specs::Constants::K))]
 fn rounds_64_79<W: Word>(v: Words<W>, w: &mut [W; 16]) -> Words<W>
     requires { Block.turns W.hash ≡ 80 }
     ensures { (block : List ℕ) (v0 : Numbers) → Turned W.hash block v0 64 (numbers W.value v) (map W.value w.old) → Turned W.hash block v0 80 (numbers W.value result) (map W.value w.new) }
@@ -180,6 +187,7 @@ fn rounds_64_79<W: Word>(v: Words<W>, w: &mut [W; 16]) -> Words<W>
     turn(v, w, 79, 0x6c44198c4a475817)
 }
 
+#[tactic(auto, unfolding(crate::specs::Block::sum_of))]
 fn sum<W: Word>(v: Words<W>, x: Words<W>) -> Words<W>
     ensures { numbers W.value result ≡ Block.sum_of W.hash (numbers W.value v) (numbers W.value x) }
 {

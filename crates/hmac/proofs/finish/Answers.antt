@@ -1,5 +1,4 @@
-use Rattle.std.proofs.Common.{◌≡◌, ℕ, List, ◌++◌, take, sym, ap, ◌∙◌}
-use Rattle.hashes.specs.declared.Hash.{Hash}
+use Rattle.std.proofs.Common.{◌≡◌, ℕ, List, ◌++◌, take, ap, ◌∙◌}
 use Rattle.hashes.specs.Hashes.{digest_size}
 use Rattle.sha_2.specs.Hash.{block_size, sha2}
 use Rattle.hmac.specs.Hmac.{outer_key, hmac}

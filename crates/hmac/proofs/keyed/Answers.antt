@@ -4,7 +4,6 @@ use Rattle.std.proofs.lemmas.List.{get_or_default, length-take}
 use Rattle.std.proofs.lemmas.List.Edits.{map_over_more}
 use Rattle.sha_2.specs.Hash.{block_size, sha2}
 use Rattle.sha_2.specs.InnerTaken.{Taken}
-use Rattle.sha_2.proofs.Streaming.{counts}
 use Rattle.hmac.specs.Hmac.{key_block, xored}
 use Rattle.hmac.proofs.KeyBlock.{front_xored, xored_all}
 use Rattle.hmac.proofs.keyed.Goals as goal

@@ -1,19 +1,7 @@
-use Rattle.std.proofs.Common.{◌≡◌, ℕ, length, refl, ap, ◌∙◌, arith, rules}
+use Rattle.std.proofs.Common.{◌≡◌, ℕ, length, refl, ap, ◌∙◌, rules}
 use Rattle.cells.specs.Runs.{spliced}
-use Rattle.sha_2.proofs.Streaming.{counts, over, took_complete}
+use Rattle.sha_2.proofs.Streaming.{took_complete}
 use Rattle.sha_2.proofs.State.complete.Goals as goal
-
-pub put_at-requires : goal.put_at-requires
-put_at-requires c =
-    let self = c.args.self.now in
-    let full : length self.tail ≡ 128 = search rules in
-    omega (arith, c.begun-begun.ensures, c.requires.0, (counts self.hash self.length 0).fits)
-
-pub after_blocks-self-requires : goal.after_blocks-self-requires
-after_blocks-self-requires c =
-    let self = c.args.self.now in
-    let full : length self.tail ≡ 128 = search rules in
-    omega (arith, c.put_at.auto, (counts self.hash self.length 0).fits, over self.hash 0 1)
 
 pub returns : goal.returns
 returns c =

@@ -1,13 +1,7 @@
-use Rattle.std.proofs.Common.{◌≡◌, ℕ, length, refl, ap, ◌∙◌, arith, rules}
+use Rattle.std.proofs.Common.{◌≡◌, ℕ, length, refl, ap, ◌∙◌, rules}
 use Rattle.cells.specs.Runs.{spliced}
-use Rattle.sha_2.proofs.Streaming.{counts, took_kept}
+use Rattle.sha_2.proofs.Streaming.{took_kept}
 use Rattle.sha_2.proofs.State.keep.Goals as goal
-
-pub put_at-requires : goal.put_at-requires
-put_at-requires c =
-    let self = c.args.self.now in
-    let full : length self.tail ≡ 128 = search rules in
-    omega (arith, c.begun-begun.ensures, c.requires.0, (counts self.hash self.length 0).fits)
 
 pub returns : goal.returns
 returns c =

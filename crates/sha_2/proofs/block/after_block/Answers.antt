@@ -4,21 +4,6 @@ use Rattle.sha_2.proofs.Rounds.{few, none_turned, all_turned}
 use Rattle.sha_2.proofs.block.after_block.Goals as goal
 use Rattle.sha_2.proofs.block.after_block.Goals.{then-rounds-eq80, else-rounds-eq80}
 
-pub rounds_0_15-x-requires : goal.rounds_0_15-x-requires
-rounds_0_15-x-requires g c = (g.met.W.Word.small, c.requires)
-
-pub rounds_16_31-x-requires : goal.rounds_16_31-x-requires
-rounds_16_31-x-requires g c = g.met.W.Word.small
-
-pub rounds_32_47-x-requires : goal.rounds_32_47-x-requires
-rounds_32_47-x-requires g c = g.met.W.Word.small
-
-pub rounds_48_63-x-requires : goal.rounds_48_63-x-requires
-rounds_48_63-x-requires g c = g.met.W.Word.small
-
-pub rounds_64_79-x-requires : goal.rounds_64_79-x-requires
-rounds_64_79-x-requires g c = (g.met.W.Word.small, sym c.rounds.ensures ∙ c.if-rounds-eq80.true)
-
 pub returns : goal.returns
 returns g c =
     let h = g.W.Word.hash in
