@@ -6,11 +6,14 @@ ghost use Rattle.logs.specs.InnerParts.{word_part, date_part, request_part, stat
 
 use crate::search::find;
 
+// Longer lines are unread.
+const LONGEST: usize = 8192;
+
 // The status that a line goes under; None: unread.
 pub fn status(line: &[u8]) -> Option<usize>
     ensures { GoesUnder line.now result }
 {
-    if line.len() > 8192 {
+    if line.len() > LONGEST {
         return None;
     }
     let ident = past_word(line, 0)?;
@@ -22,6 +25,7 @@ pub fn status(line: &[u8]) -> Option<usize>
 }
 
 // The place after the word that starts at byte at, and a space.
+// Kept: a place beside the line, not the rest of the line: the search goes on from a place, and what a part promises is said of places.
 fn past_word(line: &[u8], at: usize) -> Option<usize>
     requires { at ≤ length line.now }
     ensures { PastIs word_part line.now at result }
@@ -48,6 +52,7 @@ fn past_request(line: &[u8], at: usize) -> Option<usize>
     ensures { PastIs request_part line.now at result }
 {
     let mut i = at + 1;
+    // Kept: a while, since a shielded byte is stepped over with its backslash.
     while i < line.len() {
         if line[i] == b'"' {
             return past_space(line, line[at] == b'"', i + 1);

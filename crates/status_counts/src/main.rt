@@ -41,6 +41,7 @@ fn reason(text: &str) -> &str {
     text.split_once(" (os error ").map_or(text, |(why, _)| why)
 }
 
+// Kept: a function of its own, since a check of what uses the buffer would compute its bytes.
 fn large_buffer() -> [u8; 65536]
     ensures { length result ≡ 65536 }
 {
