@@ -11,7 +11,7 @@ use lib.ListN.{length}
 use Rattle.cells.specs.Runs.{same}
 use Rattle.cells.specs.Numbers.{number}
 use Rattle.cells.proofs.Equality.{same_equal}
-use Rattle.armor.specs.declared.Answer.{Answer}
+use Rattle.std.specs.Prelude.{Ok}
 use Rattle.hashes.specs.Hashes.{hash_mask, digest_size, allowed_one}
 use Rattle.hashes.proofs.Hashes.{named_mask, allowed_names}
 use Rattle.armor.specs.Numerals.{mask_bytes, mask_of}
@@ -31,7 +31,7 @@ use Rattle.stages.specs.Parts.{fields_of, hash_of, nonce_of, time_of, last_time_
 use Rattle.demands.proofs.Shared.Passed.{Passed}
 
 -- the numbers that a good value carries have 32 bits
-small : (v : List ℕ) → request_answer v ≡ Answer.Good → (k : ℕ) → length (the k (carried v)) ≤ 4 → number (the k (carried v)) < 2 ^ 32
+small : (v : List ℕ) → request_answer v ≡ Ok tt → (k : ℕ) → length (the k (carried v)) ≤ 4 → number (the k (carried v)) < 2 ^ 32
 small v good k few = number_small (the k (carried v)) (carried_bytes v (carried v) k (request_given v good).0) few
 
 extra_ordered : (extra : List ℕ) (fs : List Field) → extra_as_ordered extra fs ≡ true → the key_eah fs ≡ extra

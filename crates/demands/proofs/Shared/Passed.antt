@@ -9,7 +9,6 @@ use native.Mathlib.Omega.{arith}
 use borrow.Author.Tests.{not-false, ltb-false}
 use lib.ListN.{length}
 use Rattle.hashes.specs.Hashes.{in_common}
-use Rattle.armor.specs.declared.Answer.{Answer}
 use Rattle.armor.specs.Value.{Field, grammar, carried}
 use Rattle.armor.specs.Fields.{request_fields}
 use Rattle.armor.specs.InnerAnswers.{request_answer}
@@ -18,7 +17,7 @@ use Rattle.armor.proofs.Requests.{request_by}
 use Rattle.orders.specs.Orders.{orders_good}
 use Rattle.names.specs.Names.{is_token}
 use Rattle.lines.specs.Lines.{good_block}
-use Rattle.std.specs.Prelude.{Option as Maybe, Some, None}
+use Rattle.std.specs.Prelude.{Option as Maybe, Some, None, Ok}
 use Rattle.table.specs.Table.{records, taken}
 use Rattle.table.specs.WellFormed.{WellFormed}
 use Rattle.table.proofs.Meaning.{well_formed_is}
@@ -50,14 +49,14 @@ pub record Passed (q : Request) (state : State) : Type 0 where
   pub orders : orders_good q.orders ≡ true
   pub well : WellFormed (records state.table)
   pub index : state.index ≡ index_of (records state.table)
-  pub value : request_answer q.value ≡ Answer.Good
+  pub value : request_answer q.value ≡ Ok tt
   pub lines : (is_token q.method && (good_block q.head && good_block q.aside)) ≡ true
   pub once : (twice q q.head || twice q q.aside) ≡ false
   pub covers : as_ordered q.orders.numbers.hashes q.orders.numbers.mask q.orders.extra (fields_of q) ≡ true
   pub opened : has_token (opened_of q) ≡ true
 
 value_good : (v : List ℕ) (o : Option (List Field)) → grammar v ≡ o → missing o ≡ false → request_fields (carried v) ≡ true
-    → request_answer v ≡ Answer.Good
+    → request_answer v ≡ Ok tt
 value_good v none p m f = absurd (true≢false m)
 value_good v (some fs) p m f = request_by v true (kept_is v fs p) f
 
