@@ -28,9 +28,6 @@ named_parts block at c h =
     let both = (and-eq-true_iff (ltb at c) (eqb (get_or block c 0) colon)).0 h in
     (ltb-true _ _ both.0, eqb-true _ _ both.1)
 
-pub colon_within : (block : List ℕ) (at c : ℕ) → named block at c ≡ true → c < length block
-colon_within block at c h = inside block c (λ z. omega (arith, (named_parts block at c h).1))
-
 -- a token, a colon, bytes of a value, CR and LF are a line
 pub whole : (block : List ℕ) (at c e : ℕ) → Spans token_byte block at c → named block at c ≡ true → Spans value_byte block (c + 1) e
     → ended block e ≡ true → WholeLine block at c e

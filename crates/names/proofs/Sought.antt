@@ -10,7 +10,7 @@ use lib.Dec.{eqb, ltb}
 use lib.ListN.{length, get_or, length-map}
 use Rattle.cells.proofs.Tests.{tested, both}
 use Rattle.names.specs.Names.{lower, same_name}
-use Rattle.names.specs.InnerSheet.{key_of, latest, named, Start, Sheet, BearsNumber}
+use Rattle.names.specs.InnerSheet.{key_of, latest, named, Sheet, BearsNumber}
 use Rattle.names.proofs.Same.{lowered_equal}
 use Rattle.names.proofs.Latest.{latest_few, latest_key, latest_skips}
 
@@ -49,15 +49,9 @@ pub sought_first : {known extra sheet : List ℕ} {ns : List (List ℕ)} (name :
     → Sought ns name (get_or sheet k 0)
 sought_first {ns} name {k} on h = rw (on.heads k h.1, h.0) (sought_below ns name (length ns) (omega arith) (λ j l r. absurd (omega arith)))
 
-pub sought_none : {ns : List (List ℕ)} {name : List ℕ} → Sought ns name 0 → (i : ℕ) → i < length ns → same_name name (get_or ns i []) ≡ false
-sought_none s i = s.passed i (omega arith)
-
 -- what the sheet says of the name that the search has come to
 module _ {known extra sheet : List ℕ} {ns : List (List ℕ)} (on : Sheet known extra sheet ns) {name : List ℕ} {entry : ℕ} (s : Sought ns name entry)
     (some : 1 ≤ entry) where
-  pub sought_start : Start known extra (get_or sheet (128 + (entry - 1)) 0)
-  sought_start = on.starts (entry - 1) (omega (arith, s.within))
-
   bears_is : same_name name (named known extra (get_or sheet (128 + (entry - 1)) 0)) ≡ same_name name (get_or ns (entry - 1) [])
   bears_is = rw (on.names (entry - 1) (omega (arith, s.within)))
 

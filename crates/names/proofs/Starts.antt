@@ -5,7 +5,7 @@ use mathlib.Core.List.{List}
 use Prim.Native.Nat.{ℕ, ◌-◌, ◌≤◌, ◌<◌}
 use native.Mathlib.Omega.{arith}
 use borrow.Author.Tests.{lt-ltb, le-ltb}
-use lib.ListN.{length, take, drop}
+use lib.ListN.{take, drop}
 use Rattle.cells.specs.Spans.{leading, Spans}
 use Rattle.cells.specs.Runs.{cut}
 use Rattle.names.specs.InnerWalk.{no_comma}
@@ -18,15 +18,9 @@ name_cut run at end s =
     let size : end - at ≡ leading no_comma (drop at run) = omega (arith, s.is) in ap (λ (n : ℕ). take n (drop at run)) size
 
 module _ (known extra : List ℕ) (start : ℕ) (h : start < 1024) where
-  pub known_start : Start known extra start → start ≤ length known
-  known_start s = omega (arith, rw (lt-ltb start 1024 h) at s.1)
-
   pub known_named : named known extra start ≡ name_at known start
   known_named = rw (lt-ltb start 1024 h) (ap (name_at known) (omega arith))
 
 module _ (known extra : List ℕ) (start : ℕ) (h : 1024 ≤ start) (s : Start known extra start) where
-  pub extra_start : start - 1024 ≤ length extra
-  extra_start = omega (arith, rw (le-ltb start 1024 h) at s.1)
-
   pub extra_named : named known extra start ≡ name_at extra (start - 1024)
   extra_named = rw (le-ltb start 1024 h) (ap (name_at extra) (omega arith))
