@@ -4,7 +4,7 @@ use Rattle.std.specs.Prelude.{◌≡◌, Bool, true, false, cond, List, ℕ, ◌
 use Rattle.std.specs.Prelude as P
 use Rattle.std.proofs.Math.Option.{Option, none, some}
 use Rattle.cells.specs.Runs.{cut}
-use Rattle.cells.specs.Run.{run_of}
+use Rattle.cells.specs.InnerRun.{run_of}
 use Rattle.cells.specs.Numbers.{number}
 use Rattle.base_64.specs.Encoding.{encoded}
 use Rattle.armor.specs.declared.Unread.{Unread}

@@ -1,7 +1,7 @@
 // What the noted texts of a value hold.
 ghost use Rattle.std.specs.Prelude.{◌≡◌, ◌≤◌, length};
 ghost use Rattle.cells.specs.Runs.{fronted};
-ghost use Rattle.cells.specs.Run.{run_of};
+ghost use Rattle.cells.specs.InnerRun.{run_of};
 ghost use Rattle.cells.specs.Numbers.{number};
 ghost use Rattle.armor.specs.Numerals.{mask_of};
 ghost use Rattle.armor.specs.Keys.{key_eah};

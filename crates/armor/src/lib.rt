@@ -2,7 +2,7 @@
 #![tactic(auto)]
 
 ghost use Rattle.std.specs.Prelude.{◌≡◌, []};
-ghost use Rattle.cells.specs.Run.{run_of};
+ghost use Rattle.cells.specs.InnerRun.{run_of};
 ghost use Rattle.armor.specs.InnerAnswers.{setup_answer, ReadsRequest, ReadsReply};
 
 use cells::Run;

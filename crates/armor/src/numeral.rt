@@ -1,6 +1,6 @@
 // Numbers and masks as bytes.
 ghost use Rattle.std.specs.Prelude.{◌≡◌, ◌+◌, ◌≤◌, length};
-ghost use Rattle.cells.specs.Run.{run_of};
+ghost use Rattle.cells.specs.InnerRun.{run_of};
 ghost use Rattle.cells.specs.Numbers.{number};
 ghost use Rattle.armor.specs.Numerals.{shortest, plain, number_bytes, is_numeral, mask_bytes};
 

@@ -18,7 +18,7 @@ use Rattle.structured.specs.Reading.{last_integer}
 use Rattle.carrier.specs.Asked.{Asked, asked_fits, asked_number, answer}
 use Rattle.carrier.specs.Sign.{sign_fits, sign_number, sign_text, signed}
 use Rattle.carrier.specs.Verify.{verify_fits, told_number, first_refusal, agrees, judged_number, verify_number, verified}
-use Rattle.carrier.specs.Refusals.{number_of}
+use Rattle.carrier.specs.InnerRefusals.{number_of}
 use Rattle.carrier.specs.InnerSteps.{Signs, VerdictIs}
 use Rattle.carrier.specs.declared.refusal.Refusal.{Refusal}
 use Rattle.carrier.specs.declared.refusal.Refusal.TheVariants.{BadSize, Malformed, BadLabel, ListedTwice, MissingField, BadSignature}

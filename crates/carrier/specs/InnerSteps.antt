@@ -9,7 +9,7 @@ use Rattle.signatures.specs.declared.message.Message as M
 use Rattle.carrier.specs.Asked.{Asked, message_fits, asked_fits}
 use Rattle.carrier.specs.Sign.{sign_text, sign_number}
 use Rattle.carrier.specs.Verify.{judged_number}
-use Rattle.carrier.specs.Refusals.{number_of}
+use Rattle.carrier.specs.InnerRefusals.{number_of}
 use Rattle.carrier.specs.declared.asked.Asked as A
 use Rattle.carrier.specs.declared.refusal.Refusal.{Refusal}
 

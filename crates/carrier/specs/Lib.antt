@@ -3,5 +3,5 @@ pub mod Asked
 pub mod Sign
 pub mod Verify
 pub mod Theorems
-pub mod Refusals
+pub mod InnerRefusals
 pub mod InnerSteps

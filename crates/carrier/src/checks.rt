@@ -1,7 +1,7 @@
 // What is refused of what is asked, sizes apart: 2 to 5.
 ghost use Rattle.std.specs.Prelude.{◌≡◌};
 ghost use Rattle.carrier.specs.Asked.{asked_number};
-ghost use Rattle.carrier.specs.Refusals.{number_in};
+ghost use Rattle.carrier.specs.InnerRefusals.{number_in};
 ghost use Rattle.carrier.specs.InnerSteps.{asked_in};
 
 use super::asked::Asked;

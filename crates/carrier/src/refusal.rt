@@ -1,6 +1,6 @@
 // Why a call is refused: docs/CARRIER.md, 'Numbers'.
 ghost use Rattle.std.specs.Prelude.{◌≡◌};
-ghost use Rattle.carrier.specs.Refusals.{number_of};
+ghost use Rattle.carrier.specs.InnerRefusals.{number_of};
 
 // Each is worth its number in the list.
 #[derive(Clone, Copy, Drop, PartialEq, Eq)]

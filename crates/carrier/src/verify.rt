@@ -5,7 +5,7 @@ ghost use Rattle.signatures.specs.Fields.{signature_value};
 ghost use Rattle.signatures.specs.InnerAnswers.{Tells};
 ghost use Rattle.carrier.specs.Asked.{asked_number};
 ghost use Rattle.carrier.specs.Verify.{told_number, first_refusal, agrees};
-ghost use Rattle.carrier.specs.Refusals.{number_in};
+ghost use Rattle.carrier.specs.InnerRefusals.{number_in};
 ghost use Rattle.carrier.specs.InnerSteps.{asked_in, VerdictIs};
 
 use super::asked::Asked;

@@ -1,6 +1,6 @@
 // Numbers in decimal.
 ghost use Rattle.std.specs.Prelude.{◌≡◌};
-ghost use Rattle.cells.specs.Run.{run_of};
+ghost use Rattle.cells.specs.InnerRun.{run_of};
 ghost use Rattle.cells.specs.Decimal.{decimal};
 
 use crate::run::Run;

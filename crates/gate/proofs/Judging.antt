@@ -10,7 +10,7 @@ use lib.Dec.{eqb}
 use lib.ListN.{length, get_or}
 use Rattle.std.specs.Prelude.{Option, Some, None, Result, Ok, Err, IfOk, is_some, unwrap_or}
 use Rattle.std.specs.Bool.{then_some}
-use Rattle.cells.specs.Run.{run_of}
+use Rattle.cells.specs.InnerRun.{run_of}
 use Rattle.hashes.specs.declared.Hash.{Hash}
 use Rattle.reply.specs.Replies.{invalidation}
 use Rattle.cells.proofs.Tests.{both}
@@ -28,7 +28,7 @@ use Rattle.stages.specs.declared.refusal.Refusal.{Refusal}
 use Rattle.stages.specs.declared.refusal.Refusal.TheVariants as R
 use Rattle.stages.specs.declared.admitting.Session.{Session}
 use Rattle.stages.specs.declared.settling.Decision.{Decision}
-use Rattle.stages.specs.Refusals.{number_of, number_in}
+use Rattle.stages.specs.InnerRefusals.{number_of, number_in}
 use Rattle.stages.specs.Request.{Request, request_of}
 use Rattle.stages.specs.Checks.{Check, first, nowhere}
 use Rattle.table.specs.Session.{place_of, held_at, with_record}

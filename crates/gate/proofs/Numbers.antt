@@ -19,7 +19,7 @@ use Rattle.table.specs.WellFormed.{well_formed}
 use Rattle.index.specs.Index.{index_of, Indexed}
 use Rattle.stages.specs.declared.refusal.Refusal.{Refusal}
 use Rattle.stages.specs.declared.refusal.Refusal.TheVariants as R
-use Rattle.stages.specs.Refusals.{number_of}
+use Rattle.stages.specs.InnerRefusals.{number_of}
 use Rattle.stages.specs.Request.{Request}
 use Rattle.stages.specs.Checks.{first}
 use Rattle.stages.specs.Parts.{reading_part, covering_part, token_part, signature_part, session_part, nonce_part}

@@ -23,7 +23,7 @@ use Rattle.orders.specs.declared.Limits.{Limits}
 use Rattle.orders.specs.declared.Ordered.{Ordered}
 use Rattle.stages.specs.declared.refusal.Refusal.{Refusal}
 use Rattle.stages.specs.declared.refusal.Refusal.TheVariants as R
-use Rattle.stages.specs.Refusals.{number_of, RefusedUnread}
+use Rattle.stages.specs.InnerRefusals.{number_of, RefusedUnread}
 use Rattle.armor.specs.Fields.{the, setup_fields}
 use Rattle.armor.specs.Keys.{key_r}
 use Rattle.armor.specs.Numerals.{mask_of}

@@ -8,7 +8,7 @@ use Rattle.cells.specs.Runs.{same}
 use Rattle.armor.specs.Value.{carried}
 use Rattle.armor.specs.declared.Reply.{Reply}
 use Rattle.armor.specs.InnerAnswers.{HoldsReply}
-use Rattle.cells.specs.Run.{run_of}
+use Rattle.cells.specs.InnerRun.{run_of}
 use Rattle.std.specs.Prelude.{Result, ⊤}
 use Rattle.orders.specs.Orders.{orders_of, orders_good, OrderedBy}
 use Rattle.orders.specs.declared.Ordered.{Ordered}
@@ -17,7 +17,7 @@ use Rattle.gate.specs.InnerSizes.{Brings}
 use Rattle.gate.specs.InnerTrials.{AgainstIs}
 use Rattle.reply.specs.LaidOut.{laid_out}
 use Rattle.stages.specs.declared.refusal.Refusal.{Refusal}
-use Rattle.stages.specs.Refusals.{number_of, number_in}
+use Rattle.stages.specs.InnerRefusals.{number_of, number_in}
 use Rattle.stages.specs.Request.{Request, request_of}
 use Rattle.stages.specs.Checks.{first}
 use Rattle.stages.specs.Parts.{fields_of, signature_of, code_under, reading_part}

@@ -1,7 +1,7 @@
 -- What the code decides of a request, and what it then does, by the definitions of Judge.
 -- Assumes nothing.
 use Rattle.std.specs.Prelude.{◌≡◌, Bool, true, false, cond, List, ◌++◌, ℕ, ◌≤◌, length, Option, Some, None, Result, Ok, Err, MatchResult, IfOk}
-use Rattle.cells.specs.Run.{run_of}
+use Rattle.cells.specs.InnerRun.{run_of}
 use Rattle.table.specs.declared.session.Record.{Record}
 use Rattle.table.specs.Record.{freed}
 use Rattle.table.specs.Table.{places, Within}
@@ -10,7 +10,7 @@ use Rattle.index.specs.Index.{Indexed}
 use Rattle.stages.specs.declared.refusal.Refusal.{Refusal}
 use Rattle.stages.specs.declared.admitting.Session.{Session}
 use Rattle.stages.specs.declared.settling.Decision.{Decision}
-use Rattle.stages.specs.Refusals.{number_of, number_in}
+use Rattle.stages.specs.InnerRefusals.{number_of, number_in}
 use Rattle.stages.specs.Request.{Request}
 use Rattle.stages.specs.Checks.{Check, first, nowhere}
 use Rattle.stages.specs.Parts.{iv_of, hash_of, token_of, reading_part, vouching_part, admitting_part, invalidates}

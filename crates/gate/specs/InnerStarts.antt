@@ -19,7 +19,7 @@ use Rattle.gate.specs.Calls.{Setup}
 use Rattle.gate.specs.Sizes.{setup_fits}
 use Rattle.gate.specs.InnerSizes.{setup_by}
 use Rattle.stages.specs.declared.refusal.Refusal.{Refusal}
-use Rattle.stages.specs.Refusals.{number_of}
+use Rattle.stages.specs.InnerRefusals.{number_of}
 use Rattle.stages.specs.Checks.{Check, first}
 use Rattle.gate.specs.State.{State, indexed, Outcome, replied}
 use Rattle.gate.specs.Setup.{offered, chosen_of, expiry_of, lasting_part, offer_part, room_part, setup_checks}

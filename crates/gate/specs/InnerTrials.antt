@@ -8,7 +8,7 @@ use Rattle.armor.specs.InnerAnswers.{Lies, HoldsReply}
 use Rattle.orders.specs.Orders.{OrderedBy}
 use Rattle.orders.specs.declared.Ordered.{Ordered}
 use Rattle.stages.specs.declared.refusal.Refusal.{Refusal}
-use Rattle.stages.specs.Refusals.{number_in}
+use Rattle.stages.specs.InnerRefusals.{number_in}
 use Rattle.stages.specs.Checks.{first}
 use Rattle.stages.specs.Parts.{reading_part}
 use Rattle.gate.specs.declared.asked.Asked.{Asked}

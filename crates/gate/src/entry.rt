@@ -1,7 +1,7 @@
 // What calls look at in the state that they are lent: checks 3 and 22.
 ghost use Rattle.std.specs.Prelude.{◌≡◌, true};
 ghost use Rattle.stages.specs.Checks.{first};
-ghost use Rattle.stages.specs.Refusals.{number_in};
+ghost use Rattle.stages.specs.InnerRefusals.{number_in};
 ghost use Rattle.gate.specs.State.{holding};
 ghost use Rattle.gate.specs.Sizes.{state_fits};
 ghost use Rattle.gate.specs.Entry.{state_checks};

@@ -3,7 +3,7 @@ ghost use Rattle.std.specs.Prelude.{◌≡◌, true, ◌≤◌, List, ℕ, lengt
 ghost use Rattle.table.specs.Table.{places, Within};
 ghost use Rattle.index.specs.Index.{Indexed};
 ghost use Rattle.stages.specs.Parts.{invalidates};
-ghost use Rattle.stages.specs.Refusals.{number_of, number_in};
+ghost use Rattle.stages.specs.InnerRefusals.{number_of, number_in};
 ghost use Rattle.stages.specs.InnerStages.{tells};
 ghost use Rattle.gate.specs.State.{holding};
 ghost use Rattle.gate.specs.Sizes.{state_fits};

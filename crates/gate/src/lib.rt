@@ -7,7 +7,6 @@ ghost use Rattle.std.specs.Prelude.{◌≡◌, []};
 ghost use Rattle.table.specs.Record.{record_bytes};
 ghost use Rattle.orders.specs.Orders.{orders_of};
 ghost use Rattle.stages.specs.Request.{request_of};
-ghost use Rattle.stages.specs.Refusals.{number_in};
 ghost use Rattle.gate.specs.State.{holding, indexed, outcome};
 ghost use Rattle.gate.specs.Calls.{setup_of};
 ghost use Rattle.gate.specs.Setup.{set_up};
@@ -16,10 +15,8 @@ ghost use Rattle.gate.specs.End.{ended};
 ghost use Rattle.gate.specs.Remake.{remade};
 ghost use Rattle.gate.specs.Trial.{trial_of, tried};
 
-use index::{change, lookup};
 use orders::Numbers;
 use stages::refusal::Refusal;
-use table::rule;
 use table::session::Record;
 use window::time::Time;
 
@@ -27,10 +24,12 @@ mod asked;
 mod entry;
 mod judge;
 mod lent;
+mod number;
 mod one;
 mod setup;
 mod sizes;
 mod trying;
+mod upkeep;
 
 // Sets up a session.
 pub fn gate_setup(
@@ -187,47 +186,14 @@ pub fn gate_judge_one<'a>(
 pub fn gate_end(iv: &[u8], table: &mut [u8], index: &mut [u8]) -> u32
     ensures { outcome result [] (holding table.new index.new) ≡ ended iv.now (holding table.old index.old) }
 {
-    number(end(iv, table, index))
-}
-
-// Checks 1, 3, 22 and 12, and the record freed where none of them holds.
-fn end(iv: &[u8], table: &mut [u8], index: &mut [u8]) -> Result<(), Refusal>
-    ensures { outcome (number_in result) [] (holding table.new index.new) ≡ ended iv.now (holding table.old index.old) }
-{
-    let Ok(iv) = <&[u8; 12]>::try_from(iv) else {
-        return Err(Refusal::WrongSize);
-    };
-    if !sizes::state_fits(table, index) {
-        return Err(Refusal::WrongSize);
-    }
-    entry::state(table, index)?;
-    let place = lookup::find(table, index, iv);
-    if place.is_none() {
-        return Err(Refusal::NoSession);
-    }
-    change::free(table, index, place);
-    Ok(())
+    number::of(upkeep::end(iv, table, index))
 }
 
 // Makes the index that fits a table, whatever stands in it.
 pub fn gate_index(table: &[u8], index: &mut [u8]) -> u32
     ensures { outcome result [] (holding table.now index.new) ≡ remade (holding table.now index.old) }
 {
-    number(remake(table, index))
-}
-
-// Checks 1 and 3, and the index made anew where neither holds.
-fn remake(table: &[u8], index: &mut [u8]) -> Result<(), Refusal>
-    ensures { outcome (number_in result) [] (holding table.now index.new) ≡ remade (holding table.now index.old) }
-{
-    if !sizes::state_fits(table, index) {
-        return Err(Refusal::WrongSize);
-    }
-    if !rule::well_formed(table) {
-        return Err(Refusal::BadTable);
-    }
-    change::make(table, index);
-    Ok(())
+    number::of(upkeep::remake(table, index))
 }
 
 // Tries a client: whether its request fits the reply to its setup, and otherwise the first rule that it breaks.
@@ -242,15 +208,5 @@ pub fn gate_fits<'a>(
 ) -> u32
     ensures { result ≡ tried (trial_of setup_reply.now value.now method.now head.now aside.now path.now body.now) }
 {
-    number(trying::fits(setup_reply, value, method, head, aside, path, body))
-}
-
-// The number of a call that writes no reply: 0 where nothing refuses it.
-fn number(done: Result<(), Refusal>) -> u32
-    ensures { result ≡ number_in done }
-{
-    match done {
-        Ok(()) => 0,
-        Err(refusal) => refusal.number(),
-    }
+    number::of(trying::fits(setup_reply, value, method, head, aside, path, body))
 }

@@ -3,7 +3,7 @@ ghost use Rattle.std.specs.Prelude.{◌≡◌, true};
 ghost use Rattle.orders.specs.Orders.{orders};
 ghost use Rattle.table.specs.Record.{record_bytes};
 ghost use Rattle.stages.specs.Checks.{first};
-ghost use Rattle.stages.specs.Refusals.{number_in};
+ghost use Rattle.stages.specs.InnerRefusals.{number_in};
 ghost use Rattle.gate.specs.State.{indexed, outcome};
 ghost use Rattle.gate.specs.Sizes.{lent_fits};
 ghost use Rattle.gate.specs.InnerSizes.{request_by};

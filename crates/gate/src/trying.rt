@@ -1,6 +1,6 @@
 // A request held against the reply to a setup, by the stages that judge a request.
 ghost use Rattle.std.specs.Prelude.{◌≡◌};
-ghost use Rattle.stages.specs.Refusals.{number_in};
+ghost use Rattle.stages.specs.InnerRefusals.{number_in};
 ghost use Rattle.gate.specs.Trial.{trial_of, tried};
 ghost use Rattle.gate.specs.InnerTrials.{SameTokenIs, AgainstIs};
 

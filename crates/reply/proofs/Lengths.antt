@@ -17,7 +17,7 @@ use Rattle.armor.specs.Numerals.{shortest, number_bytes, mask_bytes}
 use Rattle.armor.specs.Value.{Field, field, field_text, following}
 use Rattle.armor.proofs.Numerals.{length_mask_bytes}
 use Rattle.cells.specs.declared.Run.{Run}
-use Rattle.cells.specs.Run.{run_of}
+use Rattle.cells.specs.InnerRun.{run_of}
 use Rattle.reply.specs.Replies.{extra_field, setup_reply, invalidation, invalidation_size}
 use Rattle.reply.proofs.Laying.{setup_fields_lem}
 

@@ -1,7 +1,7 @@
 -- The reply of a setup, by what it carries.
 -- Assumes nothing.
 use Rattle.std.specs.Prelude.{List, ℕ}
-use Rattle.cells.specs.Run.{run_of}
+use Rattle.cells.specs.InnerRun.{run_of}
 use Rattle.hashes.specs.Hashes.{named}
 use Rattle.armor.specs.declared.Reply.{Reply}
 use Rattle.reply.specs.Replies.{setup_reply}

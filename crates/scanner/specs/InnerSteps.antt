@@ -3,7 +3,7 @@
 use Rattle.std.specs.Prelude.{ℕ, ◌≡◌, true, false, List, [], ◌∷◌, ◌++◌, take, Option, None, Some}
 use Rattle.cells.specs.InnerLaid.{Laid}
 use Rattle.cells.specs.Text.{codes}
-use Rattle.cells.specs.Run.{run_of}
+use Rattle.cells.specs.InnerRun.{run_of}
 use Rattle.hashes.specs.declared.Hash.{Hash}
 use Rattle.hashes.specs.Hashes.{digest_size, named}
 use Rattle.armor.specs.declared.Reply.{Reply}

@@ -4,5 +4,5 @@ pub mod State
 pub mod Begin
 pub mod Sign
 pub mod Hear
-pub mod Refusals
+pub mod InnerRefusals
 pub mod InnerSteps

@@ -1,6 +1,6 @@
 // Why a call is refused: docs/SCANNER.md, 'Numbers'.
 ghost use Rattle.std.specs.Prelude.{◌≡◌};
-ghost use Rattle.scanner.specs.Refusals.{number_of};
+ghost use Rattle.scanner.specs.InnerRefusals.{number_of};
 
 // Each is worth its number in the list.
 #[derive(Clone, Copy, Drop, PartialEq, Eq)]

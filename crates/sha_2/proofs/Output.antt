@@ -7,7 +7,7 @@ use Rattle.cells.proofs.Numbers.{bytes_bytes_of, bytes_joined}
 use Rattle.hashes.specs.declared.Hash.{Hash}
 use Rattle.hashes.specs.declared.Hash.TheVariants.{Sha256, Sha512}
 use Rattle.hashes.specs.Hashes.{digest_size}
-use Rattle.sha_2.specs.InnerNumbers.{Numbers}
+use Rattle.sha_2.specs.Numbers.{Numbers}
 use Rattle.sha_2.specs.Word.{width}
 use Rattle.sha_2.specs.Constants.{initial}
 use Rattle.sha_2.specs.Hash.{block_size, padded, after_blocks, digest, sha2}

@@ -3,7 +3,7 @@
 use Rattle.std.proofs.Common.{◌≡◌, ℕ, suc, ◌+◌, ◌-◌, ◌%◌, ◌<◌, ◌≤◌, ◌⊎◌, List, length, get_or, set, sym, refl, ap, ◌∙◌, inl, inr, eq-or-lt_of_le, add-one, arith, length-set, get_or-set_other, get_or-set_same}
 use Rattle.hashes.specs.declared.Hash.{Hash}
 use Rattle.hashes.specs.declared.Hash.TheVariants.{Sha256, Sha512}
-use Rattle.sha_2.specs.InnerNumbers.{Numbers}
+use Rattle.sha_2.specs.Numbers.{Numbers}
 use Rattle.sha_2.specs.Constants.{K}
 use Rattle.sha_2.specs.Block.{turns, M, mix, mixed, schedule, round_of, rounds, sum_of, after_block}
 use Rattle.sha_2.specs.InnerTurned.{Turned}

@@ -6,7 +6,7 @@ use Rattle.cells.specs.Runs.{spliced, part}
 use Rattle.cells.proofs.Runs.{front_spliced}
 use Rattle.hashes.specs.declared.Hash.{Hash}
 use Rattle.hashes.specs.declared.Hash.TheVariants.{Sha256, Sha512}
-use Rattle.sha_2.specs.InnerNumbers.{Numbers}
+use Rattle.sha_2.specs.Numbers.{Numbers}
 use Rattle.sha_2.specs.declared.State.{State}
 use Rattle.sha_2.specs.Constants.{initial}
 use Rattle.sha_2.specs.Block.{after_block}

@@ -3,7 +3,7 @@
 use Rattle.std.specs.Prelude.{ℕ, List, [], ◌∷◌}
 use Rattle.hashes.specs.declared.Hash.{Hash}
 use Rattle.hashes.specs.declared.Hash.TheVariants.{Sha256, Sha512}
-use Rattle.sha_2.specs.InnerNumbers.{Numbers}
+use Rattle.sha_2.specs.Numbers.{Numbers}
 
 -- 4.2.2: the first 32 bits of the fractional parts of the cube roots of the first sixty-four primes; 4.2.3: the first 64 bits, for eighty
 unfoldable pub K : Hash → List ℕ

@@ -5,7 +5,7 @@ use Rattle.cells.specs.Numbers.{bytes_of}
 use Rattle.cells.specs.Runs.{part}
 use Rattle.hashes.specs.declared.Hash.{Hash}
 use Rattle.hashes.specs.declared.Hash.TheVariants.{Sha256, Sha512}
-use Rattle.sha_2.specs.InnerNumbers.{Numbers}
+use Rattle.sha_2.specs.Numbers.{Numbers}
 use Rattle.sha_2.specs.Word.{width}
 use Rattle.sha_2.specs.Constants.{initial}
 use Rattle.sha_2.specs.Block.{after_block}

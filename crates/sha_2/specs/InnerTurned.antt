@@ -2,7 +2,7 @@
 -- Assumes nothing.
 use Rattle.std.specs.Prelude.{◌≡◌, ℕ, ◌+◌, ◌%◌, ◌<◌, ◌≤◌, List, length, slice_index}
 use Rattle.hashes.specs.declared.Hash.{Hash}
-use Rattle.sha_2.specs.InnerNumbers.{Numbers}
+use Rattle.sha_2.specs.Numbers.{Numbers}
 use Rattle.sha_2.specs.Constants.{K}
 use Rattle.sha_2.specs.Block.{turns, schedule, rounds}
 

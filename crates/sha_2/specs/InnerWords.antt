@@ -2,7 +2,7 @@
 -- Assumes nothing.
 use Rattle.std.specs.Prelude.{◌^◌, ◌<◌}
 use Rattle.hashes.specs.declared.Hash.{Hash}
-use Rattle.sha_2.specs.InnerNumbers.{Numbers}
+use Rattle.sha_2.specs.Numbers.{Numbers}
 use Rattle.sha_2.specs.Word.{bits}
 
 -- each is a word of the hash

@@ -5,7 +5,7 @@ ghost use Rattle.hashes.specs.declared.Hash.TheVariants.{Sha512};
 ghost use Rattle.sha_2.specs.Constants as Constants;
 ghost use Rattle.sha_2.specs.Block as Block;
 ghost use Rattle.sha_2.specs.Hash as Hash;
-ghost use Rattle.sha_2.specs.InnerNumbers.{Numbers, numbers};
+ghost use Rattle.sha_2.specs.Numbers.{Numbers, numbers};
 ghost use Rattle.sha_2.specs.InnerTurned.{Turned};
 ghost use Rattle.sha_2.specs.InnerWords.{Fit};
 

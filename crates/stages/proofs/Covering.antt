@@ -13,7 +13,7 @@ use Rattle.lines.specs.declared.remarks.Notes.{Notes}
 use Rattle.coverage.specs.Coverage.{as_ordered}
 use Rattle.orders.specs.Orders.{CoveredBy}
 use Rattle.stages.specs.declared.refusal.Refusal.{Refusal}
-use Rattle.stages.specs.Refusals.{number_of, RefusedUnnoted}
+use Rattle.stages.specs.InnerRefusals.{number_of, RefusedUnnoted}
 use Rattle.stages.specs.Request.{Request}
 use Rattle.stages.specs.Checks.{first}
 use Rattle.stages.specs.Parts.{fields_of, twice, covering_part}

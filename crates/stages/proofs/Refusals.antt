@@ -2,7 +2,7 @@
 -- Assumes nothing.
 use Prim.Native.Nat.{ℕ, ◌≤◌, ◌<◌}
 use native.Mathlib.Omega.{arith}
-use Rattle.stages.specs.Refusals.{number_of}
+use Rattle.stages.specs.InnerRefusals.{number_of}
 use Rattle.stages.specs.declared.refusal.Refusal.{Refusal}
 use Rattle.stages.specs.declared.refusal.Refusal.TheVariants.{WrongSize, BadOrders, BadTable, BadGrammar, WrongFields, BadLines, NameTwice, NotAsOrdered, BadToken, Expired, WrongSignature, NoSession, Idle, TooOld, NonceTooLow, NonceSeen, IvInUse, TableFull, NoCommonHash, ExpiryTooLate, TooFarAhead, BadIndex, BadReply}
 

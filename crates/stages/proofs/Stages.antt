@@ -9,7 +9,7 @@ use native.Mathlib.Omega.{arith}
 use lib.Dec.{eqb, leb}
 use Rattle.std.specs.Prelude.{Result, Ok, Err}
 use Rattle.std.specs.Prelude as P
-use Rattle.cells.specs.Run.{run_of}
+use Rattle.cells.specs.InnerRun.{run_of}
 use Rattle.cells.specs.Runs.{same}
 use Rattle.hashes.specs.declared.Hash.{Hash}
 use Rattle.hashes.specs.Hashes.{hash_mask, named}
@@ -32,8 +32,8 @@ use Rattle.window.specs.Time.{exceeds, most_ahead}
 use Rattle.window.specs.Window.{number_of, step_of}
 use Rattle.stages.specs.declared.refusal.Refusal.{Refusal}
 use Rattle.stages.specs.declared.refusal.Refusal.TheVariants.{BadToken}
-use Rattle.stages.specs.Refusals.{number_in, RefusedUnread}
-use Rattle.stages.specs.Refusals as R
+use Rattle.stages.specs.InnerRefusals.{number_in, RefusedUnread}
+use Rattle.stages.specs.InnerRefusals as R
 use Rattle.stages.specs.Request.{Request}
 use Rattle.names.specs.declared.covered.Covered.{Covered}
 use Rattle.orders.specs.Orders.{CoveredBy}

@@ -25,7 +25,7 @@ use Rattle.table.specs.declared.session.Record.{Record}
 use Rattle.stages.specs.declared.admitting.Session.{Session}
 use Rattle.stages.specs.declared.refusal.Refusal.{Refusal}
 use Rattle.stages.specs.declared.settling.Decision.{Decision}
-use Rattle.stages.specs.Refusals.{number_in}
+use Rattle.stages.specs.InnerRefusals.{number_in}
 use Rattle.stages.specs.Request.{Request, request_of}
 use Rattle.stages.specs.Checks.{Check, check, first}
 use Rattle.stages.specs.Parts.{iv_of, hash_of, nonce_of, time_of, last_time_of, signature_of, opened_of, code_under, token_of, limits, ordered, next_of, covering_part, reading_part, token_part, vouching_part, admitting_part, invalidates}

@@ -1,6 +1,6 @@
 -- What a request lends, its checks from the value on, the refusals' numbers, and what the code's stages answer by them: document 01.
 pub mod Request
 pub mod Checks
-pub mod Refusals
+pub mod InnerRefusals
 pub mod Parts
 pub mod InnerStages

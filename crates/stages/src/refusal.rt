@@ -1,6 +1,6 @@
 // Why a call is refused: document 01, 'The numbers a call returns', and document 02 for 21 to 23.
 ghost use Rattle.std.specs.Prelude.{◌≡◌};
-ghost use Rattle.stages.specs.Refusals.{number_of, RefusedUnread, RefusedUnnoted};
+ghost use Rattle.stages.specs.InnerRefusals.{number_of, RefusedUnread, RefusedUnnoted};
 
 use armor::Unread;
 use lines::noting::Unnoted;

@@ -3,7 +3,7 @@
 use Rattle.std.specs.Prelude.{◌≡◌, true, false, ◌≤◌, length, Some, None}
 use Rattle.std.specs.Prelude.{Option as Answer}
 use Rattle.std.proofs.Math.Option.{Option}
-use Rattle.cells.specs.Run.{run_of}
+use Rattle.cells.specs.InnerRun.{run_of}
 use Rattle.gcm.specs.Gcm.{Sealed}
 use Rattle.token.specs.Token.{Token, has_token, the_token}
 use Rattle.token.specs.declared.Token.{Token as Held}

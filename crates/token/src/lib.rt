@@ -2,7 +2,7 @@
 #![tactic(auto)]
 
 ghost use Rattle.std.specs.Prelude.{◌≡◌, [], ◌∷◌, ◌≤◌, length};
-ghost use Rattle.cells.specs.Run.{run_of};
+ghost use Rattle.cells.specs.InnerRun.{run_of};
 ghost use Rattle.netstring.specs.Netstring.{netstrings};
 ghost use Rattle.token.specs.Token.{token_text, token_in, sealed_token, opened_token};
 ghost use Rattle.token.specs.InnerHeld.{Unseals, SealsTo};

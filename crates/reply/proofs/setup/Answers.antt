@@ -1,7 +1,7 @@
 -- `setup` meets its contract.
 -- Assumes nothing.
 use Rattle.std.proofs.Common.{◌∙◌, zero-add, arith}
-use Rattle.cells.specs.Run.{run_of}
+use Rattle.cells.specs.InnerRun.{run_of}
 use Rattle.cells.proofs.Runs.{spliced_front}
 use Rattle.hashes.specs.Hashes.{named}
 use Rattle.reply.proofs.Laying.{laid_setup}

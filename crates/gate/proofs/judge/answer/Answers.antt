@@ -4,11 +4,11 @@ use Rattle.std.specs.Prelude.{Result, Err}
 use Rattle.std.proofs.Common.{◌≡◌, ◌≤◌, length, sym, ap, ◌∙◌, arith}
 use Rattle.hashes.specs.declared.Hash.{Hash}
 use Rattle.hashes.specs.declared.Hash.TheVariants.{Sha256, Sha512}
-use Rattle.cells.specs.Run.{run_of}
+use Rattle.cells.specs.InnerRun.{run_of}
 use Rattle.reply.specs.Replies.{invalidation, invalidation_size}
 use Rattle.reply.proofs.Lengths.{length_invalidation}
 use Rattle.stages.specs.declared.refusal.Refusal.{Refusal}
-use Rattle.stages.specs.Refusals.{number_of, number_in}
+use Rattle.stages.specs.InnerRefusals.{number_of, number_in}
 use Rattle.stages.proofs.Refusals.{small_number}
 use Rattle.gate.proofs.Numbers.{answer_is, never_zero}
 use Rattle.gate.proofs.Judging.{answered_zero, answered_freed, answered_kept}

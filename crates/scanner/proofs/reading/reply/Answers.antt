@@ -1,7 +1,7 @@
 -- A reply that is laid out as one, and whose orders are good.
 -- Assumes nothing.
 use Rattle.std.proofs.Common.{◌≡◌, refl, ℕ, List}
-use Rattle.cells.specs.Run.{run_of}
+use Rattle.cells.specs.InnerRun.{run_of}
 use Rattle.armor.specs.declared.Reply.{Reply}
 use Rattle.armor.specs.Value.{Field}
 use Rattle.armor.specs.InnerAnswers.{HoldsReply}

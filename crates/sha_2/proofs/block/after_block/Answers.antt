@@ -1,5 +1,5 @@
 use Rattle.std.proofs.Common.{ℕ, List, sym, refl, ◌∙◌}
-use Rattle.sha_2.specs.InnerNumbers.{Numbers, numbers}
+use Rattle.sha_2.specs.Numbers.{Numbers, numbers}
 use Rattle.sha_2.proofs.Rounds.{few, none_turned, all_turned}
 use Rattle.sha_2.proofs.block.after_block.Goals as goal
 use Rattle.sha_2.proofs.block.after_block.Goals.{then-rounds-eq80, else-rounds-eq80}

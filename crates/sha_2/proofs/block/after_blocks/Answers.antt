@@ -3,7 +3,7 @@ use Rattle.std.proofs.lemmas.List.{length_push}
 use Rattle.std.specs.Slice.Iter.{chunks_exact_rest, chunks_exact_size}
 use Rattle.sha_2.specs.Block.{after_block}
 use Rattle.sha_2.specs.Hash.{after_blocks}
-use Rattle.sha_2.specs.InnerNumbers.{Numbers}
+use Rattle.sha_2.specs.Numbers.{Numbers}
 use Rattle.sha_2.proofs.Blocks.{all_left, block_wide, next, done}
 use Rattle.sha_2.proofs.block.after_blocks.Goals as goal
 

@@ -1,7 +1,7 @@
 use Rattle.std.proofs.Common.{◌≡◌, ◌≤◌, length}
 use Rattle.std.specs.Slice.Iter.{chunks_exact_rest, chunks_exact_size}
 use Rattle.sha_2.specs.Hash.{block_size, after_blocks}
-use Rattle.sha_2.specs.InnerNumbers.{numbers}
+use Rattle.sha_2.specs.Numbers.{numbers}
 use Rattle.sha_2.proofs.Blocks.{left}
 use Rattle.sha_2.proofs.block.after_blocks.Given as goal
 

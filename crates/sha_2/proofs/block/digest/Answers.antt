@@ -2,7 +2,7 @@ use Rattle.std.proofs.Common.{◌≡◌, ℕ, ◌*◌, List, ap, ◌∙◌, arit
 use Rattle.cells.specs.Runs.{spliced}
 use Rattle.sha_2.specs.Word.{width}
 use Rattle.sha_2.specs.Hash.{digest}
-use Rattle.sha_2.specs.InnerNumbers.{numbers}
+use Rattle.sha_2.specs.Numbers.{numbers}
 use Rattle.sha_2.proofs.Output.{laid_out_lem}
 use Rattle.sha_2.proofs.block.digest.Goals as goal
 

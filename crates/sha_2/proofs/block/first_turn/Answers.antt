@@ -1,6 +1,6 @@
 use Rattle.std.proofs.Common.{arith, map}
 use Rattle.std.proofs.lemmas.List.{map-set}
-use Rattle.sha_2.specs.InnerNumbers.{numbers}
+use Rattle.sha_2.specs.Numbers.{numbers}
 use Rattle.sha_2.proofs.Rounds.{early, first_turned}
 use Rattle.sha_2.proofs.block.first_turn.Goals as goal
 

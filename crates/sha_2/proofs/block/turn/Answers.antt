@@ -1,6 +1,6 @@
 use Rattle.std.proofs.Common.{◌≡◌, ℕ, ◌-◌, ◌%◌, ◌<◌, List, length, map, get_or, sym, arith}
 use Rattle.std.proofs.lemmas.List.{length-map, map-set, get_or-map}
-use Rattle.sha_2.specs.InnerNumbers.{numbers}
+use Rattle.sha_2.specs.Numbers.{numbers}
 use Rattle.sha_2.proofs.Rounds.{later_turned}
 use Rattle.sha_2.proofs.block.turn.Goals as goal
 

@@ -2,7 +2,7 @@
 -- Assumes nothing.
 use Rattle.std.proofs.Common.{◌≡◌, refl, ap, ◌∙◌, List, ℕ}
 use Rattle.std.proofs.lemmas.Result.{err_from_is_err_and}
-use Rattle.cells.specs.Run.{run_of}
+use Rattle.cells.specs.InnerRun.{run_of}
 use Rattle.hashes.specs.Hashes.{named}
 use Rattle.armor.specs.declared.Reply.{Reply}
 use Rattle.armor.specs.Value.{carried}
@@ -11,7 +11,7 @@ use Rattle.scanner.specs.State.{state_of}
 use Rattle.scanner.specs.Begin.{grant_in, begun_with}
 use Rattle.scanner.specs.InnerSteps.{session_of}
 use Rattle.scanner.proofs.Steps.{refused, begin_size, begin_long, begin_other, begin_done}
-use Rattle.scanner.proofs.begin.Goals as goal
+use Rattle.scanner.proofs.answering.begin.Goals as goal
 
 pub returns-then-state-ne-SIZE : goal.returns-then-state-ne-SIZE
 returns-then-state-ne-SIZE c = begin_size _ _ _ c.if-state-ne-SIZE.true

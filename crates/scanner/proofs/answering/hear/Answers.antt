@@ -8,7 +8,7 @@ use Rattle.scanner.specs.Begin.{answer}
 use Rattle.scanner.specs.Hear.{own_invalidation}
 use Rattle.scanner.proofs.States.{tells}
 use Rattle.scanner.proofs.Steps.{refused, hear_none, hear_other, hear_done}
-use Rattle.scanner.proofs.hear.Goals as goal
+use Rattle.scanner.proofs.answering.hear.Goals as goal
 
 pub returns-in_err-session : goal.returns-in_err-session
 returns-in_err-session c =

@@ -8,8 +8,8 @@ use Rattle.gate.proofs.Numbers.{never_zero, passed_indexed}
 use Rattle.gate.proofs.Judging.{is_there}
 use Rattle.gate.proofs.Starting.{unplaced}
 use Rattle.gate.proofs.Ending.{end_unsized, end_wrong_iv, end_wrong_state, end_sized, end_refused, end_missing, end_freed}
-use Rattle.gate.proofs.end.Goals as goal
-use Rattle.gate.proofs.end.Goals.{In_ok-state}
+use Rattle.gate.proofs.upkeep.end.Goals as goal
+use Rattle.gate.proofs.upkeep.end.Goals.{In_ok-state}
 
 pub returns-in_default : goal.returns-in_default
 returns-in_default c = end_unsized _ _ (end_wrong_iv _ _ c.in_default.ensures.1)

@@ -3,7 +3,7 @@
 use Rattle.std.proofs.Common.{sym, ap, ◌∙◌, arith}
 use Rattle.gate.specs.Remake.{remake_checks, remade}
 use Rattle.gate.proofs.Numbers.{stated}
-use Rattle.gate.proofs.remake.Goals as goal
+use Rattle.gate.proofs.upkeep.remake.Goals as goal
 
 pub returns-then-not-state_fits : goal.returns-then-not-state_fits
 unfolding remade remake_checks

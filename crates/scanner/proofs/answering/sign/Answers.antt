@@ -9,7 +9,7 @@ use Rattle.scanner.specs.InnerSteps.{session_at, draft_in, AfterIs, Signs, PutsV
 use Rattle.scanner.proofs.States.{tells}
 use Rattle.scanner.proofs.Drafts.{fitting}
 use Rattle.scanner.proofs.Steps.{refused, sign_none, sign_last, sign_unfit, sign_bad, sign_done}
-use Rattle.scanner.proofs.sign.Goals as goal
+use Rattle.scanner.proofs.answering.sign.Goals as goal
 
 pub returns-in_err-session-clause-is : goal.returns-in_err-session-clause-is
 returns-in_err-session-clause-is c =
