@@ -1,12 +1,9 @@
 -- A step past a byte, or past two where a backslash shields the second.
 -- Assumes nothing.
-use Rattle.std.proofs.Common.{◌+◌, refl, arith}
+use Rattle.std.proofs.Common.{◌+◌, arith}
 use Rattle.logs.proofs.Parts.{searched_plain, searched_shield, request_past, request_missing}
 use Rattle.logs.proofs.line.past_request.Goals as goal
 use Rattle.logs.proofs.line.past_request.Goals.{then-line-i-eq92, else-line-i-eq92}
-
-pub loop-i-init : goal.loop-i-init
-loop-i-init c = (omega arith, omega arith, λ rest. refl)
 
 pub loop-i-preserved : goal.loop-i-preserved
 loop-i-preserved c =
