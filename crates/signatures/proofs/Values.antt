@@ -62,13 +62,6 @@ pub record Looking (m : Message) (names : List ℕ) (left : List (List ℕ)) (pr
   pub missing : missing m (listed names) ≡ (lacks || missing m left)
 
 module _ {m : Message} {names : List ℕ} where
-  pub looking_first : {left : List (List ℕ)} → left ≡ listed names → Looking m names left true false false
-  looking_first e = record {
-    values = ap (all_printable m) (sym e);
-    twice = ap twice (sym e);
-    missing = ap (missing m) (sym e);
-  }
-
   module _ {name : List ℕ} {left rest : List (List ℕ)} {p t g : Bool} (w : Looking m names left p t g) (e : left ≡ name ∷ rest) where
     -- a name that the message has
     pub looking_some : {buffer : List ℕ} {size : ℕ} {p' t' : Bool} → ValueOf (values_of m name) buffer size → p' ≡ all printable (take size buffer)
