@@ -8,20 +8,13 @@ use Rattle.hashes.specs.declared.Hash.{Hash}
 use Rattle.hashes.specs.Hashes.{digest_size, named}
 use Rattle.armor.specs.declared.Reply.{Reply}
 use Rattle.armor.specs.Numerals.{number_bytes}
-use Rattle.armor.specs.Value.{carried, field, field_text, following}
-use Rattle.armor.specs.InnerAnswers.{HoldsReply}
+use Rattle.armor.specs.Value.{field, field_text, following}
 use Rattle.signed.specs.declared.brought.Brought.{Brought}
-use Rattle.reply.specs.LaidOut.{is_reply}
 use Rattle.window.specs.declared.time.Time.{Time}
 use Rattle.scanner.specs.declared.session.Session as Declared
 use Rattle.scanner.specs.Requests.{Message, client_code, client_value}
 use Rattle.scanner.specs.State.{Session, session_in, in_session}
 use Rattle.scanner.specs.Sign.{Draft, draft_of, draft_fits, draft_good, message_in, advanced}
-
--- a reply, and what it brings if a setup writes such a one
-abbrev pub Brings : List ℕ → Option Reply → Type 0
-Brings text (Some r) = (is_reply text ≡ true) × HoldsReply (carried text) r
-Brings text None = is_reply text ≡ false
 
 -- from its parts
 abbrev pub session_of : ℕ → ℕ → ℕ → Hash → List ℕ → List ℕ → List ℕ → List ℕ → List ℕ → Session

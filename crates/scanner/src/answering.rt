@@ -24,9 +24,16 @@ pub fn begin(time: u32, setup_reply: &[u8], state: &mut [u8]) -> Result<(), Refu
     if MOST_REPLY < setup_reply.len() {
         return Err(Refusal::BadPart);
     }
-    let reply = reading::reply(setup_reply).ok_or(Refusal::NotOurs)?;
+    let brought = reply::reading::read(setup_reply);
+    // Lent as it lies, so that no second reply lies in the call's frame.
+    let Some(reply) = &brought else {
+        return Err(Refusal::NotOurs);
+    };
+    if !reading::are_good(reply.ah, reply.h, reply.eah.as_slice()) {
+        return Err(Refusal::NotOurs);
+    }
     state::clear(state);
-    Session::begun(Time(time), &reply).write(state);
+    Session::begun(Time(time), reply).write(state);
     Ok(())
 }
 

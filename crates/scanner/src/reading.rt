@@ -1,26 +1,11 @@
-// What a gate sends: the reply to a setup, and the invalidation of a session.
-ghost use Rattle.std.specs.Prelude.{◌≡◌, ◌≤◌, length};
+// What a gate sends: the orders of a reply to a setup, and the invalidation of a session.
+ghost use Rattle.std.specs.Prelude.{◌≡◌};
 ghost use Rattle.cells.specs.Runs.{same};
 ghost use Rattle.orders.specs.Orders.{orders_of, orders_good};
 ghost use Rattle.reply.specs.Replies.{invalidation};
-ghost use Rattle.scanner.specs.InnerSteps.{Brings};
 
-use armor::Reply;
 use hashes::Hash;
 use orders::Numbers;
-use reply::reading;
-
-// What the reply to a setup brings, if a setup writes such a one.
-pub fn reply(text: &[u8]) -> Option<Reply>
-    requires { length text.now ≤ 459 }
-    ensures { Brings text.now result }
-{
-    let reply = reading::read(text)?;
-    if !are_good(reply.ah, reply.h, reply.eah.as_slice()) {
-        return None;
-    }
-    Some(reply)
-}
 
 // Whether orders with these masks and extra names, and each limit at its default, are good.
 pub fn are_good(mask: u64, hashes: u64, extra: &[u8]) -> bool
