@@ -55,6 +55,7 @@ fn mix_column(w: [u8; 4]) -> [u8; 4]
 }
 
 // Column c after 5.1.1 and 5.1.2.
+// Kept: c < 4, here and in the next two, is what an index of the four columns asks.
 fn shifted(s: &[[u8; 4]; 4], c: usize) -> [u8; 4]
     requires { c < 4 }
     ensures { result ≡ shifted_word s.now c }

@@ -18,6 +18,7 @@ use window::Nonce;
 use window::time::Time;
 
 // Whether each key, n apart, stands as often as in a request.
+// Kept: beside reply_times_good: each is a definition of specs/Fields.antt line for line, and a table of numbers by key would be no plainer.
 fn times_good(seen: &Seen) -> bool
     ensures { result ≡ right_times (count_in seen.now) }
 {

@@ -93,6 +93,7 @@ pub fn read_setup(value: &[u8]) -> Result<u64, Unread>
 }
 
 // What a request carries, its byte fields in their places.
+// Kept: the fields are lent and no part of the answer: each function that hands them on would add their size to the stack, on which gate has a bound.
 pub fn read_request(value: &[u8], fields: &mut Fields) -> Result<Request, Unread>
     ensures { ReadsRequest value.now fields.new result }
 {

@@ -4,6 +4,7 @@ ghost use Rattle.std.specs.Prelude.{◌≡◌, ◌+◌, min};
 use super::Span;
 
 // How often a key was seen, up to two, and where the text of its last field stands.
+// Kept: a number and not an enum of none, one and several: right_times (specs/Fields.antt) compares how often a key stands.
 #[derive(Clone, Copy)]
 pub struct Tally {
     pub count: u8,

@@ -13,6 +13,7 @@ const ALPHABET: [u8; 64] = [
 ];
 
 // The six-bit values by their characters, and 64 for a byte that is none.
+// Kept: 64 and not None: six_bits (specs/Alphabet.antt) gives 64, and a table of Option<u8> takes twice the bytes of the stack.
 const REVERSE: [u8; 256] = [
     64, 64, 64, 64, 64, 64, 64, 64, 64, 64, 64, 64, 64, 64, 64, 64, 64, 64, 64, 64, 64, 64, 64, 64,
     64, 64, 64, 64, 64, 64, 64, 64, 64, 64, 64, 64, 64, 64, 64, 64, 64, 64, 64, 62, 64, 64, 64, 63,

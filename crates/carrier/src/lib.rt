@@ -23,6 +23,7 @@ const MOST_VALUE: usize = 4096;
 const TIME_SIZE: usize = 8;
 
 // Writes the fields Signature-Input and Signature of a message to the front of out. The answer is the number plus 256 times their length.
+// Kept: the C interface, in both calls: parts by themselves, and a number as the answer.
 pub fn carrier_sign(
     method: &[u8],
     authority: &[u8],

@@ -26,6 +26,7 @@ pub fn sign(asked: &Asked, created: u64, out: &mut [u8]) -> Result<usize, Refusa
     Ok(write(asked, created, out))
 }
 
+// Kept: that out has 4096 bytes as a clause: it is the C interface's buffer, and a slice has no type with a least length.
 fn write(asked: &Asked, created: u64, out: &mut [u8]) -> usize
     requires { (created ≤ last_integer) × (4096 ≤ length out.old) × (asked_number (asked_in asked.now) ≡ 0) }
     ensures { Laid out.old out.new 0 result (sign_text (asked_in asked.now) created) }

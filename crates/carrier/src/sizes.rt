@@ -47,6 +47,7 @@ fn message<'a>(
 }
 
 // What both calls are lent, if it has the sizes.
+// Kept: the C interface: what comes in by itself becomes a struct here.
 #[tactic(auto, unfolding(crate::specs::Asked::asked_fits))]
 pub fn asked<'a>(
     method: &'a [u8],

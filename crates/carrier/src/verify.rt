@@ -48,6 +48,7 @@ fn check_told(asked: &Asked, values: &Values, told: &Input) -> Result<(), Refusa
 }
 
 // The refusal with the lower number.
+// Kept: by number and not a derived order: first_refusal is said of numbers, and 0, which refuses nothing, is not the least.
 fn first(asked: Result<(), Refusal>, told: Result<(), Refusal>) -> Result<(), Refusal>
     ensures { number_in result ≡ first_refusal (number_in asked) (number_in told) }
 {

@@ -6,6 +6,7 @@ ghost use Rattle.cells.specs.Decimal.{decimal};
 use crate::run::Run;
 
 // The decimal digits of a number.
+// Kept: a while from the last digit on: where the first one stands shows only as they are made, and there is no heap for a text.
 pub fn digits(n: u64) -> Run<20>
     ensures { run_of result ≡ decimal n }
 {

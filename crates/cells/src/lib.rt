@@ -14,6 +14,7 @@ mod run;
 pub use run::Run;
 
 // The number of four bytes of s from byte at on.
+// Kept: two loads and two puts, one for each width: std has a conversion for each type, and a trait of ours over the two would be longer.
 pub fn load32(s: &[u8], at: usize) -> u32
     requires { at + 4 ≤ length s.now }
     ensures { result ≡ number (part s.now at 4) }
@@ -63,6 +64,7 @@ pub fn put_front(out: &mut [u8], src: &[u8])
 }
 
 // src from byte at of out on, and the place after it; every other byte stays.
+// Kept: a buffer and a place in it, and the place after as the answer: there is no heap, and parts are laid side by side by one law (Laid).
 pub fn put_at(out: &mut [u8], at: usize, src: &[u8]) -> usize
     requires { at + length src.now ≤ length out.old }
     ensures { Laid out.old out.new at result src.now }
@@ -73,6 +75,7 @@ pub fn put_at(out: &mut [u8], at: usize, src: &[u8]) -> usize
 }
 
 // Whether each byte of a run passes. Each is looked at, so that the compiler can look at many at once.
+// Kept: not Iterator::all, which stops at the first byte that fails, so that the compiler could not look at many at once.
 pub fn all<F: Fn(u8) -> bool>(run: &[u8], passes: F) -> bool
     requires { F.IsAlwaysCallable passes }
     ensures { (p : ℕ → Bool) → ((b : ℕ) (r : Bool) → b < 256 → F.post passes b r → r ≡ p b) → result ≡ all p run.now }
@@ -85,6 +88,7 @@ pub fn all<F: Fn(u8) -> bool>(run: &[u8], passes: F) -> bool
 }
 
 // Where the bytes that pass end that start at byte at.
+// Kept: a range and not position, since the place is one of the whole run; that at is within the run is what an index of a slice asks.
 pub fn end<F: Fn(u8) -> bool>(run: &[u8], at: usize, passes: F) -> usize
     requires callable { F.IsAlwaysCallable passes }
     requires within { at ≤ length run.now }
@@ -99,6 +103,7 @@ pub fn end<F: Fn(u8) -> bool>(run: &[u8], at: usize, passes: F) -> usize
 }
 
 // The same of a run of which most bytes pass: the compiler looks at sixteen at once.
+// Kept: beside end, which goes byte by byte: short runs lose by sixteens, and long ones gain (docs/SPEED.md).
 pub fn end_by_sixteens<F: Fn(u8) -> bool + Copy>(run: &[u8], at: usize, passes: F) -> usize
     requires callable { F.IsAlwaysCallable passes }
     requires within { at ≤ length run.now }
@@ -115,6 +120,7 @@ pub fn end_by_sixteens<F: Fn(u8) -> bool + Copy>(run: &[u8], at: usize, passes: 
 }
 
 // Whether two runs are the same. Of runs of one length every byte is looked at, whatever the others are.
+// Kept: not ==, which may stop at the first difference; an index and not zip: tried, and the check did not see which bytes a turn of a zip has.
 pub fn same(a: &[u8], b: &[u8]) -> bool
     ensures { result ≡ R.same a.now b.now }
 {

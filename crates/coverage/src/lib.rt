@@ -15,7 +15,7 @@ use armor::{Request, Span};
 use hashes::Hash;
 
 // Whether h of a request is one that the orders allow, c as long as its digests, and ah and eah those that the orders say, byte for byte.
-// Kept: that extra has at most 128 bytes is a clause; the type that says it, names::Covered, says more, which would ask more of callers.
+// Kept: extra's length as a clause: names::Covered says more, and a function that docs/CONTRACTS.md names may not ask more.
 pub fn as_ordered(
     value: &[u8],
     request: &Request,

@@ -23,6 +23,7 @@ use stages::{reading, settling, vouching};
 use table::session;
 use window::time::Time;
 
+// Kept: known, orders, clock and key come from four places, and decide and judged alone take them together.
 pub fn decide(
     known: &KnownNames,
     ordered: &Ordered,
@@ -42,6 +43,7 @@ pub fn decide(
 }
 
 // The session of an IV, through the index.
+// Kept: Indexed as a clause: see index::lookup::find.
 fn found(table: &[u8], index: &[u8], iv: &[u8; 12]) -> Option<Session>
     requires { Indexed table.now index.now }
     ensures { StandsIn table.now iv.now result }
@@ -112,6 +114,7 @@ pub fn apply(decision: &Decision, table: &mut [u8], index: &mut [u8])
 }
 
 // The reply of a decision, and its answer.
+// Kept: the C interface: number plus 256 times the reply's length.
 pub fn answer(decision: &Decision, reply: &mut [u8]) -> u32
     requires { tells (number_in decision.now.outcome) ≡ true → 1024 ≤ length reply.old }
     ensures { AnswerIs decision.now reply.old reply.new result }

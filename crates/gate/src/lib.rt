@@ -32,6 +32,7 @@ mod trying;
 mod upkeep;
 
 // Sets up a session.
+// Kept: the C interface, in every call here: parts by themselves, and a number as the answer.
 pub fn gate_setup(
     mask: u64,
     hashes: u64,

@@ -113,7 +113,7 @@ pub fn apply(
         lent.session_id,
         start.expiry,
     );
-    // Kept: no plainer, since an array of a struct goes into another by a variable of its own.
+    // Kept: a variable: an array goes out of one struct into another by one of its own.
     let tag = sealed.tag;
     let told = Reply {
         s: sealed.s,

@@ -48,6 +48,7 @@ pub fn state_fits(table: &[u8], index: &[u8]) -> bool
 }
 
 // What sets up a session.
+// Kept: the C interface, here and in the next functions: what comes in by itself becomes a struct here.
 #[tactic(auto, unfolding(crate::specs::Sizes::setup_fits))]
 pub fn setup<'a>(
     server_key: &'a [u8],

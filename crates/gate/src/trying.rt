@@ -15,6 +15,7 @@ use stages::refusal::Refusal;
 use stages::vouching;
 
 // Whether a client's request fits the reply to its setup: checks 1, 23, 4 to 8 and 11.
+// Kept: the parameters of gate_fits, a C call.
 pub fn fits<'a>(
     setup_reply: &[u8],
     value: &[u8],

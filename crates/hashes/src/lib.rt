@@ -31,7 +31,7 @@ impl TryFrom<u64> for Hash {
 
 impl Hash {
     // The mask of the hash alone.
-    // Kept: a From would not tell this number from the next.
+    // Kept: a method: a From would not tell whether the number is the mask or the size.
     pub fn mask(self) -> u64
         ensures { result ≡ hash_mask self }
     {

@@ -12,6 +12,7 @@ use hashes::Hash;
 use sha_2::State;
 
 // The key in a block, at the front.
+// Kept: key's bound as a clause: callers have keys of 32 bytes, of up to 256 and below 2 ^ 60; a type of them all would be made in each call.
 fn key_block(hash: Hash, key: &[u8]) -> [u8; 128]
     requires { length key.now < 2 ^ 61 }
     ensures { take (block_size hash) result ≡ key_block (sha2 hash) (block_size hash) key.now }

@@ -8,6 +8,7 @@ ghost use Rattle.index.specs.InnerEntries.{used_at, low_at};
 use table::session::SIZE;
 
 // The IV that stands in some bytes from byte at on, as one number: two of them are compared sooner than twelve bytes.
+// Kept: not the order of slices: a number is read once and kept for the next entry, which is compared sooner.
 pub fn key_at(s: &[u8], at: usize) -> u128
     requires { at + 12 ≤ length s.now }
     ensures { result ≡ number (part s.now at 12) }

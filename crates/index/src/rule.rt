@@ -11,6 +11,7 @@ use table::rule;
 use table::session::SIZE;
 
 // How many records are used, where all are sound.
+// Kept: places and not records, since the checks of a record (table::rule) take the table and a place.
 fn tally(table: &[u8]) -> Option<usize>
     ensures { TallyIs (records table.now) result }
 {

@@ -17,6 +17,7 @@ mod remarks;
 pub use blocks::Blocks;
 
 // Whether a block is lines, and nothing else.
+// Kept: a walk by places, as in find and noting: where it ends tells whether the block is lines alone, and an iterator would not say.
 pub fn good_block(block: &[u8]) -> bool
     ensures { result ≡ good_block block.now }
 {
@@ -28,7 +29,7 @@ pub fn good_block(block: &[u8]) -> bool
 }
 
 // The value of a covered name by its notes, of its first line where it has several: a part of one of the two blocks.
-// Kept: head and aside, not Blocks: it takes blocks of any length.
+// Kept: head and aside, not Blocks: docs/CONTRACTS.md names it, and it takes blocks of any length.
 pub fn covered<'a>(head: &'a [u8], aside: &'a [u8], in_head: u16, in_aside: u16) -> &'a [u8]
     requires { PlaceIn head.now in_head × PlaceIn aside.now in_aside }
     ensures { result.now ≡ first_by aside.now head.now in_head in_aside }
@@ -51,6 +52,7 @@ pub fn place_of(note: u16) -> usize
 }
 
 // How long the value is that the line at byte at and those after it that bear its name have together.
+// Kept: Stands as a clause: see again.
 pub fn joined_size(block: &[u8], at: usize) -> usize
     requires { Stands block.now at }
     ensures { result ≡ length (joined (own_at block.now at)) }
@@ -65,6 +67,7 @@ pub fn joined_size(block: &[u8], at: usize) -> usize
 }
 
 // The trimmed value of the line at byte at.
+// Kept: that at is within the block, here and below, is what an index of a slice asks.
 pub fn value_at<'a>(block: &'a [u8], at: usize) -> &'a [u8]
     requires { at ≤ length block.now }
     ensures { result.now ≡ front_at block.now at }

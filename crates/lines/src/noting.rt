@@ -18,6 +18,7 @@ pub enum Unnoted {
 }
 
 // The notes on the covered names in both blocks.
+// Kept: the notes are lent and not the answer: a copy would add its bytes to the stack, on which gate has a bound.
 pub fn note(
     known: &KnownNames,
     covered: &Covered,
@@ -73,6 +74,7 @@ fn repeats(sheet: &Sheet, notes: &[u16; 64]) -> bool
     requires { Counted sheet.now.known.now sheet.now.extra.now sheet.now.entries sheet.now.count }
     ensures { RepeatsIs sheet.now.known.now sheet.now.extra.now sheet.now.entries notes.now sheet.now.count result }
 {
+    // Kept: a range, since a name's number is asked of the sheet as of the notes.
     for i in 0..sheet.count {
         if (32768 <= notes[i]) && sheet.single(i) {
             return true;

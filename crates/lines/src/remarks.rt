@@ -2,9 +2,8 @@
 // 32768 more if others do too.
 ghost use Rattle.std.specs.Prelude.{◌≤◌};
 
-// Kept: a note is a number, since an enum of the three takes twice the bytes of the stack, on which gate has a bound.
-
 // Those of either block, as many as names are covered, in their order.
+// Kept: a note is a number, since an enum of the three takes twice the bytes of the stack, on which gate has a bound.
 #[derive(Drop)]
 pub struct Notes {
     pub head: [u16; 64],

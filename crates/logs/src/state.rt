@@ -11,7 +11,8 @@ use crate::search::find;
 
 // The counts by status of the lines that have ended, those unread at 0, and the line that is begun: its bytes, and how many they are. It is
 // unread where they are more than 8,192; then size is 8,193.
-// Kept: an array and a size, not a cells::Run: a line grows by parts, and a Run would be made anew for each of them.
+// Kept: an array and a size, not a cells::Run: a line grows by parts, and a Run would be made anew for each of them. 8,193 and not None, and unread
+// at 0: Holds (specs/Taken.antt) and counts (specs/Counts.antt) say so.
 #[derive(Clone, Copy)]
 pub struct State {
     pub counts: [u64; 600],
@@ -97,7 +98,7 @@ fn count_lines(counts: &mut [u64; 600], part: &[u8]) -> usize
 {
     let mut at = 0;
     let mut end = find(part, 0, b'\n');
-    // Kept: a while, since it goes from line feed to line feed.
+    // Kept: a while from line feed to line feed: split would give the line that is begun as one more part, and goes byte by byte, where find goes by sixteens.
     while end < part.len() {
         count(counts, &part[at..end]);
         at = end + 1;

@@ -16,6 +16,7 @@ pub fn print(counts: &[u64; 600], out: &mut [u8; TEXT_SIZE]) -> usize
     ensures { (result ≤ length out.new) × Laid out.old out.new 0 result (printed counts.now) }
 {
     let mut at = cells::put_at(out, 0, b"status lines\n");
+    // Kept: a range, since s is the status that is printed.
     for s in 100..600 {
         at = status_row(out, at, s, counts[s]);
     }

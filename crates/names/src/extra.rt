@@ -22,6 +22,7 @@ pub fn good_extra(known: &KnownNames, extra: &[u8]) -> bool
 fn good_names(known: &KnownNames, mut names: Names) -> bool
     ensures { result ≡ good_names (names_left names.entry) }
 {
+    // Kept: a while let, since the names that are left are asked in the loop.
     while let Some(name) = names.next() {
         if !(is_allowed(known, name) & !names.have(name)) {
             return false;

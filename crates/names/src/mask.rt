@@ -2,6 +2,7 @@
 ghost use Rattle.names.specs.InnerWalk.{Known};
 
 // The names of the mask's bits 1 to 55 in order, joined by commas as the extra names are.
+// Kept: one run joined by commas and not an array of names: a host lends the extra names so, and one iterator (Names) goes through both.
 const NAMES: [u8; 632] = *b"Host,\
     User-Agent,\
     Accept,\

@@ -10,11 +10,12 @@ ghost use Rattle.names.specs.InnerSheet.{key_of, name_at, named, Start, Entered,
 
 use super::{Covered, KnownNames, Names, has_name, name_end, same_name};
 
+// Kept: three tables in one array: the definitions of specs/InnerSheet.antt have one, and without a heap there is no map.
 #[derive(Drop)]
 pub struct Sheet<'a> {
     pub known: &'a [u8],
     pub extra: &'a [u8],
-    // Kept: 0 for none, since an Option<u16> takes twice the bytes of the stack, on which gate has a bound.
+    // Kept: 0 for none: an Option<u16> takes twice the bytes of the stack, on which gate has a bound, and a NonZeroU16 would be 1 more than the number too.
     pub entries: [u16; 192],
     // How many names there are.
     pub count: usize,

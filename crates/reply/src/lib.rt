@@ -53,7 +53,7 @@ fn put_token(out: &mut [u8], reply: &Reply) -> usize
 }
 
 // h, ah, and eah if there are extra names, after other fields.
-// Kept: that extra has at most 128 bytes is a clause; the type that says it, names::Covered, says more, which would ask more of callers.
+// Kept: extra's length as a clause: names::Covered says more, and a function that docs/CONTRACTS.md names may not ask more.
 pub fn put_orders(out: &mut [u8], at: usize, hash: Hash, mask: u64, extra: &[u8]) -> usize
     requires { (at + 208 ≤ length out.old) × (length extra.now ≤ 128) }
     ensures { (result ≤ at + 208) × Laid out.old out.new at result (following (order_fields hash mask extra.now)) }

@@ -37,6 +37,7 @@ pub fn begin(time: u32, setup_reply: &[u8], state: &mut [u8]) -> Result<(), Refu
     Ok(())
 }
 
+// Kept: the parameters of scanner_sign, a C call.
 pub fn sign(
     clock: u32,
     method: &[u8],

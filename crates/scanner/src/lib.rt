@@ -17,6 +17,7 @@ mod state;
 mod writing;
 
 // Begins a session with the reply to its setup, at a time.
+// Kept: the C interface, in every call here: parts by themselves, and a number as the answer.
 pub fn scanner_begin(time: u32, setup_reply: &[u8], state: &mut [u8]) -> u32
     ensures { answer result state.new ≡ begun time setup_reply.now state.old }
 {

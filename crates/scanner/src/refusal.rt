@@ -12,6 +12,7 @@ pub enum Refusal {
 }
 
 impl Refusal {
+    // Kept: a method: a From would not tell by its name which number it is.
     pub fn number(self) -> u32
         ensures { result ≡ number_of self }
     {

@@ -24,6 +24,7 @@ const MOST_BODY: usize = 65536;
 const LEAST_OUT: usize = 4096;
 
 // What a request brings besides its value, if it and the buffer for the value have the right sizes. Nothing is set aside.
+// Kept: beside gate's sizes: draft_fits (specs/Sign.antt) has no aside and asks of out too, and gate is no part of a scanner.
 #[tactic(auto, unfolding(crate::specs::Sign::draft_fits))]
 pub fn brought<'a>(
     method: &'a [u8],

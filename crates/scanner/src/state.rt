@@ -14,6 +14,7 @@ use window::time::Time;
 pub const SIZE: usize = 329;
 
 // Where the parts of a session begin; the last time begins at byte 0, the extra names stand after s, and zeros after them.
+// Kept: places in bytes: the C interface lends a state as 329 bytes, which state_of (specs/State.antt) lays out.
 const NEXT: usize = 4;
 
 const MASK: usize = 12;

@@ -10,6 +10,7 @@ use super::session::Session;
 use window::time::Time;
 
 // The value of a request whose code stands at the front of some bytes; how long it is.
+// Kept: that out has 4096 bytes as a clause: it is the C interface's buffer, and a slice has no type with a least length.
 pub fn put(out: &mut [u8], session: &Session, code: &[u8; 64], clock: Time) -> usize
     requires { (session.now.next ≤ 4294967295) × (4096 ≤ length out.old) }
     ensures { PutsValue (session_at session.now) clock.0 code.now out.old out.new result × (result ≤ 4096) }

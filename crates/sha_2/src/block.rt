@@ -43,6 +43,7 @@ fn round<W: Word>(v: Words<W>, k: W, w: W) -> Words<W>
 }
 
 // Round t with one of the block's own words, which takes its place among the sixteen.
+// Kept: a block's size as a clause: Rattle has no computed const argument for an array's size; and k's clause names a round, which a type cannot.
 fn first_turn<W: Word>(v: Words<W>, w: &mut [W; 16], block: &[u8], t: usize, k: u64) -> Words<W>
     requires { (t < 16) × (length block.now ≡ Hash.block_size W.hash) × (k ≡ slice_index (Constants.K Sha512) t) }
     ensures { (v0 : Numbers) → Turned W.hash block.now v0 t (numbers W.value v) (map W.value w.old) → Turned W.hash block.now v0 (t + 1) (numbers W.value result) (map W.value w.new) }

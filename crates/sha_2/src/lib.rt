@@ -20,6 +20,7 @@ mod words;
 pub use words::Words;
 
 // The hash value after the whole blocks of a message, the bytes after them, and the message's length.
+// Kept: a tail without a length beside it: length tells how many of its bytes count.
 #[derive(Clone, Copy)]
 pub struct State {
     pub hash: Hash,
@@ -39,6 +40,7 @@ pub fn block_size(hash: Hash) -> usize
 }
 
 // Bytes of a message after its whole blocks. A division by a size that is known when the code is made is a shift.
+// Kept: numbers for each hash, here and in the next two functions, and not block_size: by a known number a division is a shift.
 fn begun(hash: Hash, length: u64) -> usize
     ensures { result ≡ length % block_size hash }
 {
@@ -132,6 +134,7 @@ impl State {
     }
 
     // Part ends before the block that was begun does.
+    // Kept: the bound is one of state and part together, here and in the next three, which no invariant of State can say.
     fn keep(&mut self, part: &[u8])
         requires { (self.old.length % block_size self.old.hash + length part.now < block_size self.old.hash) × (self.old.length + length part.now < 2 ^ 61) }
         ensures { TookIn self.old part.now self.new }
@@ -181,6 +184,7 @@ impl State {
     }
 
     // The hash of the message that was taken in, at the front. The block that was begun and the padding lie side by side: no state takes in the padding.
+    // Kept: 64 bytes and not a Run: the hash tells how many count, and what may not change is said of the array.
     pub fn finish(&self) -> [u8; 64]
         requires { self.now.length < 2 ^ 61 }
         ensures { (h : Declared.Hash) (m : List ℕ) → Taken h self.now m → take (digest_size h) result ≡ sha2 h m }

@@ -13,7 +13,7 @@ use super::message::Message;
 use names::{Names, token};
 
 // Whether method, authority, path and lines are what they are to be.
-// Kept: what may not change (good_message takes parts of any length, and a Message has short ones).
+// Kept: what may not change: docs/CONTRACTS.md names good_message, which takes parts of any length, and a Message has short ones.
 pub fn good_message(method: &[u8], authority: &[u8], path: &[u8], block: &[u8]) -> bool
     ensures { result ≡ good_message (message_of method.now authority.now path.now block.now) }
 {
@@ -33,11 +33,7 @@ fn all_small(run: &[u8]) -> bool
 pub fn all_components(names: &[u8]) -> bool
     ensures { result ≡ all_components (listed names.now) }
 {
-    let mut good = true;
-    for name in Names::of(names) {
-        good &= is_component(name);
-    }
-    good
+    Names::of(names).all(is_component)
 }
 
 fn is_component(name: &[u8]) -> bool
@@ -69,6 +65,7 @@ impl Message<'_> {
         let mut missing = false;
         let mut buffer = [0; 16384];
         let mut left = Names::of(names);
+        // Kept: a while let, since the names that are left are asked in the loop.
         while let Some(name) = left.next() {
             match self.put_value(name, &mut buffer) {
                 Some(size) => printable &= structured::all_between(32, 126, &buffer[..size]),
@@ -102,6 +99,7 @@ impl Message<'_> {
 }
 
 // The value that the line at byte at and those after it that bear its name have together, at the front of out, and its length.
+// Kept: a block and a place in it: see lines::again.
 fn put_joined(block: &[u8], at: usize, out: &mut [u8]) -> usize
     requires { Stands block.now at × (length (joined (own_at block.now at)) ≤ length out.old) }
     ensures { Laid out.old out.new 0 result (joined (own_at block.now at)) }

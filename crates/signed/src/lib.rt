@@ -27,7 +27,7 @@ mod brought;
 pub use brought::Brought;
 
 // The HMAC under the session key of a request's signed text, at the front.
-// Kept: n, t and lt by themselves, since the gate has them in a request and the scanner in a draft.
+// Kept: n, t and lt by themselves: the gate has them in a request, the scanner in a session and the clock.
 pub fn code(
     key: &[u8],
     hash: Hash,
@@ -56,6 +56,7 @@ pub fn code(
 }
 
 // The method, h, ah, eah, n if carried, t and lt.
+// Kept: what opening_parts (specs/InnerStreamed.antt) lists, in its order; n, t and lt as in code.
 fn opening(
     state: &mut State,
     method: &[u8],
@@ -129,6 +130,7 @@ fn absorb_value(state: &mut State, lines: &Blocks, in_head: u16, in_aside: u16)
 }
 
 // The netstring of the value that the line at byte at and those after it that bear its name have together. It stands nowhere as a whole.
+// Kept: a block and a place in it, here and in the next: see lines::again.
 fn absorb_joined(taken: &mut State, block: &[u8], at: usize)
     requires { Stands block.now at × Room taken.old (joined (own_at block.now at) ∷ []) }
     ensures { TookParts taken.old (joined (own_at block.now at) ∷ []) taken.new }

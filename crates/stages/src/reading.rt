@@ -14,6 +14,7 @@ use names::token::is_token;
 use orders::Ordered;
 
 // What the value carries, its byte fields apart, and the notes on the covered names.
+// Kept: value, method and blocks by themselves: a struct of them is gate's Asked, which stands above this crate; fields and notes are lent for the stack.
 pub fn read(
     known: &KnownNames,
     ordered: &Ordered,
@@ -34,6 +35,7 @@ pub fn read(
 }
 
 // Checks 6 to 8, and the notes.
+// Kept: what read takes, and the request: a struct would be made for this call alone.
 fn compare(
     known: &KnownNames,
     ordered: &Ordered,

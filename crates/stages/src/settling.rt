@@ -20,6 +20,7 @@ pub struct Decision {
     pub outcome: Result<Option<Record>, Refusal>,
 }
 
+// Kept: nonces, clock, request, limits and session are what admit takes; a struct of them would be made here alone.
 pub fn settle(
     nonces: bool,
     clock: Time,

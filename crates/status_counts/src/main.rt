@@ -56,6 +56,7 @@ fn counted<R: Read>(input: &mut R) -> io::Result<[u64; 600]>
     let mut buffer = large_buffer();
     let mut state = State::new();
     let mut n = input.read(&mut buffer)?;
+    // Kept: a bound on the reads, since nothing says that a log ends.
     for _i in 0..281474976710655u64 {
         if n == 0 {
             break;

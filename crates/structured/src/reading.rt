@@ -5,6 +5,7 @@ ghost use Rattle.cells.specs.InnerLaid.{Laid};
 ghost use Rattle.structured.specs.Reading.{unescaped, unlisted, IntegerIs, other, but_last};
 
 // The bytes of a string, from what stands between its quotes, at the front of out, and how many they are.
+// Kept: a place that is counted, here and in unlist: there is no heap to collect in, and the place after the last byte is the answer.
 pub fn unescape(text: &[u8], out: &mut [u8]) -> usize
     requires { length text.now ≤ length out.old }
     ensures { Laid out.old out.new 0 result (unescaped text.now) }
@@ -43,6 +44,7 @@ pub struct Integer {
     pub value: u64,
 }
 
+// Kept: beside the digits of token and netstring: an integer ends at 15 digits here, is any bytes there, and grows by checked steps there.
 pub fn read_integer(run: &[u8]) -> Integer
     ensures { IntegerIs run.now result }
 {

@@ -18,6 +18,7 @@ pub fn has_iv(table: &[u8], place: usize, iv: &[u8]) -> bool
 }
 
 // Whether the IV stands in the table from byte at on. An IV is no secret, and two numbers are compared sooner than twelve bytes.
+// Kept: not ==: two numbers are compared sooner than twelve bytes (docs/SPEED.md).
 fn same_iv(table: &[u8], at: usize, iv: &[u8]) -> bool
     requires { at + 12 ≤ length table.now }
     ensures { result ≡ same (part table.now at 12) iv.now }

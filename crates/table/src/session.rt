@@ -8,7 +8,7 @@ ghost use Rattle.table.specs.Table.{places, record_at, holds, Within};
 use window::time::Time;
 use window::{Nonce, Window};
 
-// The marks and the mask of the hash are bytes, since a host may lend any.
+// Kept: the marks and the mask of the hash are bytes: the C interface lends a record, and a host may lend any.
 #[repr(C)]
 #[derive(Clone, Copy, PartialEq, Eq)]
 pub struct Record {

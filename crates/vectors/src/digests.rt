@@ -8,6 +8,7 @@ use std::io;
 use std::io::Write;
 
 // The digest of a message, at the front, by the call that is exported for the hash.
+// Kept: digest and code call what is exported for each hash, and those are two functions each.
 fn digest(hash: Hash, message: &[u8]) -> [u8; 64] {
     let mut out = [0u8; 64];
     match hash {

@@ -10,6 +10,7 @@ const MOST: usize = 49152;
 pub struct Words {
     bytes: Vec<u8>,
     // Where the last four begin among the bytes.
+    // Kept: places and not four Vecs: a place is moved up as a word is begun, and no bytes are.
     starts: [usize; 4],
     ghost short: { vec_len bytes ≤ 49152 },
 }

@@ -36,6 +36,7 @@ pub struct Stepped {
 }
 
 impl Window {
+    // Kept: nothing here calls it; docs/CONTRACTS.md names it.
     pub fn fresh() -> Window
         ensures { result ≡ fresh }
     {

@@ -1,19 +1,21 @@
--- A name more is a component's, and at the end none is left.
+-- The test of all names is that of the list.
 -- Assumes nothing.
-use Rattle.std.proofs.Common.{sym, ap, ◌∙◌}
-use mathlib.Core.Bool.{and_assoc, and-true}
+use Rattle.std.proofs.Common.{rules, ◌≡◌, refl, ap, ◌∙◌, List, ℕ, [], ◌∷◌}
+use Rattle.std.specs.List.{list_all}
+use Rattle.std.proofs.lemmas.Iterator.Consumers.{YieldsList-from_first}
+use Rattle.std.proofs.lemmas.Iterator.Search.{all_from_yields_List}
 use Rattle.structured.specs.Lists.{every}
-use Rattle.signatures.specs.Components.{all_components}
+use Rattle.names.specs.InnerWalk.{names_left}
+use Rattle.signatures.specs.Components.{is_component, all_components}
 use Rattle.signatures.proofs.components.all_components.Goals as goal
 
-pub loop-name-init : goal.loop-name-init
-loop-name-init c = ap all_components (rw c.into_iter-name-iterator.ensures.into_iter_gives (sym c.of-name-items.ensures))
-
-pub loop-name-preserved : goal.loop-name-preserved
-unfolding all_components every
-loop-name-preserved c =
-    c.loop-name.invariant ∙ rw (c.in-Some.ensures.steps, c.is_component-good.ensures) (sym (and_assoc c.loop-name.good _ _))
+every_all : (ns : List (List ℕ)) → list_all is_component ns ≡ every is_component ns
+unfolding every
+every_all [] = refl
+every_all (n ∷ ns) = rw (every_all ns) refl
 
 pub returns : goal.returns
-unfolding all_components every
-returns c = sym (c.loop-name.invariant ∙ rw c.in-None.ensures.steps.0 (and-true c.loop-name.good))
+unfolding all_components
+returns c =
+    all_from_yields_List is_component _ _ _ c.all.ensures.ran (YieldsList-from_first (λ x. x.now) names_left _ refl) (λ x b q h. search rules)
+    ∙ every_all _ ∙ ap (every is_component) c.of.ensures
