@@ -15,7 +15,7 @@ use Rattle.cells.proofs.Numbers.{length_bytes_of, number_append, number_of}
 use Rattle.gcm.specs.Multiply.{product}
 use Rattle.gcm.specs.Ghash.{hashed, ghash}
 use Rattle.gcm.specs.Gcm.{padded, hash_input}
-use Rattle.gcm.proofs.Masking.{block_part}
+use Rattle.gcm.proofs.Masking.{chunk_is}
 
 -- a run cut at k and filled with zeros up to k, and the run with zeros after it cut at k
 cut_filled : (k z : ℕ) (xs : List ℕ) → k ≤ length xs + z → take k xs ++ replicate (k - length (take k xs)) 0 ≡ take k (xs ++ replicate z 0)
@@ -33,11 +33,11 @@ padded_part xs n h =
     (cut_filled 16 ((16 - length xs % 16) % 16) (drop (16 * n) xs) (omega (arith, length-drop (16 * n) xs)))
 
 -- a turn of the loop over the blocks
-pub hashed_more : (h : ℕ) (xs : List ℕ) (n e : ℕ) {y : ℕ} → 16 * n < length xs → e ≡ 16 * n + min 16 (length xs - 16 * n) → y ≡ hashed h (padded xs) n
-    → product (bit_xor y (number (take (e - 16 * n) (drop (16 * n) xs) ++ replicate (16 - length (take (e - 16 * n) (drop (16 * n) xs))) 0))) h
-    ≡ hashed h (padded xs) (n + 1)
+pub hashed_more : (h : ℕ) (xs chunk rest : List ℕ) (n : ℕ) {y : ℕ} → drop (16 * n) xs ≡ chunk ++ rest → length chunk ≡ min 16 (length xs - 16 * n) → 16 * n < length xs
+    → y ≡ hashed h (padded xs) n
+    → product (bit_xor y (number (chunk ++ replicate (16 - length chunk) 0))) h ≡ hashed h (padded xs) (n + 1)
 unfolding hashed
-hashed_more h xs n e lt ee ey = rw (block_part xs (16 * n) e ee, padded_part xs n lt, ey, add-one)
+hashed_more h xs chunk rest n e size lt ey = rw (chunk_is xs chunk rest (16 * n) e size, padded_part xs n lt, ey, add-one)
 
 -- what follows n blocks does not matter to them
 hashed_front : (h : ℕ) (xs ys : List ℕ) (n : ℕ) → 16 * n ≤ length xs → hashed h (xs ++ ys) n ≡ hashed h xs n

@@ -21,10 +21,26 @@ use Rattle.gcm.proofs.Addition.{length_added, added_back}
 pub length_block : (xs : List ℕ) (at : ℕ) → length (part xs at 16) ≡ min 16 (length xs - at)
 length_block xs at = length-take 16 (drop at xs) ∙ ap (min 16) (length-drop at xs)
 
-pub block_part : (xs : List ℕ) (at e : ℕ) → e ≡ at + min 16 (length xs - at) → take (e - at) (drop at xs) ≡ part xs at 16
+block_part : (xs : List ℕ) (at e : ℕ) → e ≡ at + min 16 (length xs - at) → take (e - at) (drop at xs) ≡ part xs at 16
 block_part xs at e h =
     ap (take (e - at)) (sym (take-append-drop 16 (drop at xs)))
     ∙ take_at (part xs at 16) (drop 16 (drop at xs)) (e - at) (length_block xs at ∙ omega arith)
+
+-- a chunk that comes off what is left of a run is the block there, and leaves what comes after the block
+module _ (xs chunk rest : List ℕ) (at : ℕ) (h : drop at xs ≡ chunk ++ rest) (size : length chunk ≡ min 16 (length xs - at)) where
+  pub chunk_is : chunk ≡ part xs at 16
+  chunk_is =
+      let n : length chunk ≡ at + length chunk - at = omega arith in
+      sym (take_at chunk rest (length chunk) refl)
+      ∙ ap (take (length chunk)) (sym h)
+      ∙ ap (λ (k : ℕ). take k (drop at xs)) n
+      ∙ block_part xs at (at + length chunk) (omega (arith, size))
+
+  pub chunk_leaves : rest ≡ drop (at + 16) xs
+  chunk_leaves =
+      let whole : chunk ++ rest ≡ chunk ++ drop 16 (drop at xs) =
+      sym h ∙ sym (take-append-drop 16 (drop at xs)) ∙ ap (λ (l : List ℕ). l ++ drop 16 (drop at xs)) (sym chunk_is) in
+      sym (drop_at chunk rest (length chunk) refl) ∙ ap (drop (length chunk)) whole ∙ drop_at chunk (drop 16 (drop at xs)) (length chunk) refl ∙ drop-drop 16 at xs
 
 -- what is lent of two runs of one length for a block
 pub length_lent : (xs : List ℕ) (at e : ℕ) → e ≡ at + min 16 (length xs - at) → length (take (e - at) (drop at xs)) ≡ e - at

@@ -58,10 +58,8 @@ fn hash(h: u128, s: &[u8]) -> u128
     ensures { result ≡ hashed h (S.padded s.now) ((length s.now + 15) / 16) }
 {
     let mut y = 0;
-    for n in 0..s.len().div_ceil(16) {
-        let at = 16 * n;
-        let end = s.len().min(at + 16);
-        y = multiply(y ^ filled(&s[at..end]), h);
+    for part in s.chunks(16) {
+        y = multiply(y ^ filled(part), h);
     }
     y
 }
@@ -105,6 +103,7 @@ fn mask(keys: &[u8; 240], counter: u128, text: &mut [u8])
 }
 
 // GCTR of text in its place, from the counter block first on.
+// Kept: blocks by number, and in mask bytes by index; tried over chunks_mut, and over a zip, and the proof didn't close: no fact says what text is after such a loop.
 fn stream(keys: &[u8; 240], first: u128, text: &mut [u8])
     ensures { (key : List ℕ) → keys.now ≡ key_expansion key → text.new ≡ G.gctr key first text.old }
 {
