@@ -1,5 +1,7 @@
 // What becomes of a request that was read and whose token opened, over its session.
+ghost use Rattle.std.specs.Prelude.{◌≡◌, Err, option_map};
 ghost use Rattle.stages.specs.InnerStages.{SettleIs};
+ghost use Rattle.stages.specs.declared.refusal.Refusal as Declared;
 
 use super::admitting;
 use super::admitting::Session;
@@ -30,7 +32,9 @@ pub fn settle(
     limits: &Limits,
     session: Option<Session>,
 ) -> Decision
-    ensures { SettleIs nonces clock.0 vouched token.now request.now limits.now session result }
+    ensures settled { SettleIs nonces clock.0 vouched token.now request.now limits.now session result }
+    ensures refused { (refusal : Declared.Refusal) → vouched ≡ Err refusal → result.outcome ≡ Err refusal }
+    ensures place { result.place ≡ option_map (λ s. s.place) session }
 {
     Decision {
         place: session.map(|s| s.place),

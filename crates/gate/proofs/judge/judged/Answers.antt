@@ -40,6 +40,6 @@ returns g c table finds o reply by =
     (finds _ _ c.find-session.ensures)
     in (
       sym read.is,
-      c.settle.ensures o a.server_key.now a.asked.now.value.now b.method.now b.lines.head.now b.lines.aside.now b.path.now b.body.now reply table
+      c.settle.ensures.settled o a.server_key.now a.asked.now.value.now b.method.now b.lines.head.now b.lines.aside.now b.path.now b.body.now reply table
           read.read.holds vouched opens.holds by.limits (ap (λ (m : ℕ). eqb (m % 2) 1) by.covered.mask) session,
     )

@@ -8,9 +8,9 @@ use Rattle.stages.specs.InnerStages.{Asks}
 use Rattle.stages.proofs.Stages.{read_hash, settled}
 use Rattle.stages.proofs.settling.settle.Goals as goal
 
-pub returns : goal.returns
+pub returns-clause-settled : goal.returns-clause-settled
 unfolding nonce_of time_of last_time_of fields_of
-returns c o server_key value method head aside path body reply table h is about l nonces s =
+returns-clause-settled c o server_key value method head aside path body reply table h is about l nonces s =
     let a = c.args in
     let q = request_of o a.clock.0 server_key value method head aside path body reply in
     let asks : Asks q a.clock.0 a.request.now a.limits.now a.nonces =
