@@ -6,10 +6,12 @@ use Prim.Native.Nat.{ℕ, zero, suc, ◌+◌, ◌-◌, ◌*◌, ◌/◌, ◌%◌
 use native.Mathlib.Nat.{not-suc-le-zero, le_of_suc-le-suc}
 use native.Mathlib.Decide.{dec_lt}
 use native.Mathlib.Omega.{arith}
-use lib.ListN.{length, get_or, drop, set, length-append, get_or-append}
+use lib.ListN.{length, get_or, take, drop, set, length-append, get_or-append}
 use lib.Seq.{drop-cons, lt-length-set, get_or-set_same, drop-set-lt}
 use borrow.Author.Tests.{lt-ltb, le-ltb}
 use Rattle.cells.specs.Runs.{Bytes}
+use Rattle.cells.specs.InnerRun.{run_of}
+use Rattle.cells.specs.declared.run.Run.{Run}
 use Rattle.cells.specs.Decimal.{decimal_to, decimal, value_after}
 
 -- any depth above the number serves
@@ -131,3 +133,7 @@ last_laid n left start all e h g = stored_digit all start (48 + left) g ∙ sym 
 pub fewer : (start left : ℕ) → left < 10 ^ suc start → 10 ≤ left → (1 ≤ start) × (left / 10 < 10 ^ start)
 fewer zero left h g = absurd (omega arith)
 fewer (suc start) left h g = omega arith
+
+-- the part of an array that shows a number
+pub shown_piece : (n : ℕ) (r : Run 20) → run_of r ≡ decimal n → take r.len r.bytes ≡ decimal n
+shown_piece n r h = h

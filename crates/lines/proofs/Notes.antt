@@ -1,8 +1,9 @@
 -- The values that notes tell are the covered ones.
 -- Assumes nothing.
+use Rattle.std.specs.Prelude.{Result, Ok, Err}
 use mathlib.Core.Path.{◌≡◌, refl, sym, ap, ap₂, ◌∙◌}
 use mathlib.Core.List.{List, [], ◌∷◌, map}
-use mathlib.Core.Bool.{Bool, true, false, and-false}
+use mathlib.Core.Bool.{Bool, true, false, false≢true, ◌&&◌, and-false}
 use Prim.Native.Nat.{ℕ, suc, ◌+◌, ◌%◌, ◌≤◌}
 use native.Mathlib.Omega.{arith}
 use borrow.Author.Tests.{eqb-true, eqb-false, ltb-true, ltb-false}
@@ -10,10 +11,13 @@ use lib.Dec.{eqb, leb, ltb}
 use lib.ListN.{length, get_or, take, drop, get_or-eq_default}
 use lib.Seq.{length-take-le, get_or-take}
 use Rattle.cells.specs.Runs.{cut}
-use Rattle.lines.specs.Lines.{lines_in}
+use Rattle.lines.specs.Lines.{lines_in, good_block}
 use Rattle.lines.specs.Values.{values_in, repeated, joined, or_else, covered_value}
 use Rattle.lines.specs.InnerPlaces.{Stands, front_at}
-use Rattle.lines.specs.InnerNotes.{place_of, NoteIs, Notes, NotesOn, note_value, value_by, values_by, Placed}
+use Rattle.lines.specs.declared.remarks.Notes as Declared
+use Rattle.lines.specs.declared.noting.Unnoted.{Unnoted}
+use Rattle.lines.specs.declared.noting.Unnoted.TheVariants.{NotLines, Twice}
+use Rattle.lines.specs.InnerNotes.{place_of, NoteIs, Notes, NotesOn, NotedIs, note_value, value_by, values_by, Placed}
 use Rattle.lines.proofs.Joined.{joined_one, own_more}
 
 -- joined values of which there is one
@@ -96,3 +100,10 @@ pub unrepeated : (names : List (List ℕ)) → repeated names [] ≡ false
 unfolding repeated values_in
 unrepeated [] = refl
 unrepeated (n ∷ ns) = rw and-false (unrepeated ns)
+
+-- the notes that a look at both blocks leaves, where they are lines
+pub notes_on : (ns : List (List ℕ)) (head aside : List ℕ) (notes : Declared.Notes) (r : Result (Unit {0}) Unnoted) → NotedIs ns head aside notes r
+    → (good_block head && good_block aside) ≡ true → (notes.count ≤ 64) × NotesOn ns head aside (take notes.count notes.head) (take notes.count notes.aside)
+notes_on ns head aside notes (Ok u) is e = (notes.few, is.are)
+notes_on ns head aside notes (Err Twice) is e = (notes.few, is.are)
+notes_on ns head aside notes (Err NotLines) is e = absurd (false≢true (sym is ∙ e))
