@@ -72,6 +72,7 @@ fn full_column(s: &[[u8; 4]; 4], c: usize, key: [u8; 4]) -> [u8; 4]
 }
 
 // Column c of the last round, which does not mix.
+// Kept: beside full_column: the last round is without a step in the standard too.
 fn last_column(s: &[[u8; 4]; 4], c: usize, key: [u8; 4]) -> [u8; 4]
     requires { c < 4 }
     ensures { result ≡ C.xor_word (shifted_word s.now c) key }

@@ -122,6 +122,7 @@ fn is_mask(text: &[u8]) -> bool
 }
 
 // Whether a text encodes what the rule of a key asks.
+// Kept: a match on the key: a table of tests by key would be a table of functions, and no plainer.
 #[tactic(auto, unfolding(crate::specs::Keys::rule_at, crate::specs::Keys::keys))]
 pub fn is_good(text: &[u8], key: Key) -> bool
     ensures { result ≡ text_obeys (rule_at (place key)) text.now }

@@ -28,6 +28,7 @@ pub fn put_next(out: &mut [u8], at: usize, name: &[u8], content: &[u8]) -> usize
 }
 
 // A mask after other fields.
+// Kept: beside put_number: docs/CONTRACTS.md names both, and each asks for the room that its own bytes take.
 pub fn put_mask(out: &mut [u8], at: usize, name: &[u8], mask: u64) -> usize
     requires { at + length name.now + 14 ≤ length out.old }
     ensures { (result ≤ at + length name.now + 14) × Laid out.old out.new at result (following (field name.now (mask_bytes mask) ∷ [])) }

@@ -69,6 +69,7 @@ fn digest(hash: Hash, text: &[u8], out: &mut [u8]) -> Result<(), Undone>
 }
 
 // SHA-256 of text into out, which has 32 bytes.
+// Kept: the C interface: two calls for two hashes, here and for the codes.
 pub fn prim_sha256(text: &[u8], out: &mut [u8]) -> u32
     ensures { answer result out.new ≡ digest_call Sha256 text.now out.old }
 {

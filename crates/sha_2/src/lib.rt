@@ -100,6 +100,7 @@ fn initial(hash: Hash) -> Words<u64>
 }
 
 // The hash value v after the first n blocks of m.
+// Kept: a match, here and in digest: which hash it is is told by a value (docs/DECISIONS.md, K2), and the block function is generic over a type.
 fn after_blocks(hash: Hash, v: Words<u64>, m: &[u8], n: usize) -> Words<u64>
     requires { block_size hash * n ≤ length m.now }
     ensures { Fit hash v → result ≡ after_blocks hash v m.now n }
