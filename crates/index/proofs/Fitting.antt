@@ -1,17 +1,16 @@
 -- The test of a table and its index: it holds exactly if the table is well formed and the index is the one that fits it.
 -- Assumes nothing.
 use mathlib.Core.Path.{◌≡◌, refl, sym, ap, ap₂, subst, ◌∙◌}
-use mathlib.Core.List.{List, ◌++◌}
+use mathlib.Core.List.{List, [], ◌∷◌, ◌++◌}
 use mathlib.Core.Bool.{Bool, true, false, true≢false, cond, ◌&&◌, and-true, and_assoc}
 use Prim.Native.Nat.{ℕ, zero, suc, ◌+◌, ◌-◌, ◌*◌, ◌≤◌, ◌<◌}
-use native.Mathlib.Nat.{add-zero}
 use native.Mathlib.Numerals.{add-one}
 use native.Mathlib.Omega.{arith}
 use borrow.Author.Tests.{eqb-true, eqb-false, eq-eqb, ne_eqb}
 use lib.Dec.{eqb}
 use lib.ListN.{length, get_or, take, drop, replicate, length-drop, length-replicate, get_or-replicate, take-append-drop}
 use lib.Seq.{length-take-le, get_or-take, get_or-drop, ext_get_or}
-use Rattle.std.specs.List.{list_all, range_with_len}
+use Rattle.std.specs.List.{list_all}
 use Rattle.cells.specs.Runs.{same, Bytes}
 use Rattle.cells.proofs.Tests.{tested, both}
 use Rattle.cells.proofs.Equality.{same_equal, same_self}
@@ -62,7 +61,7 @@ every_more test k e f = rw (add-one k, e, f)
 pub every_not : (test : ℕ → Bool) (n k : ℕ) → k < n → test k ≡ false → every test n ≡ false
 every_not test n k l e = refuted (every test n) (λ t. true≢false (sym (every_at test n t k l) ∙ e))
 
--- over the numbers from a on
+-- the first number apart
 every_front : (test : ℕ → Bool) (n : ℕ) → (test 0 && every (λ k. test (suc k)) n) ≡ every test (suc n)
 unfolding every
 every_front test zero = and-true (test 0)
@@ -74,16 +73,16 @@ unfolding every
 every_alike s t zero e = refl
 every_alike s t (suc n) e = ap₂ ◌&&◌ (every_alike s t n (λ k l. e k (omega arith))) (e n (omega arith))
 
-every_from : (test : ℕ → Bool) (a n : ℕ) → list_all test (range_with_len a n) ≡ every (λ k. test (a + k)) n
+-- over a list, each of whose items passes if its number does
+pub every_list : {A : Type 0} (p : A → Bool) (test : ℕ → Bool) (xs : List A) (n : ℕ) → length xs ≡ n
+    → ((k : ℕ) (d : A) → k < n → p (get_or xs k d) ≡ test k) → list_all p xs ≡ every test n
 unfolding every
-every_from test a zero = refl
-every_from test a (suc n) =
-    ap₂ ◌&&◌ (ap test (sym (add-zero a)))
-    (every_from test (a + 1) n ∙ every_alike (λ k. test (a + 1 + k)) (λ k. test (a + suc k)) n (λ k l. ap test (omega arith)))
-    ∙ every_front (λ k. test (a + k)) n
-
-pub every_of : (test : ℕ → Bool) (n : ℕ) → list_all test (range_with_len 0 n) ≡ every test n
-every_of test n = every_from test 0 n ∙ every_alike (λ k. test (0 + k)) test n (λ k l. ap test (omega arith))
+every_list p test [] zero e h = refl
+every_list p test [] (suc n) e h = absurd (omega (arith, e))
+every_list p test (x ∷ xs) zero e h = absurd (omega (arith, e))
+every_list p test (x ∷ xs) (suc n) e h =
+    ap₂ ◌&&◌ (h 0 x (omega arith)) (every_list p (λ k. test (suc k)) xs n (omega (arith, e)) (λ k d l. h (suc k) d (omega arith)))
+    ∙ every_front test n
 
 -- the first entries of an index, and those behind them
 pub entry_front : (index : List ℕ) (m k : ℕ) → k < m → entry_at (take (2 * m) index) k ≡ entry_at index k

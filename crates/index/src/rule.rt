@@ -32,8 +32,9 @@ fn climb(table: &[u8], entries: &[u8]) -> bool
     ensures { result ≡ every (rises_at (records table.now) entries.now) (length entries.now / 2) }
 {
     let mut last = 0;
-    for k in 0..entries.len() / 2 {
-        let place = entries::read(entries, k);
+    let (pairs, _) = entries.as_chunks::<2>();
+    for (k, entry) in pairs.iter().enumerate() {
+        let place = entries::place_of(*entry);
         if !order::is_used(table, place) {
             return false;
         }
@@ -50,7 +51,10 @@ fn climb(table: &[u8], entries: &[u8]) -> bool
 fn are_vacant(entries: &[u8]) -> bool
     ensures { result ≡ every (vacant_at entries.now) (length entries.now / 2) }
 {
-    (0..entries.len() / 2).all(|k| entries::read(entries, k) == 65535)
+    let (entries, _) = entries.as_chunks::<2>();
+    entries
+        .iter()
+        .all(|entry| entries::place_of(*entry) == 65535)
 }
 
 // IVs that rise from entry to entry stand nowhere twice, so no two records are compared.
