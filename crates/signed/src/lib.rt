@@ -78,6 +78,7 @@ fn opening(
     absorb_number(state, lt.0);
 }
 
+// Kept: beside absorb_number: a mask and a number have other bytes, and each is one line.
 fn absorb_mask(state: &mut State, mask: u64)
     requires { Room state.old (mask_bytes mask ∷ []) }
     ensures { TookParts state.old (mask_bytes mask ∷ []) state.new }

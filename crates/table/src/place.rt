@@ -33,6 +33,7 @@ fn same_iv(table: &[u8], at: usize, iv: &[u8]) -> bool
 }
 
 // The lowest place from `start` on whose record passes a test.
+// Kept: a for: tried as the range's find, which needs a clause on its closure and took 12 percent longer where no place passes.
 fn first<F: Fn(usize) -> bool>(table: &[u8], start: usize, passes: F) -> Option<usize>
     requires within { start ≤ places table.now }
     requires callable { (place : ℕ) → place < places table.now → F.pre passes place }
