@@ -7,6 +7,7 @@ pub mod Scan
 pub mod Noting
 pub mod Texts
 pub mod Requests
+pub mod Lying
 pub mod Replies
 pub mod Cases
 pub mod Carried

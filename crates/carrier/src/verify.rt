@@ -20,7 +20,13 @@ pub fn judge(asked: &Asked, values: &Values) -> Result<u64, Refusal>
 {
     let mut names_room = [0; 4096];
     let mut key_room = [0; 4096];
-    let told = reading::read_input(values.input, &mut names_room, &mut key_room);
+    let sizes = reading::read_input(values.input, &mut names_room, &mut key_room);
+    let told = Input {
+        label: &values.input[..sizes.label],
+        names: &names_room[..sizes.names],
+        created: sizes.created,
+        key_id: &key_room[..sizes.key_id],
+    };
     first(asked.check(), check_told(asked, values, &told))?;
     if !agrees(asked, values, &told) {
         return Err(Refusal::BadSignature);

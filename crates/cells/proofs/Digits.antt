@@ -134,6 +134,6 @@ pub fewer : (start left : ℕ) → left < 10 ^ suc start → 10 ≤ left → (1 
 fewer zero left h g = absurd (omega arith)
 fewer (suc start) left h g = omega arith
 
--- the part of an array that shows a number
-pub shown_piece : (n : ℕ) (r : Run 20) → run_of r ≡ decimal n → take r.len r.bytes ≡ decimal n
-shown_piece n r h = h
+-- the bytes that are handed out of a number's digits
+pub shown_piece : (n : ℕ) (r : Run 20) {piece : List ℕ} → run_of r ≡ decimal n → piece ≡ take r.len r.bytes → piece ≡ decimal n
+shown_piece n r shown handed = handed ∙ shown

@@ -56,11 +56,14 @@ pub fn put64(out: &mut [u8], at: usize, x: u64)
 }
 
 // src at the front of out; the bytes after it stay.
+// Kept: a loop and not copy_from_slice, of which the compiler makes memmove: the archives for C need memcpy for it, as they did.
 pub fn put_front(out: &mut [u8], src: &[u8])
     requires { length src.now ≤ length out.old }
     ensures { out.new ≡ fronted src.now out.old }
 {
-    out[..src.len()].copy_from_slice(src);
+    for (i, b) in src.iter().enumerate() {
+        out[i] = *b;
+    }
 }
 
 // src from byte at of out on, and the place after it; every other byte stays.
@@ -70,7 +73,7 @@ pub fn put_at(out: &mut [u8], at: usize, src: &[u8]) -> usize
     ensures { Laid out.old out.new at result src.now }
 {
     let end = at + src.len();
-    out[at..end].copy_from_slice(src);
+    put_front(&mut out[at..end], src);
     end
 }
 

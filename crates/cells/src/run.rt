@@ -23,7 +23,7 @@ impl<const N: usize> Run<N> {
         ensures { take result.len result.bytes ≡ run.now }
     {
         let mut bytes = [0; N];
-        bytes[..run.len()].copy_from_slice(run);
+        super::put_front(&mut bytes, run);
         Run {
             bytes,
             len: run.len(),

@@ -18,7 +18,7 @@ use Rattle.table.specs.Session.{place_of}
 use Rattle.armor.specs.declared.Unread.{Unread}
 use Rattle.armor.specs.InnerAnswers.{setup_from, setup_answer}
 use Rattle.names.specs.declared.covered.Covered.{Covered}
-use Rattle.orders.specs.Orders.{orders_good, CoveredBy, OrderedBy}
+use Rattle.orders.specs.Orders.{orders_good, CoveredBy, OrderedBy, OrderedIs}
 use Rattle.orders.specs.declared.Limits.{Limits}
 use Rattle.orders.specs.declared.Ordered.{Ordered}
 use Rattle.stages.specs.declared.refusal.Refusal.{Refusal}
@@ -215,6 +215,12 @@ started_for s l u ordered state r d good by =
   where
     the_setup : setup_by s.orders s.clock l s.reply ≡ s
     the_setup = rw (u.server_key, u.session_key, u.iv, u.session_id, u.value)
+
+-- so two answers that `setup::decide` may give for a setup, under the orders that the check let through, are one
+pub start_decided : (s : Setup) (l : LentParts) → SetsUp s l → (ordered : Ordered) → OrderedIs s.orders (Some ordered) → (state : State)
+    → setup_fits s state ≡ true → (a b : Result Start Refusal) → DecidesStart ordered s.clock l state a → DecidesStart ordered s.clock l state b → a ≡ b
+start_decided s l u ordered by state fits a b p q =
+    start_determined s state a b (started_for s l u ordered state a p by.0 by.1 fits) (started_for s l u ordered state b q by.0 by.1 fits)
 
 -- past the first checks the index fits
 pub start_indexed : (s : Setup) (state : State) → setup_fits s state ≡ true → first (setup_checks s state) ≡ 0 → Indexed state.table state.index

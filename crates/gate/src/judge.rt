@@ -82,7 +82,15 @@ pub fn judged<F: Fn(&[u8; 12]) -> Option<Session>>(
     let token = vouching::unseal(server_key, &fields)?;
     let session = find(&fields.iv);
     let covered = &ordered.covered;
-    let vouched = vouching::vouch(covered, clock, &token, &request, &fields, brought, &notes);
+    let vouched = vouching::vouch(
+        covered,
+        clock,
+        Ok(&token),
+        &request,
+        &fields,
+        brought,
+        &notes,
+    );
     Ok(settling::settle(
         covered.mask % 2 == 1,
         clock,

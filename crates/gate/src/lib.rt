@@ -25,7 +25,7 @@ mod entry;
 mod judge;
 mod lent;
 mod number;
-mod one;
+pub mod one;
 mod setup;
 mod sizes;
 mod trying;
@@ -158,29 +158,26 @@ pub fn gate_judge_one<'a>(
 ) -> u32
     ensures { outcome result reply.new (indexed (record_bytes «record».new)) ≡ judged (request_of (orders_of mask hashes extra.now request_life idle session_life) clock server_key.now value.now method.now head.now aside.now path.now body.now reply.old) (indexed (record_bytes «record».old)) }
 {
-    let Some((server_key, asked)) = sizes::request(
-        server_key, value, method, head, aside, path, body, reply,
-    ) else {
-        return Refusal::WrongSize.number();
-    };
-    let numbers = Numbers {
+    let judged = one::judge(
         mask,
         hashes,
+        extra,
         request_life,
         idle,
         session_life,
-    };
-    let (answer, next) = one::judge(
-        numbers,
-        extra,
-        Time(clock),
+        clock,
         server_key,
-        &asked,
+        value,
+        method,
+        head,
+        aside,
+        path,
+        body,
         *record,
         reply,
     );
-    *record = next;
-    answer
+    *record = judged.next;
+    judged.answer
 }
 
 // Ends the session that has this IV.

@@ -1,8 +1,9 @@
 // Judging a request over one session's record, as a table of that one record would.
 ghost use Rattle.std.specs.Prelude.{◌≡◌, true};
-ghost use Rattle.orders.specs.Orders.{orders};
+ghost use Rattle.orders.specs.Orders.{orders, orders_of};
 ghost use Rattle.table.specs.Record.{record_bytes};
 ghost use Rattle.stages.specs.Checks.{first};
+ghost use Rattle.stages.specs.Request.{request_of};
 ghost use Rattle.stages.specs.InnerRefusals.{number_in};
 ghost use Rattle.gate.specs.State.{indexed, outcome};
 ghost use Rattle.gate.specs.Sizes.{lent_fits};
@@ -12,7 +13,7 @@ ghost use Rattle.gate.specs.Entry.{state_checks};
 ghost use Rattle.gate.specs.InnerDecisions.{StandsIn, DecidesRequest, left_by, Keeps};
 
 use super::asked::Asked;
-use super::judge;
+use super::{judge, sizes};
 use names::KnownNames;
 use orders::{Numbers, Ordered};
 use stages::admitting::Session;
@@ -22,8 +23,64 @@ use table::session::Record;
 use table::{rule, session};
 use window::time::Time;
 
-// The answer, and the record after it.
-pub fn judge(
+// What the call answers, and the session's record after it.
+#[derive(Clone, Copy)]
+pub struct Judged {
+    pub answer: u32,
+    pub next: Record,
+}
+
+// Judges a request of any parts, over any record.
+// Kept: parts by themselves, and not an Asked, which has the sizes: docs/CONTRACTS.md names judge, which takes parts of any size.
+pub fn judge<'a>(
+    mask: u64,
+    hashes: u64,
+    extra: &[u8],
+    request_life: u32,
+    idle: u32,
+    session_life: u32,
+    clock: u32,
+    server_key: &[u8],
+    value: &[u8],
+    method: &[u8],
+    head: &'a [u8],
+    aside: &'a [u8],
+    path: &[u8],
+    body: &[u8],
+    record: Record,
+    reply: &mut [u8],
+) -> Judged
+    ensures { outcome result.answer reply.new (indexed (record_bytes result.next)) ≡ judged (request_of (orders_of mask hashes extra.now request_life idle session_life) clock server_key.now value.now method.now head.now aside.now path.now body.now reply.old) (indexed (record_bytes «record»)) }
+{
+    let Some((server_key, asked)) = sizes::request(
+        server_key, value, method, head, aside, path, body, reply,
+    ) else {
+        return Judged {
+            answer: Refusal::WrongSize.number(),
+            next: record,
+        };
+    };
+    let numbers = Numbers {
+        mask,
+        hashes,
+        request_life,
+        idle,
+        session_life,
+    };
+    let (answer, next) = sized(
+        numbers,
+        extra,
+        Time(clock),
+        server_key,
+        &asked,
+        record,
+        reply,
+    );
+    Judged { answer, next }
+}
+
+// The answer to a request whose parts have the sizes, and the record after it.
+fn sized(
     numbers: Numbers,
     extra: &[u8],
     clock: Time,

@@ -8,7 +8,7 @@ use native.Mathlib.Nat.{not-suc-le-zero, le_of_suc-le-suc, eq-or-lt_of_le}
 use native.Mathlib.Numerals.{add-one}
 use native.Mathlib.Omega.{arith}
 use lib.ListN.{length, take, drop, take-append-drop, length-append, length-take, length-drop}
-use lib.Seq.{drop-drop, take_all, take_at, take-add, drop_at, take-append-le, drop-append-le}
+use lib.Seq.{take_all, take_at, take-add, drop_at, take-append-le, drop-append-le}
 use Rattle.aes.specs.Cipher.{cipher, key_expansion, aes256}
 use Rattle.aes.proofs.Cipher.{cipher_expanded, length_aes256}
 use Rattle.cells.proofs.Runs.{front_spliced}
@@ -26,7 +26,7 @@ block_part xs at e h =
     ap (take (e - at)) (sym (take-append-drop 16 (drop at xs)))
     ∙ take_at (part xs at 16) (drop 16 (drop at xs)) (e - at) (length_block xs at ∙ omega arith)
 
--- a chunk that comes off what is left of a run is the block there, and leaves what comes after the block
+-- a chunk that comes off what is left of a run is the block there
 module _ (xs chunk rest : List ℕ) (at : ℕ) (h : drop at xs ≡ chunk ++ rest) (size : length chunk ≡ min 16 (length xs - at)) where
   pub chunk_is : chunk ≡ part xs at 16
   chunk_is =
@@ -36,12 +36,6 @@ module _ (xs chunk rest : List ℕ) (at : ℕ) (h : drop at xs ≡ chunk ++ rest
       ∙ ap (λ (k : ℕ). take k (drop at xs)) n
       ∙ block_part xs at (at + length chunk) (omega (arith, size))
 
-  pub chunk_leaves : rest ≡ drop (at + 16) xs
-  chunk_leaves =
-      let whole : chunk ++ rest ≡ chunk ++ drop 16 (drop at xs) =
-      sym h ∙ sym (take-append-drop 16 (drop at xs)) ∙ ap (λ (l : List ℕ). l ++ drop 16 (drop at xs)) (sym chunk_is) in
-      sym (drop_at chunk rest (length chunk) refl) ∙ ap (drop (length chunk)) whole ∙ drop_at chunk (drop 16 (drop at xs)) (length chunk) refl ∙ drop-drop 16 at xs
-
 -- what is lent of two runs of one length for a block
 pub length_lent : (xs : List ℕ) (at e : ℕ) → e ≡ at + min 16 (length xs - at) → length (take (e - at) (drop at xs)) ≡ e - at
 length_lent xs at e h = length-take (e - at) (drop at xs) ∙ omega (arith, length-drop at xs)
@@ -50,21 +44,6 @@ pub length_added_lent : (xs ys : List ℕ) (at e : ℕ) → e ≡ at + min 16 (l
     → length (added (take (e - at) (drop at xs)) ys) ≡ e - at
 length_added_lent xs ys at e h k =
     length_added (take (e - at) (drop at xs)) ys (omega (arith, length_lent xs at e h)) ∙ length_lent xs at e h
-
--- what follows a part that is written over stays
-pub rest_stays : (xs text ys : List ℕ) (at m : ℕ) → drop at xs ≡ drop at text → at + length ys ≤ length xs → at + length ys ≤ m
-    → drop m (spliced xs at ys) ≡ drop m text
-unfolding spliced
-rest_stays xs text ys at m e within past =
-    let parts : m ≡ at + length ys + (m - (at + length ys)) = omega arith in
-    let behind : (l : List ℕ) → drop m l ≡ drop (m - (at + length ys)) (drop (length ys) (drop at l)) =
-    λ l. sym (ap (drop (m - (at + length ys))) (drop-drop (length ys) at l) ∙ drop-drop (m - (at + length ys)) (at + length ys) l ∙ ap (λ (n : ℕ). drop n l) (sym parts))
-    in
-    let rest = drop (length ys) (drop at xs) in
-    behind (take at xs ++ (ys ++ rest))
-    ∙ ap (drop (m - (at + length ys)))
-    (ap (drop (length ys)) (drop_at (take at xs) (ys ++ rest) at (length-take at xs ∙ omega arith)) ∙ drop_at ys rest (length ys) refl ∙ ap (drop (length ys)) e)
-    ∙ sym (behind text)
 
 module _ (key : List ℕ) (icb : ℕ) (xs : List ℕ) where
   pub length_masked_block : (n : ℕ) → length (masked_block key icb xs n) ≡ min 16 (length xs - 16 * n)

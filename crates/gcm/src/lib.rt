@@ -54,12 +54,15 @@ fn filled(part: &[u8]) -> u128
 }
 
 // The hash of s and of the zeros that make its blocks whole.
+// Kept: blocks by number: of chunks, none of which is empty, the compiler makes a call of memset for each, which the archive for C did not need.
 fn hash(h: u128, s: &[u8]) -> u128
     ensures { result ≡ hashed h (S.padded s.now) ((length s.now + 15) / 16) }
 {
     let mut y = 0;
-    for part in s.chunks(16) {
-        y = multiply(y ^ filled(part), h);
+    for n in 0..s.len().div_ceil(16) {
+        let at = 16 * n;
+        let end = s.len().min(at + 16);
+        y = multiply(y ^ filled(&s[at..end]), h);
     }
     y
 }
@@ -91,27 +94,28 @@ fn pre_counter(iv: &[u8; 12]) -> u128
     u128::from_be_bytes(block)
 }
 
-// The cipher of its counter block added to a block of text, which may be short.
-fn mask(keys: &[u8; 240], counter: u128, text: &mut [u8])
-    requires { length text.old ≤ 16 }
-    ensures { text.new ≡ G.added text.old (cipher keys.now (bytes_of 16 counter)) }
+// A block of text, which may be short, added to the cipher of its counter block.
+fn mask(keys: &[u8; 240], counter: u128, text: &[u8], out: &mut [u8])
+    requires { (length text.now ≤ 16) × (length out.old ≡ length text.now) }
+    ensures { out.new ≡ G.added text.now (cipher keys.now (bytes_of 16 counter)) }
 {
     let stream = aes::encrypt(keys, counter.to_be_bytes());
-    for (i, b) in text.iter_mut().enumerate() {
-        *b ^= stream[i];
+    for (i, b) in out.iter_mut().enumerate() {
+        *b = text[i] ^ stream[i];
     }
 }
 
-// GCTR of text in its place, from the counter block first on.
-// Kept: blocks by number, and in mask bytes by index; tried over chunks_mut, and over a zip, and the proof didn't close: no fact says what text is after such a loop.
-fn stream(keys: &[u8; 240], first: u128, text: &mut [u8])
-    ensures { (key : List ℕ) → keys.now ≡ key_expansion key → text.new ≡ G.gctr key first text.old }
+// GCTR of text, from the counter block first on. No byte of text is written but masked: out may be seen by others meanwhile.
+// Kept: blocks by number, and in mask bytes by index; tried over chunks_mut, and over a zip, and the proof didn't close: no fact says what out is after such a loop.
+fn stream(keys: &[u8; 240], first: u128, text: &[u8], out: &mut [u8])
+    requires { length out.old ≡ length text.now }
+    ensures { (key : List ℕ) → keys.now ≡ key_expansion key → out.new ≡ G.gctr key first text.now }
 {
     let mut counter = first;
     for n in 0..text.len().div_ceil(16) {
         let at = 16 * n;
         let end = text.len().min(at + 16);
-        mask(keys, counter, &mut text[at..end]);
+        mask(keys, counter, &text[at..end], &mut out[at..end]);
         counter = next(counter);
     }
 }
@@ -127,8 +131,9 @@ fn tag_of(keys: &[u8; 240], iv: &[u8; 12], cipher: &[u8]) -> [u8; 16]
     requires { length cipher.now < 2 ^ 61 }
     ensures { (key : List ℕ) → keys.now ≡ key_expansion key → result ≡ S.tag_of key iv.now [] cipher.now }
 {
-    let mut tag = digest(hash_key(keys), cipher).to_be_bytes();
-    stream(keys, pre_counter(iv), &mut tag);
+    let hash = digest(hash_key(keys), cipher).to_be_bytes();
+    let mut tag = [0; 16];
+    stream(keys, pre_counter(iv), &hash, &mut tag);
     tag
 }
 
@@ -138,8 +143,7 @@ pub fn seal(key: &[u8; 32], iv: &[u8; 12], text: &[u8], out: &mut [u8], tag: &mu
     ensures { (out.new ≡ (S.sealed key.now iv.now [] text.now).cipher) × (tag.new ≡ (S.sealed key.now iv.now [] text.now).tag) }
 {
     let keys = aes::expand(key);
-    out.copy_from_slice(text);
-    stream(&keys, next(pre_counter(iv)), out);
+    stream(&keys, next(pre_counter(iv)), text, out);
     *tag = tag_of(&keys, iv, out);
 }
 
@@ -162,7 +166,6 @@ pub fn unseal(
     if !cells::same(tag, &tag_of(&keys, iv, cipher)) {
         return Err(WrongTag);
     }
-    out.copy_from_slice(cipher);
-    stream(&keys, next(pre_counter(iv)), out);
+    stream(&keys, next(pre_counter(iv)), cipher, out);
     Ok(())
 }

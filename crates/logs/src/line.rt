@@ -111,7 +111,8 @@ fn size(text: &[u8]) -> bool
     if text[0] == b'-' {
         return text.len() == 1;
     }
-    cells::all(text, is_digit)
+    // Not cells::all: behind the size of a line in another format stands the rest of it.
+    cells::end(text, 0, is_digit) == text.len()
 }
 
 fn is_digit(b: u8) -> bool

@@ -60,7 +60,7 @@ const NAMES: [u8; 632] = *b"Host,\
     MIME-Version";
 
 // The 55 names, joined by commas.
-#[derive(Drop)]
+#[derive(Clone, Copy)]
 pub struct KnownNames {
     pub run: [u8; 632],
     pub ghost known: { Known run },

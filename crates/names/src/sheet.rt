@@ -11,7 +11,7 @@ ghost use Rattle.names.specs.InnerSheet.{key_of, name_at, named, Start, Entered,
 use super::{Covered, KnownNames, Names, has_name, name_end, same_name};
 
 // Kept: three tables in one array: the definitions of specs/InnerSheet.antt have one, and without a heap there is no map.
-#[derive(Drop)]
+#[derive(Clone, Copy)]
 pub struct Sheet<'a> {
     pub known: &'a [u8],
     pub extra: &'a [u8],

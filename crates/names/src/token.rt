@@ -11,7 +11,7 @@ const TOKEN_HIGH: u64 = 6341068274398134270;
 pub fn is_token(name: &[u8]) -> bool
     ensures { result ≡ is_token name.now }
 {
-    (0 < name.len()) & cells::all(name, token_byte)
+    (0 < name.len()) & (token_end(name, 0) == name.len())
 }
 
 // Where the token bytes end that start at byte at.

@@ -148,6 +148,13 @@ module _ {input label list from last : List ℕ} {close : ℕ} {time : Integer} 
       let fit : length (unescaped quoted) ≤ length out = omega (arith, unescaped_size quoted, key_room e, room) in
       (laid_within fit l, laid_front fit l ∙ ap unescaped (quoted_is e))
 
+  pub label_within : length label ≤ length input
+  label_within = omega (arith, ap length r.labelled, label_short input)
+
+  pub label_front : take (length label) input ≡ label_in input
+  unfolding label_in
+  label_front = ap (λ (n : ℕ). take n input) (label_size input r.labelled)
+
   pub time_told : time.value ≡ time_in input
   unfolding time_in
   time_told = r.is_time.value ∙ ap (λ (run : List ℕ). value_after 0 (take (digits_in run) run)) from_is

@@ -62,6 +62,10 @@ pub record Looking (m : Message) (names : List ℕ) (left : List (List ℕ)) (pr
   pub missing : missing m (listed names) ≡ (lacks || missing m left)
 
 module _ {m : Message} {names : List ℕ} where
+  -- before the first name
+  pub looking_start : Looking m names (listed names) true false false
+  looking_start = record { values = refl; twice = refl; missing = refl }
+
   module _ {name : List ℕ} {left rest : List (List ℕ)} {p t g : Bool} (w : Looking m names left p t g) (e : left ≡ name ∷ rest) where
     -- a name that the message has
     pub looking_some : {buffer : List ℕ} {size : ℕ} {p' t' : Bool} → ValueOf (values_of m name) buffer size → p' ≡ all printable (take size buffer)

@@ -10,6 +10,7 @@ use Rattle.signatures.specs.Fields.{input_value, label_in, covered_in, time_in, 
 use Rattle.signatures.specs.declared.message.Message as M
 use Rattle.signatures.specs.declared.input.Input.{Input}
 use Rattle.signatures.specs.declared.components.Looked.{Looked}
+use Rattle.signatures.specs.declared.reading.Told.{Told}
 
 -- the message that is lent
 abbrev pub message_in : M.Message → Message
@@ -52,3 +53,13 @@ pub record Tells (text : List ℕ) (r : Input) : Type 0 where
   pub names : r.names.now ≡ covered_in text
   pub created : r.created ≡ time_in text
   pub key_id : r.key_id.now ≡ key_id_in text
+
+-- and they stand at the fronts of the value and of two buffers
+pub record ToldIs (text names' key_id' : List ℕ) (r : Told) : Type 0 where
+  pub labelled : r.label ≤ length text
+  pub few : r.names ≤ length names'
+  pub short : r.key_id ≤ length key_id'
+  pub label : take r.label text ≡ label_in text
+  pub names : take r.names names' ≡ covered_in text
+  pub created : r.created ≡ time_in text
+  pub key_id : take r.key_id key_id' ≡ key_id_in text

@@ -60,6 +60,14 @@ impl Message<'_> {
     pub fn look(&self, names: &[u8]) -> Looked
         ensures { LookedAt (message_in self.now) names.now result }
     {
+        // A list of no names costs no buffer.
+        if names.is_empty() {
+            return Looked {
+                printable: true,
+                twice: false,
+                missing: false,
+            };
+        }
         let mut printable = true;
         let mut twice = false;
         let mut missing = false;

@@ -39,6 +39,9 @@ fn absorb_lines(state: &mut State, message: &Message, names: &[u8])
     requires { (all_components (listed names.now) ≡ true) × (state.old.length + length (component_lines (message_in message.now) (listed names.now)) < 2 ^ 61) }
     ensures { TookIn state.old (component_lines (message_in message.now) (listed names.now)) state.new }
 {
+    if names.is_empty() {
+        return;
+    }
     let mut buffer = [0; 16384];
     for name in Names::of(names) {
         let size = message.put_value(name, &mut buffer).unwrap_or(0);

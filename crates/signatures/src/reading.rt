@@ -2,15 +2,25 @@
 ghost use Rattle.std.specs.Prelude.{◌≡◌, ◌≤◌, length};
 ghost use Rattle.base_64.specs.Decoding.{decoded};
 ghost use Rattle.signatures.specs.Fields.{label_in, of_digest, good_input, good_signature};
-ghost use Rattle.signatures.specs.InnerAnswers.{Tells};
+ghost use Rattle.signatures.specs.InnerAnswers.{Tells, ToldIs};
 
 use super::{Input, components, put_input, put_signature};
 use structured::reading;
 
+// How long the label, the names joined by commas and the key id are that a value of Signature-Input tells, and when it was created.
+#[derive(Clone, Copy)]
+pub struct Told {
+    pub label: usize,
+    pub names: usize,
+    pub created: u64,
+    pub key_id: usize,
+}
+
 // What a value of Signature-Input tells: the names and the key id at the fronts of their buffers.
-pub fn read_input<'a>(text: &'a [u8], names: &'a mut [u8], key_id: &'a mut [u8]) -> Input<'a>
+// Kept: lengths and not slices of the buffers, since of a buffer from which the answer borrows no clause can say what it holds.
+pub fn read_input(text: &[u8], names: &mut [u8], key_id: &mut [u8]) -> Told
     requires { (length text.now ≤ length names.old) × (length text.now ≤ length key_id.old) }
-    ensures { Tells text.now result }
+    ensures { ToldIs text.now names.new key_id.new result }
 {
     let label = label_of(text);
     let list = reading::past(text, label.len() + 2);
@@ -18,13 +28,11 @@ pub fn read_input<'a>(text: &'a [u8], names: &'a mut [u8], key_id: &'a mut [u8])
     let from = reading::past(list, close + 10);
     let created = reading::read_integer(from);
     let last = reading::past(from, created.digits + 8);
-    let names_size = reading::unlist(&list[..close], names);
-    let key_size = reading::unescape(reading::but_last(last), key_id);
-    Input {
-        label,
-        names: &names[..names_size],
+    Told {
+        label: label.len(),
+        names: reading::unlist(&list[..close], names),
         created: created.value,
-        key_id: &key_id[..key_size],
+        key_id: reading::unescape(reading::but_last(last), key_id),
     }
 }
 

@@ -1,16 +1,18 @@
 -- How the stages' answers make up the parts of a request's checks.
 -- Assumes nothing.
-use mathlib.Core.Path.{◌≡◌, refl, sym, ◌∙◌}
+use mathlib.Core.Path.{◌≡◌, refl, sym, subst, ◌∙◌}
 use mathlib.Core.Bool.{Bool, true, false, cond, not, ◌&&◌}
 use mathlib.Core.List.{List, [], ◌∷◌}
 use mathlib.Core.Option.{Option, none, some, get_or}
 use Prim.Native.Nat.{ℕ, ◌≤◌}
 use native.Mathlib.Omega.{arith}
 use lib.Dec.{eqb, leb}
+use denote.Ref.{Bor}
 use Rattle.std.specs.Prelude.{Result, Ok, Err}
 use Rattle.std.specs.Prelude as P
 use Rattle.cells.specs.InnerRun.{run_of}
 use Rattle.cells.specs.Runs.{same}
+use Rattle.cells.proofs.Tests.{tested}
 use Rattle.hashes.specs.declared.Hash.{Hash}
 use Rattle.hashes.specs.Hashes.{hash_mask, named}
 use Rattle.hmac.specs.Hmac.{hmac_of}
@@ -23,7 +25,7 @@ use Rattle.armor.specs.InnerAnswers.{request_from, request_answer, Holds, Lies}
 use Rattle.signed.specs.SignedText.{request_text}
 use Rattle.table.specs.declared.session.Record.{Record}
 use Rattle.table.specs.Record.{window_of, with_window}
-use Rattle.token.specs.Token.{opened_token}
+use Rattle.token.specs.Token.{opened_token, has_token}
 use Rattle.token.specs.InnerHeld.{IsToken, Unseals}
 use Rattle.token.specs.declared.Token.{Token as Held}
 use Rattle.window.specs.declared.Window.{Window}
@@ -36,13 +38,14 @@ use Rattle.stages.specs.InnerRefusals.{number_in, RefusedUnread}
 use Rattle.stages.specs.InnerRefusals as R
 use Rattle.stages.specs.Request.{Request}
 use Rattle.names.specs.declared.covered.Covered.{Covered}
-use Rattle.orders.specs.Orders.{CoveredBy}
+use Rattle.orders.specs.Orders.{Orders, CoveredBy, OrderedBy}
+use Rattle.orders.specs.declared.Ordered.{Ordered}
 use Rattle.orders.specs.declared.Limits.{Limits}
 use Rattle.stages.specs.declared.admitting.Session.{Session}
 use Rattle.stages.specs.Checks.{Check, check, first, missing}
 use Rattle.table.specs.Session.{place_of}
 use Rattle.stages.specs.Parts.{fields_of, iv_of, hash_of, nonce_of, time_of, last_time_of, signature_of, opened_of, token_of, text_of, code_under, code_of, ordered, keeps_hash, stepped, next_of, covering_part, reading_part, token_part, signature_part, vouching_part, session_part, nonce_part, admitting_part}
-use Rattle.stages.specs.InnerStages.{Opens, StandsAt, Asks, Admits, Settles}
+use Rattle.stages.specs.InnerStages.{ReadUnder, opened_as, Opens, StandsAt, Asks, Admits, Settles}
 use Rattle.stages.proofs.Checks.{passed_by, stopped_by}
 use Rattle.stages.proofs.Parts.{token_numbered, vouching_numbered}
 use Rattle.stages.proofs.Refusals.{some_number}
@@ -92,6 +95,10 @@ read_on q e =
     let told = complete (grammar q.value) true e in
     simp (told.grammar, told.fields)
 
+-- orders that say this cover and allow it
+pub read_under : {o : Orders} {r : Ordered} → OrderedBy o r → ReadUnder o r
+read_under by = record { covered = by.covered; hashes = by.hashes }
+
 -- whether the token opens, of a request that was read
 pub opens : (q : Request) (fields : Fields) → Lies (carried q.value) fields → (u : P.Option Held)
     → Unseals (opened_token q.server_key fields.iv (run_of fields.s) fields.tag) u → (a : Result Held Refusal) → a ≡ P.ok_or u BadToken → Opens q a
@@ -104,7 +111,18 @@ opens q fields lies (P.Some token) told a is = rw is (record {
   lasts = simp (← lies.token, ← lies.vector, ← lies.tag, told.0, told.1.expiry);
 })
 
--- what the token and the signature come to, of a token that opened
+-- what opening answered, by cases
+pub opening : {q : Request} {opened is : Result (Bor Held) Refusal} → opened ≡ is → Opens q (opened_as opened) → Opens q (opened_as is)
+opening {q} e = subst (λ (r : Result (Bor Held) Refusal). Opens q (opened_as r)) e
+
+-- what the token and the signature come to, where no token opened
+pub unopened_by : (q : Request) (refusal : Refusal) → Opens q (Err refusal) → R.number_of refusal ≡ first (vouching_part q)
+unfolding token_part
+unopened_by q refusal o =
+    tested (has_token (opened_of q)) (λ e. let none : R.number_of refusal ≡ 0 = o.is ∙ rw e refl in absurd (omega (arith, some_number refusal, none)))
+    (λ e. o.is ∙ rw e refl)
+
+-- and of a token that opened
 module _ (q : Request) (token : Held) (o : Opens q (Ok token)) where
   pub lapsed : leb token.expiry.0 q.clock ≡ true → 10 ≡ first (vouching_part q)
   lapsed late =

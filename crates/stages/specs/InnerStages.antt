@@ -1,7 +1,8 @@
 -- What the code's stages answer for a request, by the parts of its checks. A stage is lent only what it looks at; what it answers holds
 -- whatever the rest of the request is.
 -- Assumes nothing.
-use Rattle.std.specs.Prelude.{◌≡◌, Bool, not, cond, ◌||◌, List, [], ◌∷◌, ◌++◌, Option, Some, None, Result, Ok, IfOk, ℕ, eqb, leb}
+use Rattle.std.specs.Prelude.{◌≡◌, Bool, not, cond, ◌||◌, List, [], ◌∷◌, ◌++◌, Option, Some, None, Result, Ok, Err, IfOk, ℕ, eqb, leb}
+use denote.Ref.{Bor}
 use Rattle.cells.specs.Runs.{same}
 use Rattle.hashes.specs.declared.Hash.{Hash}
 use Rattle.hashes.specs.Hashes.{named}
@@ -13,7 +14,7 @@ use Rattle.names.specs.Covered.{covered_names}
 use Rattle.names.specs.declared.covered.Covered.{Covered}
 use Rattle.lines.specs.InnerNotes.{NotesOf}
 use Rattle.lines.specs.declared.remarks.Notes.{Notes}
-use Rattle.orders.specs.Orders.{Orders, CoveredBy, OrderedBy}
+use Rattle.orders.specs.Orders.{Orders, CoveredBy}
 use Rattle.orders.specs.declared.Limits.{Limits}
 use Rattle.orders.specs.declared.Ordered.{Ordered}
 use Rattle.signed.specs.declared.Brought.{Brought}
@@ -39,10 +40,15 @@ brought_as o clock server_key value b reply =
 abbrev pub CoveredNotes : Covered → List ℕ → List ℕ → Notes → Type 0
 CoveredNotes covered head aside notes = NotesOf (covered_names covered.mask covered.extra.now) head aside notes
 
--- 6 to 8: the number, of any request with this value, method and lines, under any orders that these are of
+-- orders that cover and allow this; at their limits reading does not look
+pub record ReadUnder (o : Orders) (r : Ordered) : Type 0 where
+  pub covered : CoveredBy o r.covered
+  pub hashes : r.hashes ≡ o.numbers.hashes
+
+-- 6 to 8: the number, of any request with this value, method and lines, under any orders that cover and allow this
 abbrev pub CoversIs : Ordered → List ℕ → List ℕ → List ℕ → List ℕ → Result Unit Refusal → Type 0
 CoversIs ordered value method head aside r =
-    (o : Orders) → OrderedBy o ordered → (clock : ℕ) (server_key path body reply : List ℕ)
+    (o : Orders) → ReadUnder o ordered → (clock : ℕ) (server_key path body reply : List ℕ)
     → number_in r ≡ first (covering_part (request_of o clock server_key value method head aside path body reply))
 
 -- what the value carries
@@ -57,7 +63,7 @@ pub record Reads (q : Request) (fields : Fields) (r : Result ArmorRequest Refusa
 
 abbrev pub ReadIs : Ordered → List ℕ → List ℕ → List ℕ → List ℕ → Fields → Result ArmorRequest Refusal → Type 0
 ReadIs ordered value method head aside fields r =
-    (o : Orders) → OrderedBy o ordered → (clock : ℕ) (server_key path body reply : List ℕ)
+    (o : Orders) → ReadUnder o ordered → (clock : ℕ) (server_key path body reply : List ℕ)
     → Reads (request_of o clock server_key value method head aside path body reply) fields r
 
 -- the first of the token's checks
@@ -82,12 +88,17 @@ SignIs covered key request fields brought r =
     → let q = brought_as o clock server_key value brought reply in
     Holds value (carried value) request → Lies (carried value) fields → r ≡ same (signature_of q) (code_under key q)
 
--- 9 to 11, of a token that opened
-abbrev pub VouchIs : Covered → ℕ → Held → ArmorRequest → Fields → Brought → Result Unit Refusal → Type 0
-VouchIs covered clock token request fields brought r =
+-- what opening answered, with the token where it lies
+abbrev pub opened_as : Result (Bor Held) Refusal → Result Held Refusal
+opened_as (Ok token) = Ok token.now
+opened_as (Err refusal) = Err refusal
+
+-- 9 to 11, of what opening answered
+abbrev pub VouchIs : Covered → ℕ → Result (Bor Held) Refusal → ArmorRequest → Fields → Brought → Result Unit Refusal → Type 0
+VouchIs covered clock opened request fields brought r =
     (o : Orders) → CoveredBy o covered → (server_key value reply : List ℕ)
     → let q = brought_as o clock server_key value brought reply in
-    Holds value (carried value) request → Lies (carried value) fields → Opens q (Ok token) → number_in r ≡ first (vouching_part q)
+    Holds value (carried value) request → Lies (carried value) fields → Opens q (opened_as opened) → number_in r ≡ first (vouching_part q)
 
 -- the record that acceptance stores, where nonces are ordered
 abbrev pub stored_of : Request → List ℕ → Option Record

@@ -21,21 +21,22 @@ pub fn unseal(server_key: &[u8; 32], fields: &Fields) -> Result<Token, Refusal>
     token::unseal(server_key, &fields.iv, fields.s.as_slice(), &fields.tag).ok_or(Refusal::BadToken)
 }
 
-// Checks 10 and 11, of a token that opened.
+// Checks 9 to 11, of what unseal answered.
 // Kept: this clause on the notes, which signs and signed::code have too. A struct of covered, brought and notes is no plainer: each of the three
 // places that note would make one for this call alone.
 pub fn vouch(
     covered: &Covered,
     clock: Time,
-    token: &Token,
+    opened: Result<&Token, Refusal>,
     request: &Request,
     fields: &Fields,
     brought: &Brought,
     notes: &Notes,
 ) -> Result<(), Refusal>
     requires { NotesOf (covered_names covered.now.mask covered.now.extra.now) brought.now.lines.head.now brought.now.lines.aside.now notes.now }
-    ensures { VouchIs covered.now clock.0 token.now request.now fields.now brought.now result }
+    ensures { VouchIs covered.now clock.0 opened.entry request.now fields.now brought.now result }
 {
+    let token = opened?;
     if token.expiry <= clock {
         return Err(Refusal::Expired);
     }

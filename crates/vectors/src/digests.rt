@@ -33,12 +33,17 @@ pub fn whole<W: Write>(out: &mut W, hash: Hash, message: &[u8]) -> io::Result<()
     print(out, &digest(hash, message)[..hash.size()])
 }
 
-// parts FIRST MESSAGE: the message is taken in by parts as long as the first
+// parts FIRST MESSAGE: the message is taken in by parts as long as the first, and whole where that has no bytes
 pub fn parts<W: Write>(out: &mut W, hash: Hash, first: &[u8], message: &[u8]) -> io::Result<()>
     requires { length message.now ≤ 1000000 }
 {
+    let size = if first.is_empty() {
+        message.len()
+    } else {
+        first.len()
+    };
     let mut state = State::new(hash);
-    for part in message.chunks(first.len().max(1)) {
+    for part in message.chunks(size.max(1)) {
         state.absorb(part);
     }
     print(out, &state.finish()[..hash.size()])

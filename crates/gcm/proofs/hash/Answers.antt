@@ -1,44 +1,41 @@
 -- A block more in each turn.
 -- Assumes nothing.
-use Rattle.std.proofs.Common.{◌≡◌, ◌++◌, ℕ, ◌+◌, ◌-◌, ◌*◌, min, length, drop, refl, sym, ap, ◌∙◌, arith}
-use Rattle.std.proofs.Math.ListN.{length-drop}
-use Rattle.std.proofs.lemmas.List.{length_push}
+use Rattle.std.proofs.Common.{◌≡◌, ℕ, ◌+◌, ◌-◌, ◌*◌, ◌/◌, ◌<◌, min, length, take, drop, refl, sym, ap, ◌∙◌, arith}
+use lib.ListN.{take-append-drop}
 use Rattle.std.specs.Int.Bits.{bit_xor}
-use Rattle.std.specs.Slice.Iter.{chunks_rest, chunks_size}
 use Rattle.gcm.specs.Multiply.{product}
 use Rattle.gcm.specs.Ghash.{hashed}
-use Rattle.gcm.proofs.Masking.{chunk_leaves}
+use Rattle.gcm.specs.Gcm.{padded}
+use Rattle.gcm.proofs.Masking.{length_lent}
 use Rattle.gcm.proofs.Hashing.{hashed_more}
 use Rattle.gcm.proofs.hash.Goals as goal
 
-pub loop-part-init : goal.loop-part-init
+pub loop-n-init : goal.loop-n-init
 unfolding hashed
-loop-part-init c =
-    let made = c.into_iter-part-iterator.ensures.into_iter_gives in
-    record {
-      size = ap chunks_size made ∙ c.chunks-part-items.ensures.size;
-      rest = ap chunks_rest made ∙ c.chunks-part-items.ensures.rest;
-      value = refl;
-    }
+loop-n-init c = refl
 
-pub loop-part-preserved : goal.loop-part-preserved
-loop-part-preserved c =
+pub filled-requires : goal.filled-requires
+filled-requires c =
     let s = c.args.s.now in
-    let n = length c.loop-part.yielded in
-    let inv = c.loop-part.invariant in
-    let steps = c.in-Some.ensures.steps in
-    let chunk = c.in-Some.part.now in
-    let after = chunks_rest c.next.new.self in
-    let whole : drop (16 * n) s ≡ chunk ++ after = sym inv.rest ∙ steps.1.0 in
-    let left : length (chunks_rest c.loop-part.part-iterator) ≡ length s - 16 * n = ap length inv.rest ∙ length-drop (16 * n) s in
-    let long : length chunk ≡ min 16 (length s - 16 * n) = omega (arith, steps.1.1, inv.size, left) in
-    let next : 16 * n + 16 ≡ 16 * (n + 1) = omega arith in
-    rw length_push
-    (record {
-      size = steps.0 ∙ inv.size;
-      rest = chunk_leaves s chunk after (16 * n) whole long ∙ ap (λ (k : ℕ). drop k s) next;
-      value =
-          c.multiply-y.ensures
-          ∙ ap (λ (x : ℕ). product (bit_xor c.loop-part.y x) c.args.h) c.filled.ensures
-          ∙ hashed_more c.args.h s chunk after n whole long (omega (arith, steps.1.2, left)) inv.value;
-    })
+    let n = c.loop-n.n in
+    let ends : c.min-end.result ≡ 16 * n + min 16 (length s - 16 * n) = omega (arith, c.min-end.ensures, c.div_ceil-n-end.ensures) in
+    omega (arith, length_lent s (16 * n) c.min-end.result ends)
+
+pub loop-n-preserved : goal.loop-n-preserved
+loop-n-preserved c =
+    let s = c.args.s.now in
+    let n = c.loop-n.n in
+    let e = c.min-end.result in
+    let begins : 16 * n < length s = omega (arith, c.div_ceil-n-end.ensures) in
+    let ends : e ≡ 16 * n + min 16 (length s - 16 * n) = omega (arith, c.min-end.ensures) in
+    let part = take (e - 16 * n) (drop (16 * n) s) in
+    let long : length part ≡ min 16 (length s - 16 * n) = omega (arith, length_lent s (16 * n) e ends) in
+    c.multiply-y.ensures
+    ∙ ap (λ (x : ℕ). product (bit_xor c.loop-n.y x) c.args.h) c.filled.ensures
+    ∙ hashed_more c.args.h s part (drop (e - 16 * n) (drop (16 * n) s)) n (sym (take-append-drop (e - 16 * n) (drop (16 * n) s))) long begins
+    c.loop-n.invariant
+
+pub returns : goal.returns
+returns c =
+    let e : c.loop-n.n ≡ (length c.args.s.now + 15) / 16 = omega (arith, c.div_ceil-n-end.ensures) in
+    c.loop-n.invariant ∙ ap (hashed c.args.h (padded c.args.s.now)) e

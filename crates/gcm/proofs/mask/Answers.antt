@@ -1,6 +1,6 @@
 -- A byte more in each turn.
 -- Assumes nothing.
-use Rattle.std.proofs.Common.{◌≡◌, ◌≢◌, List, [], ◌∷◌, ◌++◌, ℕ, length, get_or, refl, sym, ap, ap₂, ◌∙◌, add-one, get_or-set_other, arith}
+use Rattle.std.proofs.Common.{◌≡◌, List, [], ◌∷◌, ◌++◌, ℕ, length, get_or, refl, sym, ap, ap₂, ◌∙◌, add-one, arith}
 use Rattle.std.specs.Int.Bits.{bit_xor}
 use Rattle.std.proofs.Math.Seq.{take_all, take-suc-set}
 use Rattle.aes.specs.Cipher.{cipher}
@@ -12,7 +12,7 @@ use Rattle.gcm.proofs.mask.Goals as goal
 
 pub loop-i-init : goal.loop-i-init
 unfolding added
-loop-i-init c = (refl, λ k h. refl)
+loop-i-init c = refl
 
 pub loop-i-preserved : goal.loop-i-preserved
 loop-i-preserved c =
@@ -20,19 +20,16 @@ loop-i-preserved c =
     let text = c.args.text.now in
     let stream = c.encrypt-stream.result in
     let long : length stream ≡ 16 = ap length c.encrypt-stream.ensures ∙ length_cipher c.args.keys.now _ in
-    let inv = c.loop-i.invariant in (
-      rw add-one
-          (take-suc-set c.loop-i.text i _ (omega arith)
-          ∙ ap₂ (λ (l : List ℕ) (x : ℕ). l ++ bit_xor x (get_or stream i 0) ∷ []) inv.0 (inv.1 i (omega arith))
-          ∙ sym (added_more text stream i (omega arith) (omega arith))),
-      λ k h. let ne : k ≢ i = omega arith in rw get_or-set_other (inv.1 k (omega arith)),
-    )
+    rw add-one
+    (take-suc-set c.loop-i.out i _ (omega arith)
+    ∙ ap (λ (l : List ℕ). l ++ bit_xor (get_or text i 0) (get_or stream i 0) ∷ []) c.loop-i.invariant
+    ∙ sym (added_more text stream i (omega arith) (omega arith)))
 
 pub returns : goal.returns
 returns c =
     let i = c.loop-i.i in
     let text = c.args.text.now in
-    sym (take_all i c.loop-i.text (omega arith))
-    ∙ c.loop-i.invariant.0
+    sym (take_all i c.loop-i.out (omega arith))
+    ∙ c.loop-i.invariant
     ∙ ap₂ added (take_all i text (omega arith))
     (c.encrypt-stream.ensures ∙ ap (cipher c.args.keys.now) (c.to_be_bytes.ensures ∙ bytes_written c.args.counter))

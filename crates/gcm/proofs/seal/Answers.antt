@@ -11,5 +11,4 @@ returns c =
     let next = c.next.ensures in
     let first = c.pre_counter.ensures in
     let crypts = c.stream.ensures key expands in
-    let copied = c.copy_from_slice.ensures.after in
-    (simp (crypts, copied, next, first), simp (c.tag_of.ensures key expands, crypts, copied, next, first))
+    (simp (crypts, next, first), simp (c.tag_of.ensures key expands, crypts, next, first))

@@ -22,4 +22,4 @@ returns c =
     let expands = c.expand-keys.ensures in
     let right = c.tag_of.ensures key expands in
     let found : same tag (tag_of key c.args.iv.now [] c.args.cipher.now) ≡ true = sym (c.same.ensures ∙ ap (same tag) right) ∙ c.if-not-same.false in
-    (rw found, rw found (simp (c.stream.ensures key expands, c.copy_from_slice.ensures.after, c.next.ensures, c.pre_counter.ensures)))
+    (rw found, rw found (simp (c.stream.ensures key expands, c.next.ensures, c.pre_counter.ensures)))

@@ -1,6 +1,8 @@
 -- A line more is taken in, and at the end none is left.
 -- Assumes nothing.
-use Rattle.std.proofs.Common.{sym, subst, arith, List, ℕ}
+use Rattle.std.proofs.Common.{sym, subst, ◌∙◌, arith, List, ℕ}
+use borrow.Author.Tests.{eqb-true}
+use Rattle.names.proofs.Walk.{extra_none}
 use Rattle.sha_2.specs.InnerTaken.{TookIn}
 use Rattle.sha_2.proofs.Streaming.{took_in_turn}
 use Rattle.signatures.specs.InnerAnswers.{message_in}
@@ -8,6 +10,10 @@ use Rattle.signatures.proofs.Names.{component_quoted}
 use Rattle.signatures.proofs.Values.{value_shown}
 use Rattle.signatures.proofs.Pieces.{took_none, lines_shown, lines_long, lines_past, components_first}
 use Rattle.signatures.proofs.absorb_lines.Goals as goal
+
+pub returns-then-is_empty : goal.returns-then-is_empty
+returns-then-is_empty c =
+    rw (lines_past _ (extra_none c.args.names.now (eqb-true _ 0 (sym c.is_empty.ensures ∙ c.if-is_empty.true)))) (took_none c.args.state.now)
 
 pub absorb_line-requires : goal.absorb_line-requires
 absorb_line-requires c =

@@ -4,6 +4,7 @@ use Rattle.std.proofs.Common.{ℕ, ◌%◌, sym, ap, eqb}
 use Rattle.std.proofs.lemmas.Result.{err_from_is_err_and}
 use Rattle.stages.specs.Parts.{fields_of, iv_of, limits}
 use Rattle.gate.specs.InnerSizes.{request_by}
+use Rattle.stages.proofs.Stages.{read_under}
 use Rattle.gate.proofs.Judging.{unread, unopened, stands}
 use Rattle.gate.proofs.judge.judged.Goals as goal
 
@@ -12,7 +13,7 @@ returns-in_err-request g c table finds o reply by =
     let a = c.args in
     let b = a.asked.now.brought in
     let refusal = err_from_is_err_and c.from_residual.result c.from_residual.ensures.1 in
-    let read = c.in_err-request.ensures.told o by a.clock.0 a.server_key.now b.path.now b.body.now reply in
+    let read = c.in_err-request.ensures.told o (read_under by) a.clock.0 a.server_key.now b.path.now b.body.now reply in
     rw (refusal.1, refusal.2) (unread _ table _ (sym read.is))
 
 pub returns-in_err-token : goal.returns-in_err-token
@@ -20,7 +21,7 @@ returns-in_err-token g c table finds o reply by =
     let a = c.args in
     let b = a.asked.now.brought in
     let refusal = err_from_is_err_and c.from_residual-in_err-token.result c.from_residual-in_err-token.ensures.1 in
-    let read = c.in_ok-request.ensures.told o by a.clock.0 a.server_key.now b.path.now b.body.now reply in
+    let read = c.in_ok-request.ensures.told o (read_under by) a.clock.0 a.server_key.now b.path.now b.body.now reply in
     let opens = c.in_err-token.ensures o a.clock.0 a.asked.now.value.now b.method.now b.lines.head.now b.lines.aside.now b.path.now b.body.now reply read.read.lies in
     rw (refusal.1, refusal.2) (unopened _ table _ (sym read.is) (sym opens.is))
 
@@ -32,7 +33,7 @@ unfolding fields_of iv_of limits
 returns g c table finds o reply by =
     let a = c.args in
     let b = a.asked.now.brought in
-    let read = c.in_ok-request.ensures.told o by a.clock.0 a.server_key.now b.path.now b.body.now reply in
+    let read = c.in_ok-request.ensures.told o (read_under by) a.clock.0 a.server_key.now b.path.now b.body.now reply in
     let opens = c.in_ok-token.ensures o a.clock.0 a.asked.now.value.now b.method.now b.lines.head.now b.lines.aside.now b.path.now b.body.now reply read.read.lies in
     let vouched = c.vouch-vouched.ensures o by.covered a.server_key.now a.asked.now.value.now reply read.read.holds read.read.lies opens in
     let session =

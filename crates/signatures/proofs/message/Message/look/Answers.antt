@@ -1,8 +1,14 @@
 -- A name more is looked at, and at the end none is left.
 -- Assumes nothing.
-use Rattle.signatures.proofs.Values.{looking_some, looking_none, looking_end}
+use Rattle.std.proofs.Common.{sym, ◌∙◌}
+use borrow.Author.Tests.{eqb-true}
+use Rattle.names.proofs.Walk.{extra_none}
+use Rattle.signatures.proofs.Values.{looking_start, looking_some, looking_none, looking_end}
 use Rattle.signatures.proofs.message.Message.look.Goals as goal
 use Rattle.signatures.proofs.message.Message.look.Goals.{in-Some-put_value, in-None}
+
+pub returns-then-is_empty : goal.returns-then-is_empty
+returns-then-is_empty c = looking_end looking_start (extra_none c.args.names.now (eqb-true _ 0 (sym c.is_empty.ensures ∙ c.if-is_empty.true)))
 
 pub loop-name-preserved : goal.loop-name-preserved
 loop-name-preserved c = elim c.match-put_value.branch [
