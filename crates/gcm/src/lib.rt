@@ -54,7 +54,7 @@ fn filled(part: &[u8]) -> u128
 }
 
 // The hash of s and of the zeros that make its blocks whole.
-// Kept: blocks by number: of chunks, none of which is empty, the compiler makes a call of memset for each, which the archive for C did not need.
+// Kept: blocks by number: of a loop over chunks, none of which is empty, the compiler makes a call of memset in each turn, which the archive for C did not need.
 fn hash(h: u128, s: &[u8]) -> u128
     ensures { result ≡ hashed h (S.padded s.now) ((length s.now + 15) / 16) }
 {

@@ -17,7 +17,7 @@ pub struct Told {
 }
 
 // What a value of Signature-Input tells: the names and the key id at the fronts of their buffers.
-// Kept: lengths and not slices of the buffers, since of a buffer from which the answer borrows no clause can say what it holds.
+// Kept: lengths and not slices of the buffers, since of two buffers from which the answer borrows no clause can say what they hold.
 pub fn read_input(text: &[u8], names: &mut [u8], key_id: &mut [u8]) -> Told
     requires { (length text.now ≤ length names.old) × (length text.now ≤ length key_id.old) }
     ensures { ToldIs text.now names.new key_id.new result }
