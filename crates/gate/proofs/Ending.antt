@@ -1,21 +1,19 @@
 -- Ending a session: what its checks come to, and what it leaves.
 -- Assumes nothing.
 use mathlib.Core.Path.{◌≡◌, refl, sym, ap, ◌∙◌}
-use mathlib.Core.Bool.{Bool, true, false, ◌&&◌}
+use mathlib.Core.Bool.{true, false}
 use mathlib.Core.List.{List, []}
 use Prim.Native.Nat.{ℕ}
 use native.Mathlib.Omega.{arith}
 use borrow.Author.Tests.{ne_eqb}
-use lib.ListN.{length}
 use Rattle.std.specs.Prelude.{Option, None}
 use Rattle.table.specs.Record.{freed}
-use Rattle.table.specs.Table.{records}
 use Rattle.table.specs.Session.{place_of, with_record, without}
 use Rattle.index.specs.Index.{Indexed}
 use Rattle.stages.specs.Checks.{first, nowhere}
 use Rattle.stages.proofs.Checks.{numbered, small, first_small, passed_by, stopped_by}
 use Rattle.gate.specs.State.{State, holding, outcome}
-use Rattle.gate.specs.Sizes.{exactly, state_fits, end_fits}
+use Rattle.gate.specs.Sizes.{end_fits}
 use Rattle.gate.specs.Entry.{state_checks}
 use Rattle.gate.specs.End.{end_checks, ended}
 use Rattle.gate.proofs.Numbers.{answer_is}
@@ -33,22 +31,6 @@ state_small state = refl
 pub end_unsized : (iv : List ℕ) (state : State) → end_fits iv state ≡ false → outcome 1 [] state ≡ ended iv state
 unfolding ended end_checks
 end_unsized iv state e = rw e
-
-pub end_wrong_iv : (iv : List ℕ) (state : State) → (length iv ≡ 12 → ⊥) → end_fits iv state ≡ false
-unfolding end_fits
-end_wrong_iv iv state h = rw (ne_eqb _ _ h)
-
-pub end_wrong_state : (iv : List ℕ) (state : State) → state_fits state ≡ false → end_fits iv state ≡ false
-unfolding end_fits
-end_wrong_state iv state e = rw e (by (exactly 12 iv))
-  where
-    by : (b : Bool) → (b && false) ≡ false
-    by true = refl
-    by false = refl
-
-pub end_sized : (iv : List ℕ) (state : State) → length iv ≡ 12 → state_fits state ≡ true → end_fits iv state ≡ true
-unfolding end_fits
-end_sized iv state e f = rw (e, f)
 
 module _ (iv : List ℕ) (state : State) (fits : end_fits iv state ≡ true) where
   -- 3 or 22

@@ -3,18 +3,16 @@
 use mathlib.Core.Path.{◌≡◌, refl, sym, ap, ap₂, subst, ◌∙◌}
 use mathlib.Core.Bool.{Bool, true, false, true≢false, cond, not, ◌&&◌, ◌||◌, and-true}
 use mathlib.Core.List.{List, [], ◌∷◌, ◌++◌}
-use Prim.Native.Nat.{ℕ, zero, suc, ◌*◌, ◌≤◌, ◌<◌}
+use Prim.Native.Nat.{ℕ, zero, suc, ◌*◌, ◌≤◌}
 use native.Mathlib.Omega.{arith}
-use borrow.Author.Tests.{eq-eqb, ne_eqb, eqb-true, leb-true}
+use borrow.Author.Tests.{eq-eqb, ne_eqb, eqb-true, leb-true, le-leb}
 use lib.Dec.{eqb}
 use lib.ListN.{length, get_or}
 use Rattle.std.specs.Prelude.{Option, Some, None, Result, Ok, Err, IfOk, is_some, unwrap_or}
 use Rattle.std.specs.Bool.{then_some}
-use Rattle.cells.specs.InnerRun.{run_of}
 use Rattle.hashes.specs.declared.Hash.{Hash}
 use Rattle.reply.specs.Replies.{invalidation}
 use Rattle.cells.proofs.Tests.{both}
-use Rattle.token.specs.Token.{has_token}
 use Rattle.table.proofs.Found.{found_at}
 use Rattle.table.proofs.Records.{length_record_bytes, length_records}
 use Rattle.table.proofs.One.{one_place, one_record, one_stored, records_single, one_found}
@@ -32,19 +30,18 @@ use Rattle.stages.specs.InnerRefusals.{number_of, number_in}
 use Rattle.stages.specs.Request.{Request, request_of}
 use Rattle.stages.specs.Checks.{Check, first, nowhere}
 use Rattle.table.specs.Session.{place_of, held_at, with_record}
-use Rattle.stages.specs.Parts.{iv_of, ordered, next_of, opened_of, reading_part, token_part, vouching_part, admitting_part, invalidates}
-use Rattle.stages.specs.InnerStages.{tells, opening_part, stored_of, StandsAt, Settles}
+use Rattle.stages.specs.Parts.{iv_of, ordered, next_of, reading_part, token_part, invalidates}
+use Rattle.stages.specs.InnerStages.{tells, opening_part, stored_of, StandsAt}
 use Rattle.stages.proofs.Checks.{numbered, lacks, first_lacks, passed_by, stopped_by}
 use Rattle.stages.proofs.Parts.{reading_numbered, reading_ten, reading_thirteen}
 use Rattle.stages.proofs.Refusals.{small_number}
 use Rattle.gate.specs.State.{State, holding, indexed, outcome, untouched, replied}
-use Rattle.orders.specs.Orders.{Orders, orders_good, OrderedBy}
-use Rattle.orders.specs.declared.Ordered.{Ordered}
+use Rattle.orders.specs.Orders.{Orders, orders_good}
 use Rattle.gate.specs.declared.asked.Asked.{Asked}
 use Rattle.gate.specs.InnerSizes.{Brings, request_by}
 use Rattle.gate.specs.Sizes.{exactly, state_fits, table_fits, brought_fits, lent_fits, request_fits}
 use Rattle.gate.specs.Entry.{state_checks}
-use Rattle.gate.specs.Judge.{entry_part, request_checks, state_after, answered, outcome_at, judged}
+use Rattle.gate.specs.Judge.{entry_part, request_checks, state_after, answered, judged}
 use Rattle.gate.specs.InnerDecisions.{StandsIn, DecidesRequest, Refuses, Judges, after_entry, Decides, DecidesAs, left_at, left_by, answered_by, Keeps}
 use Rattle.gate.proofs.Numbers.{Entered, indexed_by, request_stated, entry_numbered, entry_ten, entry_thirteen, entry_passed, sizes_refuse, orders_refuse, state_decides, never_zero, answer_is}
 
@@ -236,14 +233,33 @@ module _ (q : Request) (state : State) where
   unfolding entry_part
   sizes_judged e = refused_judged q state R.WrongSize (unentered q state _ (sizes_refuse _ _ _ e))
 
-  pub orders_judged : request_fits q state ≡ true → orders_good q.orders ≡ false → outcome 2 q.reply state ≡ judged q state
+  pub bad_orders : request_fits q state ≡ true → orders_good q.orders ≡ false → Refuses (request_checks q state) R.BadOrders
   unfolding entry_part
-  orders_judged e f = refused_judged q state R.BadOrders (unentered q state _ (orders_refuse _ _ _ e f))
+  bad_orders e f = unentered q state _ (orders_refuse _ _ _ e f)
 
   pub reply_room : request_fits q state ≡ true → 1024 ≤ length q.reply
   unfolding request_fits lent_fits
   reply_room e =
       leb-true _ _ (both (brought_fits q) _ (both (exactly 32 q.server_key) _ (both (lent_fits q) (state_fits state) e).0).1).1
+
+-- what an `Asked` brings has the sizes of check 1, beside a key that has its own and room for the reply
+pub asked_fits : (o : Orders) (clock : ℕ) (server_key : List ℕ) (a : Asked) (reply : List ℕ)
+    → length server_key ≡ 32 → 1024 ≤ length reply → lent_fits (request_by o clock server_key a reply) ≡ true
+unfolding lent_fits brought_fits
+asked_fits o clock server_key a reply key room =
+    let b = a.brought in
+    simp (
+      key,
+      le-leb _ _ a.value_fits,
+      le-leb _ _ a.some_method,
+      le-leb _ _ b.method_fits,
+      le-leb _ _ b.lines.head_fits,
+      le-leb _ _ b.lines.aside_fits,
+      le-leb _ _ a.some_path,
+      le-leb _ _ b.path_fits,
+      le-leb _ _ b.body_fits,
+      le-leb _ _ room,
+    )
 
 -- sizes that are not those of check 1
 and_false : (b : Bool) → (b && false) ≡ false
@@ -272,13 +288,8 @@ module _ (o : Orders) (clock : ℕ) (key value method head aside path body reply
   pub the_request : request_by o clock server_key a reply ≡ asked_for
   the_request = rw (same, brings.value, brings.method, brings.head, brings.aside, brings.path, brings.body)
 
-  pub lent_for : lent_fits asked_for ≡ true → lent_fits (request_by o clock server_key a reply) ≡ true
-  lent_for e = ap lent_fits the_request ∙ e
-
-  pub decided_for : (ordered : Ordered) (state : State) (r : Result Decision Refusal) → DecidesRequest ordered clock server_key a state r
-      → orders_good o ≡ true → OrderedBy o ordered → request_fits asked_for state ≡ true → Decides asked_for state r
-  decided_for ordered state r d good by =
-      subst (λ (q : Request). request_fits q state ≡ true → Decides q state r) the_request (d o reply good by)
+  pub decided_for : (state : State) (r : Result Decision Refusal) → DecidesRequest o clock server_key a state r → 1024 ≤ length reply → Decides asked_for state r
+  decided_for state r d room = subst (λ (q : Request). Decides q state r) the_request (d reply room)
 
 pub stands : (q : Request) (table iv : List ℕ) (session : Option Session) → iv ≡ iv_of q → StandsIn table iv session → StandsAt q table session
 stands q table iv (Some s) e h = rw (← e) h

@@ -6,9 +6,9 @@ use mathlib.Core.List.{List, [], ◌∷◌, ◌++◌}
 use mathlib.Core.Option.{Option, none, some, get_or}
 use Prim.Native.Nat.{ℕ, ◌+◌, ◌*◌, ◌≤◌}
 use native.Mathlib.Omega.{arith}
-use borrow.Author.Tests.{leb-true, eqb-true, ne_eqb}
+use borrow.Author.Tests.{leb-true, eqb-true, ne_eqb, le-leb}
 use lib.Dec.{leb}
-use lib.ListN.{length}
+use lib.ListN.{length, replicate, length-replicate}
 use Rattle.cells.specs.Runs.{fronted}
 use Rattle.hashes.specs.declared.Hash.{Hash}
 use Rattle.window.specs.declared.time.Time.{Time}
@@ -18,7 +18,7 @@ use Rattle.table.specs.Session.{place_of}
 use Rattle.armor.specs.declared.Unread.{Unread}
 use Rattle.armor.specs.InnerAnswers.{setup_from, setup_answer}
 use Rattle.names.specs.declared.covered.Covered.{Covered}
-use Rattle.orders.specs.Orders.{orders_good, CoveredBy, OrderedBy, OrderedIs}
+use Rattle.orders.specs.Orders.{Orders, orders_good, CoveredBy, OrderedBy}
 use Rattle.orders.specs.declared.Limits.{Limits}
 use Rattle.orders.specs.declared.Ordered.{Ordered}
 use Rattle.stages.specs.declared.refusal.Refusal.{Refusal}
@@ -122,6 +122,13 @@ lent s state e =
       reply = leb-true _ _ rest.1;
     }
 
+-- and what a `Lent` holds has them, beside a table and an index that fit
+pub lent_fits : (o : Orders) (clock : ℕ) (l : LentParts) (reply : List ℕ) (state : State)
+    → state_fits state ≡ true → 1024 ≤ length reply → setup_fits (setup_by o clock l reply) state ≡ true
+unfolding setup_fits
+lent_fits o clock l reply state kept room =
+    simp (l.server_key_fits, l.session_key_fits, l.iv_fits, le-leb _ _ l.some_id, le-leb _ _ l.id_fits, le-leb _ _ l.value_fits, kept, le-leb _ _ room)
+
 -- a reply that is written, with its length in the answer
 pub writes : (text reply out : List ℕ) (state : State) (len : ℕ) → len ≡ length text → out ≡ fronted text reply
     → outcome (256 * len) out state ≡ replied 0 text reply state
@@ -140,6 +147,10 @@ module _ (s : Setup) (state : State) where
   pub entry_refuses : (e : Refusal) → first (entry_part s state) ≡ number_of e → RefusedBy (setup_checks s state) e
   unfolding setup_checks entry_part
   entry_refuses e f = stopped_by (entry_part s state) _ (entry_numbered _ _ _) (λ o. never_zero e (sym f ∙ o)) ∙ f
+
+  pub bad_orders : setup_fits s state ≡ true → orders_good s.orders ≡ false → RefusedBy (setup_checks s state) R.BadOrders
+  unfolding entry_part
+  bad_orders e f = entry_refuses R.BadOrders (orders_refuse _ _ _ e f)
 
   -- after them the offer decides, and after it the room
   module _ (passed : first (entry_part s state) ≡ 0) where
@@ -181,10 +192,6 @@ module _ (s : Setup) (state : State) where
   unfolding entry_part
   sizes_set_up e = refuses R.WrongSize (entry_refuses R.WrongSize (sizes_refuse _ _ _ e))
 
-  pub orders_set_up : setup_fits s state ≡ true → orders_good s.orders ≡ false → outcome 2 s.reply state ≡ set_up s state
-  unfolding entry_part
-  orders_set_up e f = refuses R.BadOrders (entry_refuses R.BadOrders (orders_refuse _ _ _ e f))
-
 -- the session would last from now on for the session life
 pub expires : (s : Setup) (ordered : Ordered) → OrderedBy s.orders ordered → expiry_of s ≡ s.clock + ordered.limits.session_life
 unfolding expiry_of
@@ -208,19 +215,23 @@ start_determined s state (Err e) (Ok b) p q = absurd (never_zero e (sym p ∙ q.
 start_determined s state (Err d) (Err e) p q = ap Err (one_number d e (sym p ∙ q))
 
 -- a decision on what the sizes' check told of a setup is one on that setup
-pub started_for : (s : Setup) (l : LentParts) (u : SetsUp s l) (ordered : Ordered) (state : State) (r : Result Start Refusal)
-    → DecidesStart ordered s.clock l state r → orders_good s.orders ≡ true → OrderedBy s.orders ordered → setup_fits s state ≡ true → StartIs s state r
-started_for s l u ordered state r d good by =
-    subst (λ (p : Setup). setup_fits p state ≡ true → StartIs p state r) the_setup (d s.orders s.reply good by)
+pub started_for : (s : Setup) (l : LentParts) → SetsUp s l → (state : State) (r : Result Start Refusal)
+    → DecidesStart s.orders s.clock l state r → 1024 ≤ length s.reply → StartIs s state r
+started_for s l u state r d room = subst (λ (p : Setup). StartIs p state r) the_setup (d s.reply room)
   where
     the_setup : setup_by s.orders s.clock l s.reply ≡ s
     the_setup = rw (u.server_key, u.session_key, u.iv, u.session_id, u.value)
 
--- so two answers that `setup::decide` may give for a setup, under the orders that the check let through, are one
-pub start_decided : (s : Setup) (l : LentParts) → SetsUp s l → (ordered : Ordered) → OrderedIs s.orders (Some ordered) → (state : State)
-    → setup_fits s state ≡ true → (a b : Result Start Refusal) → DecidesStart ordered s.clock l state a → DecidesStart ordered s.clock l state b → a ≡ b
-start_decided s l u ordered by state fits a b p q =
-    start_determined s state a b (started_for s l u ordered state a p by.0 by.1 fits) (started_for s l u ordered state b q by.0 by.1 fits)
+-- so two answers that `setup::decide` may give are one, whatever the orders
+pub start_decided : (o : Orders) (clock : ℕ) (l : LentParts) (state : State) (a b : Result Start Refusal)
+    → DecidesStart o clock l state a → DecidesStart o clock l state b → a ≡ b
+start_decided o clock l state a b p q = start_determined (setup_by o clock l long) state a b (p long enough) (q long enough)
+  where
+    long : List ℕ
+    long = replicate 1024 0
+
+    enough : 1024 ≤ length long
+    enough = omega (arith, length-replicate {A = ℕ} 1024 0)
 
 -- past the first checks the index fits
 pub start_indexed : (s : Setup) (state : State) → setup_fits s state ≡ true → first (setup_checks s state) ≡ 0 → Indexed state.table state.index

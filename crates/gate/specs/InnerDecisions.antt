@@ -1,6 +1,6 @@
 -- What the code decides of a request, and what it then does, by the definitions of Judge.
 -- Assumes nothing.
-use Rattle.std.specs.Prelude.{◌≡◌, Bool, true, false, cond, List, ◌++◌, ℕ, ◌≤◌, length, Option, Some, None, Result, Ok, Err, MatchResult, IfOk}
+use Rattle.std.specs.Prelude.{◌≡◌, false, cond, List, ◌++◌, ℕ, ◌≤◌, length, Option, Some, None, Result, Ok, Err, MatchResult, IfOk}
 use Rattle.cells.specs.InnerRun.{run_of}
 use Rattle.table.specs.declared.session.Record.{Record}
 use Rattle.table.specs.Record.{freed}
@@ -15,10 +15,9 @@ use Rattle.stages.specs.Request.{Request}
 use Rattle.stages.specs.Checks.{Check, first, nowhere}
 use Rattle.stages.specs.Parts.{iv_of, hash_of, token_of, reading_part, vouching_part, admitting_part, invalidates}
 use Rattle.stages.specs.InnerStages.{tells, About, stored_of, Settles}
-use Rattle.orders.specs.Orders.{Orders, orders_good, OrderedBy}
+use Rattle.orders.specs.Orders.{Orders, OrderedBy}
 use Rattle.orders.specs.declared.Ordered.{Ordered}
 use Rattle.gate.specs.declared.asked.Asked.{Asked}
-use Rattle.gate.specs.Sizes.{request_fits}
 use Rattle.gate.specs.InnerSizes.{request_by}
 use Rattle.gate.specs.State.{State, holding, indexed, Outcome, outcome}
 use Rattle.gate.specs.Judge.{request_checks, answered}
@@ -54,13 +53,11 @@ pub record DecidesAs (q : Request) (s : State) (d : Decision) : Type 0 where
 abbrev pub Decides : Request → State → Result Decision Refusal → Type 0
 Decides q s r = MatchResult r (DecidesAs q s) (Refuses (request_checks q s))
 
--- of any request with these parts, under good orders that say this, that passes check 1
-abbrev pub DecidesRequest : Ordered → ℕ → List ℕ → Asked → State → Result Decision Refusal → Type 0
-DecidesRequest ordered clock server_key a s r =
-    (o : Orders) (reply : List ℕ) → orders_good o ≡ true → OrderedBy o ordered
-    → let q = request_by o clock server_key a reply in request_fits q s ≡ true → Decides q s r
+-- of a request with these parts, with room for the reply
+abbrev pub DecidesRequest : Orders → ℕ → List ℕ → Asked → State → Result Decision Refusal → Type 0
+DecidesRequest o clock server_key a s r = (reply : List ℕ) → 1024 ≤ length reply → Decides (request_by o clock server_key a reply) s r
 
--- and from 4 on, of any table in which the session stands so
+-- and from 4 on, of any with these parts, under orders that say this, and of any table in which the session stands so
 abbrev pub JudgesRequest : Ordered → ℕ → List ℕ → Asked → List ℕ → Result Decision Refusal → Type 0
 JudgesRequest ordered clock server_key a table r =
     (o : Orders) (reply : List ℕ) → OrderedBy o ordered → Judges (request_by o clock server_key a reply) table r

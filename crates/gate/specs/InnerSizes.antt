@@ -1,6 +1,6 @@
 -- What the size checks answer, by the definitions of Sizes.
 -- Assumes nothing.
-use Rattle.std.specs.Prelude.{◌≡◌, true, false, Bool, List, ℕ, Option, MatchOption}
+use Rattle.std.specs.Prelude.{◌≡◌, true, false, List, ℕ, Option, MatchOption}
 use denote.Ref.{Bor}
 use Rattle.orders.specs.Orders.{Orders}
 use Rattle.stages.specs.Request.{Request, request_of}
@@ -8,7 +8,7 @@ use Rattle.gate.specs.declared.asked.Asked.{Asked}
 use Rattle.gate.specs.declared.lent.Lent.{Lent}
 use Rattle.gate.specs.Calls.{Setup, setup_of}
 use Rattle.gate.specs.State.{holding}
-use Rattle.gate.specs.Sizes.{setup_fits, brought_fits, lent_fits}
+use Rattle.gate.specs.Sizes.{setup_fits, brought_fits, lent_fits, end_fits}
 use Rattle.gate.specs.Trial.{trial_of, trial_fits}
 
 -- the parts of what a request brings
@@ -55,6 +55,12 @@ SetupFits server_key session_key iv session_id value table index reply r =
     → let s = setup_of o clock server_key session_key iv session_id value reply in
     let fits = setup_fits s (holding table index) in
     MatchOption r (fits ≡ false) (λ l. (fits ≡ true) × SetsUp s l)
+
+-- the IV of a session to end
+abbrev pub EndFits : List ℕ → List ℕ → List ℕ → Option (Bor (List ℕ)) → Type 0
+EndFits iv table index r =
+    let fits = end_fits iv (holding table index) in
+    MatchOption r (fits ≡ false) (λ i. (fits ≡ true) × (i.now ≡ iv))
 
 -- a request and a setup with these parts
 abbrev pub request_by : Orders → ℕ → List ℕ → Asked → List ℕ → Request

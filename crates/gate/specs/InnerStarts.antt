@@ -1,6 +1,6 @@
 -- What the code's stages answer for a setup, by the parts of its checks.
 -- Assumes nothing.
-use Rattle.std.specs.Prelude.{◌≡◌, true, List, ℕ, ◌*◌, ◌<◌, Some, None, Result, MatchResult}
+use Rattle.std.specs.Prelude.{◌≡◌, List, ℕ, ◌*◌, ◌<◌, ◌≤◌, length, Some, None, Result, MatchResult}
 use Rattle.cells.specs.Runs.{spliced}
 use Rattle.hashes.specs.declared.Hash.{Hash}
 use Rattle.hashes.specs.Hashes.{hash_mask}
@@ -10,13 +10,11 @@ use Rattle.table.specs.Table.{places, records, taken}
 use Rattle.table.specs.Session.{place_of}
 use Rattle.token.specs.Token.{sealed_token}
 use Rattle.names.specs.declared.covered.Covered.{Covered}
-use Rattle.orders.specs.Orders.{Orders, orders_good, OrderedBy}
-use Rattle.orders.specs.declared.Ordered.{Ordered}
+use Rattle.orders.specs.Orders.{Orders}
 use Rattle.gate.specs.declared.lent.Lent.{Lent}
 use Rattle.gate.specs.declared.setup.Start.{Start}
 use Rattle.gate.specs.declared.setup.Offer.{Offer}
 use Rattle.gate.specs.Calls.{Setup}
-use Rattle.gate.specs.Sizes.{setup_fits}
 use Rattle.gate.specs.InnerSizes.{setup_by}
 use Rattle.stages.specs.declared.refusal.Refusal.{Refusal}
 use Rattle.stages.specs.InnerRefusals.{number_of}
@@ -70,11 +68,9 @@ pub record Starts (s : Setup) (state : State) (r : Start) : Type 0 where
 abbrev pub StartIs : Setup → State → Result Start Refusal → Type 0
 StartIs s state r = MatchResult r (Starts s state) (RefusedBy (setup_checks s state))
 
--- of any setup with these parts, under good orders that say this, that passes check 1
-abbrev pub DecidesStart : Ordered → ℕ → Lent → State → Result Start Refusal → Type 0
-DecidesStart ordered clock l state r =
-    (o : Orders) (reply : List ℕ) → orders_good o ≡ true → OrderedBy o ordered
-    → let s = setup_by o clock l reply in setup_fits s state ≡ true → StartIs s state r
+-- of a setup with these parts, with room for the reply
+abbrev pub DecidesStart : Orders → ℕ → Lent → State → Result Start Refusal → Type 0
+DecidesStart o clock l state r = (reply : List ℕ) → 1024 ≤ length reply → StartIs (setup_by o clock l reply) state r
 
 -- the effect of a setup that takes a place
 unfoldable pub start_at : Covered → Lent → Start → List ℕ → List ℕ → Outcome

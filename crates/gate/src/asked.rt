@@ -8,4 +8,6 @@ pub struct Asked<'a> {
     pub value: &'a [u8],
     pub brought: Brought<'a>,
     pub ghost value_fits: { length value.now ≤ 4096 },
+    pub ghost some_method: { 1 ≤ length brought.method.now },
+    pub ghost some_path: { 1 ≤ length brought.path.now },
 }

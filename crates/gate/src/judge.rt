@@ -2,6 +2,7 @@
 ghost use Rattle.std.specs.Prelude.{◌≡◌, true, ◌≤◌, List, ℕ, length};
 ghost use Rattle.table.specs.Table.{places, Within};
 ghost use Rattle.index.specs.Index.{Indexed};
+ghost use Rattle.orders.specs.Orders.{orders};
 ghost use Rattle.stages.specs.Parts.{invalidates};
 ghost use Rattle.stages.specs.InnerRefusals.{number_of, number_in};
 ghost use Rattle.stages.specs.InnerStages.{tells};
@@ -15,7 +16,7 @@ use armor::Fields;
 use index::{change, lookup};
 use lines::noting::Notes;
 use names::KnownNames;
-use orders::Ordered;
+use orders::{Numbers, Ordered};
 use stages::admitting::Session;
 use stages::refusal::Refusal;
 use stages::settling::Decision;
@@ -23,10 +24,10 @@ use stages::{reading, settling, vouching};
 use table::session;
 use window::time::Time;
 
-// Kept: known, orders, clock and key come from four places, and decide and judged alone take them together.
+// Kept: orders, clock and key come from three places, and decide, its twin in one.rt and judged alone take them together.
 pub fn decide(
-    known: &KnownNames,
-    ordered: &Ordered,
+    numbers: Numbers,
+    extra: &[u8],
     clock: Time,
     server_key: &[u8; 32],
     asked: &Asked,
@@ -34,10 +35,14 @@ pub fn decide(
     index: &[u8],
 ) -> Result<Decision, Refusal>
     requires { state_fits (holding table.now index.now) ≡ true }
-    ensures { DecidesRequest ordered.now clock.0 server_key.now asked.now (holding table.now index.now) result }
+    ensures { DecidesRequest (orders numbers extra.now) clock.0 server_key.now asked.now (holding table.now index.now) result }
 {
+    let known = names::known();
+    let Some(ordered) = orders::check(&known, numbers, extra) else {
+        return Err(Refusal::BadOrders);
+    };
     entry::state(table, index)?;
-    judged(known, ordered, clock, server_key, asked, |iv| {
+    judged(&known, &ordered, clock, server_key, asked, |iv| {
         found(table, index, iv)
     })
 }

@@ -15,6 +15,7 @@ ghost use Rattle.gate.specs.End.{ended};
 ghost use Rattle.gate.specs.Remake.{remade};
 ghost use Rattle.gate.specs.Trial.{trial_of, tried};
 
+use names::Covered;
 use orders::Numbers;
 use stages::refusal::Refusal;
 use table::session::Record;
@@ -64,7 +65,6 @@ pub fn gate_setup(
     ) else {
         return Refusal::WrongSize.number();
     };
-    let known = names::known();
     let numbers = Numbers {
         mask,
         hashes,
@@ -72,11 +72,11 @@ pub fn gate_setup(
         idle,
         session_life,
     };
-    let Some(ordered) = orders::check(&known, numbers, extra) else {
-        return Refusal::BadOrders.number();
-    };
-    match setup::decide(&ordered, Time(clock), &lent, table, index) {
-        Ok(start) => setup::apply(&ordered.covered, &lent, &start, table, index, reply),
+    match setup::decide(numbers, extra, Time(clock), &lent, table, index) {
+        Ok(start) => {
+            let covered = Covered { mask, extra };
+            setup::apply(&covered, &lent, &start, table, index, reply)
+        }
         Err(refusal) => refusal.number(),
     }
 }
@@ -109,7 +109,6 @@ pub fn gate_judge<'a>(
         Some(lent) if sizes::state_fits(table, index) => lent,
         _ => return Refusal::WrongSize.number(),
     };
-    let known = names::known();
     let numbers = Numbers {
         mask,
         hashes,
@@ -117,12 +116,9 @@ pub fn gate_judge<'a>(
         idle,
         session_life,
     };
-    let Some(ordered) = orders::check(&known, numbers, extra) else {
-        return Refusal::BadOrders.number();
-    };
     match judge::decide(
-        &known,
-        &ordered,
+        numbers,
+        extra,
         Time(clock),
         server_key,
         &asked,

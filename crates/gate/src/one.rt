@@ -1,12 +1,11 @@
 // Judging a request over one session's record, as a table of that one record would.
-ghost use Rattle.std.specs.Prelude.{◌≡◌, true};
+ghost use Rattle.std.specs.Prelude.{◌≡◌, ◌≤◌, length};
 ghost use Rattle.orders.specs.Orders.{orders, orders_of};
 ghost use Rattle.table.specs.Record.{record_bytes};
 ghost use Rattle.stages.specs.Checks.{first};
 ghost use Rattle.stages.specs.Request.{request_of};
 ghost use Rattle.stages.specs.InnerRefusals.{number_in};
 ghost use Rattle.gate.specs.State.{indexed, outcome};
-ghost use Rattle.gate.specs.Sizes.{lent_fits};
 ghost use Rattle.gate.specs.InnerSizes.{request_by};
 ghost use Rattle.gate.specs.Judge.{judged};
 ghost use Rattle.gate.specs.Entry.{state_checks};
@@ -14,8 +13,7 @@ ghost use Rattle.gate.specs.InnerDecisions.{StandsIn, DecidesRequest, left_by, K
 
 use super::asked::Asked;
 use super::{judge, sizes};
-use names::KnownNames;
-use orders::{Numbers, Ordered};
+use orders::Numbers;
 use stages::admitting::Session;
 use stages::refusal::Refusal;
 use stages::settling::Decision;
@@ -89,31 +87,31 @@ fn sized(
     record: Record,
     reply: &mut [u8],
 ) -> (u32, Record)
-    requires { lent_fits (request_by (orders numbers extra.now) clock.0 server_key.now asked.now reply.old) ≡ true }
+    requires { 1024 ≤ length reply.old }
     ensures { outcome result.0 reply.new (indexed (record_bytes result.1)) ≡ judged (request_by (orders numbers extra.now) clock.0 server_key.now asked.now reply.old) (indexed (record_bytes «record»)) }
 {
-    let known = names::known();
-    let Some(ordered) = orders::check(&known, numbers, extra) else {
-        return (Refusal::BadOrders.number(), record);
-    };
-    match decide(&known, &ordered, clock, server_key, asked, record) {
+    match decide(numbers, extra, clock, server_key, asked, record) {
         Ok(decision) => (judge::answer(&decision, reply), after(&decision, record)),
         Err(refusal) => (refusal.number(), record),
     }
 }
 
 fn decide(
-    known: &KnownNames,
-    ordered: &Ordered,
+    numbers: Numbers,
+    extra: &[u8],
     clock: Time,
     server_key: &[u8; 32],
     asked: &Asked,
     record: Record,
 ) -> Result<Decision, Refusal>
-    ensures { DecidesRequest ordered.now clock.0 server_key.now asked.now (indexed (record_bytes «record»)) result }
+    ensures { DecidesRequest (orders numbers extra.now) clock.0 server_key.now asked.now (indexed (record_bytes «record»)) result }
 {
+    let known = names::known();
+    let Some(ordered) = orders::check(&known, numbers, extra) else {
+        return Err(Refusal::BadOrders);
+    };
     sound(record)?;
-    judge::judged(known, ordered, clock, server_key, asked, |iv| {
+    judge::judged(&known, &ordered, clock, server_key, asked, |iv| {
         found(record, iv)
     })
 }

@@ -3,6 +3,7 @@ ghost use Rattle.std.specs.Prelude.{◌≡◌, true, ◌+◌, ◌<◌, ◌≤◌
 ghost use Rattle.table.specs.Session.{place_of};
 ghost use Rattle.table.specs.Table.{places};
 ghost use Rattle.index.specs.Index.{Indexed};
+ghost use Rattle.orders.specs.Orders.{orders};
 ghost use Rattle.gate.specs.State.{holding, outcome};
 ghost use Rattle.gate.specs.Sizes.{state_fits};
 ghost use Rattle.gate.specs.InnerStarts.{DecidesStart, UntilIs, OfferIs, RoomIs, start_at};
@@ -14,7 +15,7 @@ use cells::Run;
 use hashes::Hash;
 use index::{change, lookup};
 use names::Covered;
-use orders::Ordered;
+use orders::Numbers;
 use stages::refusal::Refusal;
 use table::{place, session};
 use window::time::Time;
@@ -28,15 +29,19 @@ pub struct Start {
 }
 
 pub fn decide(
-    ordered: &Ordered,
+    numbers: Numbers,
+    extra: &[u8],
     clock: Time,
     lent: &Lent,
     table: &[u8],
     index: &[u8],
 ) -> Result<Start, Refusal>
     requires { state_fits (holding table.now index.now) ≡ true }
-    ensures { DecidesStart ordered.now clock.0 lent.now (holding table.now index.now) result }
+    ensures { DecidesStart (orders numbers extra.now) clock.0 lent.now (holding table.now index.now) result }
 {
+    let Some(ordered) = orders::check(&names::known(), numbers, extra) else {
+        return Err(Refusal::BadOrders);
+    };
     entry::state(table, index)?;
     let offer = offered(
         lent.value,

@@ -2,7 +2,7 @@
 ghost use Rattle.std.specs.Prelude.{◌≡◌};
 ghost use Rattle.gate.specs.State.{holding};
 ghost use Rattle.gate.specs.Sizes.{long_from, table_fits, state_fits};
-ghost use Rattle.gate.specs.InnerSizes.{SetupFits, RequestFits, AskedFits, TrialFits};
+ghost use Rattle.gate.specs.InnerSizes.{SetupFits, RequestFits, AskedFits, TrialFits, EndFits};
 
 use super::asked::Asked;
 use super::lent::Lent;
@@ -149,4 +149,13 @@ fn asked<'a>(
         });
     }
     None
+}
+
+// What ends a session: its IV.
+#[tactic(auto, unfolding(crate::specs::Sizes::end_fits))]
+pub fn ending<'a>(iv: &'a [u8], table: &[u8], index: &[u8]) -> Option<&'a [u8; 12]>
+    ensures { EndFits iv.now table.now index.now result }
+{
+    let iv = iv.try_into().ok()?;
+    state_fits(table, index).then_some(iv)
 }

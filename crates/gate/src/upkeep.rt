@@ -14,12 +14,9 @@ use table::rule;
 pub fn end(iv: &[u8], table: &mut [u8], index: &mut [u8]) -> Result<(), Refusal>
     ensures { outcome (number_in result) [] (holding table.new index.new) ≡ ended iv.now (holding table.old index.old) }
 {
-    let Ok(iv) = <&[u8; 12]>::try_from(iv) else {
+    let Some(iv) = sizes::ending(iv, table, index) else {
         return Err(Refusal::WrongSize);
     };
-    if !sizes::state_fits(table, index) {
-        return Err(Refusal::WrongSize);
-    }
     entry::state(table, index)?;
     let place = lookup::find(table, index, iv);
     if place.is_none() {

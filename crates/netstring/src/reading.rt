@@ -13,7 +13,12 @@ fn length(run: &[u8]) -> Option<(usize, &[u8])>
     for (i, b) in run.iter().enumerate() {
         match *b {
             b':' if 0 < i => return Some((value, &run[i + 1..])),
-            b'0'..=b'9' => value = value.checked_mul(10)?.checked_add(usize::from(*b - b'0'))?,
+            b'0'..=b'9' => {
+                if run.len() / 10 < value {
+                    return None;
+                }
+                value = value * 10 + usize::from(*b - b'0');
+            }
             _ => return None,
         }
     }

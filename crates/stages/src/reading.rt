@@ -50,19 +50,22 @@ fn compare(
     ensures told { CoversIs ordered.now value.now method.now blocks.now.head.now blocks.now.aside.now result }
     ensures noted { OnOk result (CoveredNotes ordered.now.covered blocks.now.head.now blocks.now.aside.now notes.new) }
 {
-    if !is_token(method) {
-        return Err(Refusal::BadLines);
-    }
-    noting::note(known, &ordered.covered, blocks, notes)?;
-    if !coverage::as_ordered(
+    let noted = noting::note(known, &ordered.covered, blocks, notes);
+    let same = coverage::as_ordered(
         value,
         request,
         fields.c.as_slice(),
         ordered.hashes,
         ordered.covered.mask,
         ordered.covered.extra,
-    ) {
-        return Err(Refusal::NotAsOrdered);
+    );
+    if !is_token(method) {
+        Err(Refusal::BadLines)
+    } else if let Err(unnoted) = noted {
+        Err(Refusal::from(unnoted))
+    } else if !same {
+        Err(Refusal::NotAsOrdered)
+    } else {
+        Ok(())
     }
-    Ok(())
 }

@@ -1,13 +1,12 @@
 -- Answers for `gate_judge`.
 -- Assumes nothing.
-use Rattle.std.proofs.Common.{◌≡◌, true, sym, ap, ◌∙◌}
+use Rattle.std.proofs.Common.{sym, ap, ◌∙◌}
 use Rattle.std.specs.Prelude.{Ok, Err}
 use Rattle.orders.specs.Orders.{orders_of}
 use Rattle.stages.specs.Request.{Request, request_of}
 use Rattle.gate.specs.State.{State, holding}
-use Rattle.gate.specs.Sizes.{request_fits}
 use Rattle.gate.specs.InnerDecisions.{DecidesAs, answered_by}
-use Rattle.gate.proofs.Judging.{request_sized, lent_unsized, state_unsized, sizes_judged, orders_judged, refused_judged, decided_for, applied_judged}
+use Rattle.gate.proofs.Judging.{request_sized, lent_unsized, state_unsized, reply_room, sizes_judged, refused_judged, decided_for, applied_judged}
 use Rattle.gate.proofs.gate_judge.Goals as goal
 use Rattle.gate.proofs.gate_judge.Goals.{In-Ok, in_default-via-in-Some+else-state_fits, in_default-via-in_default}
 
@@ -19,13 +18,6 @@ returns-in_default c =
       | in_default-via-in-Some+else-state_fits w ↦ state_unsized _ _ (sym w.state_fits.ensures ∙ w.if-state_fits.false)
       | in_default-via-in_default w ↦ lent_unsized _ _ (w.in_default.ensures o a.clock)
     ]))
-
-pub returns-in_default-check : goal.returns-in_default-check
-returns-in_default-check c =
-    let a = c.args in
-    let o = orders_of a.mask a.hashes a.extra.now a.request_life a.idle a.session_life in
-    let fits = request_sized _ _ (c.in-Some.ensures o a.clock).0 (sym c.state_fits.ensures ∙ c.if-state_fits.true) in
-    rw c.number-in_default-check.ensures (orders_judged _ _ fits c.in_default-check.ensures)
 
 pub decide-requires : goal.decide-requires
 decide-requires c = sym c.state_fits.ensures ∙ c.if-state_fits.true
@@ -45,8 +37,9 @@ decided c =
     let a = c.args in
     let o = orders_of a.mask a.hashes a.extra.now a.request_life a.idle a.session_life in
     let told = c.in-Some.ensures o a.clock in
-    decided_for o a.clock _ _ _ _ _ _ _ a.reply.now c.in-Some.lent.0.now c.in-Some.lent.1 told.1 told.2 c.in-Some-check.ordered (kept c) (Ok c.in-Ok.decision)
-    c.in-Ok.ensures c.in-Some-check.ensures.0 c.in-Some-check.ensures.1 (request_sized _ _ told.0 (sym c.state_fits.ensures ∙ c.if-state_fits.true))
+    let fits = request_sized _ (kept c) told.0 (sym c.state_fits.ensures ∙ c.if-state_fits.true) in
+    decided_for o a.clock _ _ _ _ _ _ _ a.reply.now c.in-Some.lent.0.now c.in-Some.lent.1 told.1 told.2 (kept c) (Ok c.in-Ok.decision) c.in-Ok.ensures
+    (reply_room _ _ fits)
 
 pub apply-requires : goal.apply-requires
 unfolding asked kept
@@ -67,6 +60,7 @@ returns-in-Err c =
     let a = c.args in
     let o = orders_of a.mask a.hashes a.extra.now a.request_life a.idle a.session_life in
     let told = c.in-Some.ensures o a.clock in
+    let fits = request_sized _ _ told.0 (sym c.state_fits.ensures ∙ c.if-state_fits.true) in
     rw c.number-in-Err.ensures (refused_judged _ _ c.in-Err.refusal
-    (decided_for o a.clock _ _ _ _ _ _ _ a.reply.now c.in-Some.lent.0.now c.in-Some.lent.1 told.1 told.2 c.in-Some-check.ordered _ (Err c.in-Err.refusal)
-    c.in-Err.ensures c.in-Some-check.ensures.0 c.in-Some-check.ensures.1 (request_sized _ _ told.0 (sym c.state_fits.ensures ∙ c.if-state_fits.true))))
+    (decided_for o a.clock _ _ _ _ _ _ _ a.reply.now c.in-Some.lent.0.now c.in-Some.lent.1 told.1 told.2 _ (Err c.in-Err.refusal) c.in-Err.ensures
+    (reply_room _ _ fits)))

@@ -1,12 +1,13 @@
 -- Answers for `gate_setup`.
 -- Assumes nothing.
-use Rattle.std.proofs.Common.{sym, ap, ◌∙◌}
+use Rattle.std.proofs.Common.{refl, ◌∙◌}
 use Rattle.std.specs.Prelude.{Ok, Err}
 use Rattle.orders.specs.Orders.{orders_of}
+use Rattle.orders.proofs.Orders.{good_extra_lem}
 use Rattle.gate.specs.State.{State, holding}
 use Rattle.gate.specs.Calls.{Setup, setup_of}
 use Rattle.gate.specs.InnerStarts.{Starts}
-use Rattle.gate.proofs.Starting.{lent, starts, refuses, sizes_set_up, orders_set_up, started_for, start_indexed}
+use Rattle.gate.proofs.Starting.{lent, opened, starts, refuses, sizes_set_up, started_for, start_indexed}
 use Rattle.gate.proofs.gate_setup.Goals as goal
 use Rattle.gate.proofs.gate_setup.Goals.{In-Ok}
 
@@ -15,12 +16,6 @@ returns-in_default c =
     let a = c.args in
     let o = orders_of a.mask a.hashes a.extra.now a.request_life a.idle a.session_life in
     rw c.number.ensures (sizes_set_up _ _ (c.in_default.ensures o a.clock))
-
-pub returns-in_default-check : goal.returns-in_default-check
-returns-in_default-check c =
-    let a = c.args in
-    let o = orders_of a.mask a.hashes a.extra.now a.request_life a.idle a.session_life in
-    rw c.number-in_default-check.ensures (orders_set_up _ _ (c.in-Some.ensures o a.clock).0 c.in_default-check.ensures)
 
 pub decide-requires : goal.decide-requires
 decide-requires c =
@@ -43,7 +38,11 @@ decided c =
     let a = c.args in
     let o = orders_of a.mask a.hashes a.extra.now a.request_life a.idle a.session_life in
     let told = c.in-Some.ensures o a.clock in
-    started_for (asked c) c.in-Some.lent told.1 c.in-Some-check.ordered (kept c) (Ok c.in-Ok.start) c.in-Ok.ensures c.in-Some-check.ensures.0 c.in-Some-check.ensures.1 told.0
+    started_for (asked c) c.in-Some.lent told.1 (kept c) (Ok c.in-Ok.start) c.in-Ok.ensures (lent _ _ told.0).reply
+
+pub invariant_of-covered : goal.invariant_of-covered
+unfolding asked kept
+invariant_of-covered c = record { good = good_extra_lem _ (opened _ _ (decided (goal.at.invariant_of-covered c).In-Ok).none).orders }
 
 pub apply-requires : goal.apply-requires
 unfolding asked kept
@@ -60,7 +59,7 @@ returns-in-Ok c =
     let a = c.args in
     let o = orders_of a.mask a.hashes a.extra.now a.request_life a.idle a.session_life in
     let told = c.in-Some.ensures o a.clock in
-    c.apply.ensures ∙ starts _ _ c.in-Some-check.ordered.covered c.in-Some.lent c.in-Ok.start c.in-Some-check.ensures.1.covered told.1 (decided (goal.at.returns-in-Ok c).In-Ok)
+    c.apply.ensures ∙ starts _ _ _ c.in-Some.lent c.in-Ok.start (record { mask = refl; extra = refl }) told.1 (decided (goal.at.returns-in-Ok c).In-Ok)
 
 pub returns-in-Err : goal.returns-in-Err
 returns-in-Err c =
@@ -68,4 +67,4 @@ returns-in-Err c =
     let o = orders_of a.mask a.hashes a.extra.now a.request_life a.idle a.session_life in
     let told = c.in-Some.ensures o a.clock in
     rw c.number-in-Err.ensures (refuses _ _ c.in-Err.refusal
-    (started_for _ c.in-Some.lent told.1 c.in-Some-check.ordered _ (Err c.in-Err.refusal) c.in-Err.ensures c.in-Some-check.ensures.0 c.in-Some-check.ensures.1 told.0))
+    (started_for _ c.in-Some.lent told.1 _ (Err c.in-Err.refusal) c.in-Err.ensures (lent _ _ told.0).reply))

@@ -1,12 +1,12 @@
 -- Answers for `one::judge`.
 -- Assumes nothing.
-use Rattle.std.proofs.Common.{◌≡◌, sym, ap, ◌∙◌}
+use Rattle.std.proofs.Common.{rules, ap, ◌∙◌}
 use Rattle.orders.specs.Orders.{orders_of}
 use Rattle.stages.specs.Request.{Request}
-use Rattle.table.specs.Record.{record_bytes}
+use Rattle.table.specs.Record.{Fits, record_bytes}
 use Rattle.gate.specs.State.{indexed}
 use Rattle.gate.specs.Judge.{judged}
-use Rattle.gate.proofs.Judging.{lent_unsized, sizes_judged, the_request, lent_for}
+use Rattle.gate.proofs.Judging.{one_sizes, reply_room, lent_unsized, sizes_judged, the_request}
 use Rattle.gate.proofs.one.judge.Goals as goal
 
 pub returns-in_default : goal.returns-in_default
@@ -19,8 +19,8 @@ pub sized-answer-requires : goal.sized-answer-requires
 sized-answer-requires c =
     let a = c.args in
     let o = orders_of a.mask a.hashes a.extra.now a.request_life a.idle a.session_life in
-    let told = c.in-Some.ensures o a.clock in
-    lent_for o a.clock _ _ _ _ _ _ _ a.reply.now _ c.in-Some.asked told.1 told.2 told.0
+    let fits : Fits a.«record» = search rules in
+    reply_room _ _ (one_sizes a.«record» fits _ ∙ (c.in-Some.ensures o a.clock).0)
 
 pub returns : goal.returns
 returns c =

@@ -1,20 +1,15 @@
 -- Answers for `one::sized`.
 -- Assumes nothing.
-use Rattle.std.proofs.Common.{rules, ◌≡◌, sym, ap, ◌∙◌}
+use Rattle.std.proofs.Common.{rules, ap, ◌∙◌}
 use Rattle.orders.specs.Orders.{orders}
 use Rattle.table.specs.Record.{Fits, record_bytes}
 use Rattle.stages.specs.Request.{Request}
 use Rattle.gate.specs.State.{indexed}
 use Rattle.gate.specs.InnerSizes.{request_by}
 use Rattle.gate.specs.InnerDecisions.{DecidesAs, answered_by}
-use Rattle.gate.proofs.Judging.{one_sizes, one_kept, orders_judged, refused_judged, applied_judged}
+use Rattle.gate.proofs.Judging.{one_kept, refused_judged, applied_judged}
 use Rattle.gate.proofs.one.sized.Goals as goal
 use Rattle.gate.proofs.one.sized.Goals.{In-Ok}
-
-pub returns-in_default : goal.returns-in_default
-returns-in_default c =
-    let fits : Fits c.args.«record» = search rules in
-    rw c.number.ensures (orders_judged _ _ (one_sizes c.args.«record» fits _ ∙ c.requires) c.in_default.ensures)
 
 fits : (c : In-Ok) → Fits c.args.«record»
 fits c = search rules
@@ -23,8 +18,7 @@ abbrev asked : In-Ok → Request
 asked c = let a = c.args in request_by (orders a.numbers a.extra.now) a.clock.0 a.server_key.now a.asked.now a.reply.now
 
 decided : (c : In-Ok) → DecidesAs (asked c) (indexed (record_bytes c.args.«record»)) c.in-Ok.decision
-decided c =
-    c.in-Ok.ensures _ c.args.reply.now c.in-Some.ensures.0 c.in-Some.ensures.1 (one_sizes c.args.«record» (fits c) (asked c) ∙ c.requires)
+decided c = c.in-Ok.ensures c.args.reply.now c.requires
 
 pub answer-requires : goal.answer-requires
 answer-requires c t = (decided (goal.at.answer-requires c).In-Ok).room
@@ -39,7 +33,4 @@ returns-in-Ok c =
     ∙ applied_judged (asked here) _ c.in-Ok.decision (decided here)
 
 pub returns-in-Err : goal.returns-in-Err
-returns-in-Err c =
-    let fits : Fits c.args.«record» = search rules in
-    rw c.number-in-Err.ensures (refused_judged _ _ c.in-Err.refusal
-    (c.in-Err.ensures _ _ c.in-Some.ensures.0 c.in-Some.ensures.1 (one_sizes c.args.«record» fits _ ∙ c.requires)))
+returns-in-Err c = rw c.number.ensures (refused_judged _ _ c.in-Err.refusal (c.in-Err.ensures c.args.reply.now c.requires))

@@ -1,5 +1,5 @@
 -- A run that begins with a 0 has the length 0 or none; another's digits are gathered up to the colon.
-use Rattle.std.proofs.Common.{[], ◌∷◌, ◌≡◌, ◌+◌, ◌-◌, ◌*◌, ◌<◌, ◌^◌, length, get_or, drop, None, Some, arith, rules}
+use Rattle.std.proofs.Common.{[], ◌∷◌, ◌≡◌, ◌-◌, get_or, drop, None, Some, arith}
 use Rattle.std.proofs.lemmas.Bool.Decides.{Decides-eqb}
 use Rattle.std.proofs.lemmas.Slice.Eq.{starts_is, strip_prefix_is}
 use Rattle.netstring.proofs.Scanned.{only_zero, zero_found, no_zero, read_no_digit, read_ended, read_more, read_too_large}
@@ -17,24 +17,6 @@ pub returns-then-starts_with : goal.returns-then-starts_with
 returns-then-starts_with c =
     zero_found (strip_prefix_is Decides-eqb c.args.run.now (48 ∷ 58 ∷ []) (Some c.in_ok-strip_prefix.field-0) c.in_ok-strip_prefix.ensures.cases)
 
-pub returns-in_err-checked_mul-in-48-to-57 : goal.returns-in_err-checked_mul-in-48-to-57
-returns-in_err-checked_mul-in-48-to-57 c =
-    let run = c.args.run.now in
-    let loop = c.loop-i in
-    let zero = no_zero run _ (starts_is Decides-eqb run (48 ∷ []) _ c.starts_with.ensures.value).1 c.if-starts_with.false (omega arith) in
-    let small : length run < 2 ^ 64 = search rules in
-    rw c.from_residual-in_err-checked_mul-in-48-to-57.ensures
-    (read_too_large run loop.i loop.value loop.invariant (omega arith) (omega arith) (omega arith) zero (omega (arith, c.in_err-checked_mul-in-48-to-57.ensures)))
-
-pub returns-in_err-value-in-48-to-57 : goal.returns-in_err-value-in-48-to-57
-returns-in_err-value-in-48-to-57 c =
-    let run = c.args.run.now in
-    let loop = c.loop-i in
-    let zero = no_zero run _ (starts_is Decides-eqb run (48 ∷ []) _ c.starts_with.ensures.value).1 c.if-starts_with.false (omega arith) in
-    let small : length run < 2 ^ 64 = search rules in
-    rw c.from_residual-in_err-value-in-48-to-57.ensures
-    (read_too_large run loop.i loop.value loop.invariant (omega arith) (omega arith) (omega arith) zero (omega (arith, c.in_err-value-in-48-to-57.ensures, c.in_ok-checked_mul-in-48-to-57.ensures)))
-
 pub returns-in_default : goal.returns-in_default
 returns-in_default c =
     let no = read_no_digit c.args.run.now c.loop-i.i c.loop-i.value c.loop-i.invariant in
@@ -44,14 +26,20 @@ returns-in_default c =
       | in_default-via-in_default+else-b-lt48+else-b-lt58 w ↦ no (λ o e. omega arith) (λ l h. omega arith)
     ]
 
+pub returns-then-run-value : goal.returns-then-run-value
+returns-then-run-value c =
+    let run = c.args.run.now in
+    let loop = c.loop-i in
+    let zero = no_zero run _ (starts_is Decides-eqb run (48 ∷ []) _ c.starts_with.ensures.value).1 c.if-starts_with.false (omega arith) in
+    read_too_large run loop.i loop.value loop.invariant (omega arith) (omega arith) (omega arith) zero (omega arith)
+
 pub loop-i-preserved : goal.loop-i-preserved
 loop-i-preserved c =
     let run = c.args.run.now in
     let loop = c.loop-i in
     let zero = no_zero run _ (starts_is Decides-eqb run (48 ∷ []) _ c.starts_with.ensures.value).1 c.if-starts_with.false (omega arith) in
-    let value : c.in_ok-value-in-48-to-57.value ≡ loop.value * 10 + (get_or run loop.i 0 - 48) =
-    omega (arith, c.in_ok-value-in-48-to-57.ensures, c.in_ok-checked_mul-in-48-to-57.ensures) in
-    rw value (read_more run loop.i loop.value loop.invariant (omega arith) (omega arith) (omega arith) zero)
+    let digit : c.from.result ≡ get_or run loop.i 0 - 48 = omega (arith, c.from.ensures) in
+    rw digit (read_more run loop.i loop.value loop.invariant (omega arith) (omega arith) (omega arith) zero)
 
 pub returns : goal.returns
 returns c = read_ended c.args.run.now c.loop-i.i c.loop-i.value c.loop-i.invariant (omega arith)
