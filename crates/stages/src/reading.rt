@@ -34,7 +34,7 @@ pub fn read(
     Ok(request)
 }
 
-// Checks 6 to 8, and the notes.
+// Checks 6 to 8, and the notes: all three are made before one is told (docs/DECISIONS.md, K10).
 // Kept: what read takes, and the request: a struct would be made for this call alone.
 fn compare(
     known: &KnownNames,
