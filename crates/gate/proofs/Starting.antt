@@ -123,10 +123,10 @@ lent s state e =
     }
 
 -- and what a `Lent` holds has them, beside a table and an index that fit
-pub lent_fits : (o : Orders) (clock : ℕ) (l : LentParts) (reply : List ℕ) (state : State)
+pub lent_sized : (o : Orders) (clock : ℕ) (l : LentParts) (reply : List ℕ) (state : State)
     → state_fits state ≡ true → 1024 ≤ length reply → setup_fits (setup_by o clock l reply) state ≡ true
 unfolding setup_fits
-lent_fits o clock l reply state kept room =
+lent_sized o clock l reply state kept room =
     simp (l.server_key_fits, l.session_key_fits, l.iv_fits, le-leb _ _ l.some_id, le-leb _ _ l.id_fits, le-leb _ _ l.value_fits, kept, le-leb _ _ room)
 
 -- a reply that is written, with its length in the answer

@@ -24,7 +24,7 @@ use stages::{reading, settling, vouching};
 use table::session;
 use window::time::Time;
 
-// Kept: orders, clock and key come from three places, and decide, its twin in one.rt and judged alone take them together.
+// Kept: orders, clock and key come from three places, and decide, its twin in one.rt and judged take them together.
 pub fn decide(
     numbers: Numbers,
     extra: &[u8],

@@ -8,7 +8,7 @@ pub struct Lent<'a> {
     pub iv: &'a [u8; 12],
     pub session_id: &'a [u8],
     pub value: &'a [u8],
-    // Said again, since a proof is told no length of an array behind a reference.
+    // Said again, since a proof is told no length of an array behind a reference in a struct.
     pub ghost server_key_fits: { length server_key.now ≡ 32 },
     pub ghost session_key_fits: { length session_key.now ≡ 32 },
     pub ghost iv_fits: { length iv.now ≡ 12 },
